@@ -1,0 +1,152 @@
+ghost use Rattle.std.specs.Prelude.{◌≡◌, ◌↔◌, IsTrue, IfOk};
+ghost use Rattle.arc_model.specs.Ranges.{SlotsFit, EntriesFit, ClassesFit, FieldsFit, GlobalsFit};
+
+use crate::caps::Caps;
+use crate::memory::Memory;
+use std::alloc::Global;
+use std::marker::Model;
+
+/// The list of an object that a reference is counted in.
+#[derive(Clone, Copy, Debug, PartialEq, Eq)]
+pub enum Kind {
+    Strong,
+    Unowned,
+    Weak,
+}
+
+/// What a cell may refer to: the kind of the reference and the place of the object's class among the class lines, from 0.
+#[derive(Clone, Copy, Debug, PartialEq, Eq)]
+pub struct RefShape {
+    pub kind: Kind,
+    pub class: u32,
+}
+
+/// The fields of a class, at most 8, in the order of declaration.
+#[derive(Debug, Drop)]
+pub struct ClassShape {
+    pub fields: Vec<RefShape>,
+}
+
+impl Model for ClassShape {
+    ghost use Rattle.std.specs.Prelude.{List};
+    ghost use Rattle.arc_model.specs.declared.shape.RefShape.{RefShape};
+
+    ghost Value = { List RefShape };
+
+    ghost view = { λ c. c.fields.items };
+}
+
+/// What a heap is made of: how many slots and side table entries, the caps of the counts, the classes and the globals.
+#[derive(Debug, Drop)]
+pub struct Shape {
+    slots: u32,
+    entries: u32,
+    caps: Caps,
+    classes: Vec<ClassShape>,
+    globals: Vec<RefShape>,
+}
+
+impl Model for Shape {
+    ghost use Rattle.arc_model.specs.Shapes.{HeapShape};
+
+    ghost Value = { HeapShape };
+
+    ghost view = { λ s. record { slots = s.slots; entries = s.entries; caps = s.caps; classes = s.classes.items; globals = s.globals.items } };
+
+    ghost use Rattle.arc_model.specs.Ranges.{ShapeFits};
+
+    ghost invariant = { λ s. ShapeFits s.slots s.entries s.classes.items s.globals.items };
+}
+
+/// The first part of a shape that is out of its range.
+#[derive(Clone, Copy, Debug, PartialEq, Eq)]
+pub enum ShapeRefused {
+    Slots,
+    Entries,
+    Classes,
+    Fields,
+    Globals,
+}
+
+fn fields_fit(classes: &[ClassShape]) -> bool
+    ensures { IsTrue result ↔ FieldsFit classes.now }
+{
+    classes.iter().all(|c| c.fields.len() <= 8)
+}
+
+impl Shape {
+    /// The shape, or the first of its parts that is out of range: 1 to 4,096 slots and as many entries, at most 64 classes,
+    /// each with at most 8 fields, and at most 64 globals. The class numbers of fields and globals are not judged.
+    pub fn new(
+        slots: u32,
+        entries: u32,
+        caps: Caps,
+        classes: Vec<ClassShape>,
+        globals: Vec<RefShape>,
+    ) -> Result<Shape, ShapeRefused>
+        ensures slots { (result ≡ Err ShapeRefused.Slots) ↔ ¬ (SlotsFit slots) }
+        ensures entries { (result ≡ Err ShapeRefused.Entries) ↔ (SlotsFit slots × ¬ (EntriesFit entries)) }
+        ensures classes { (result ≡ Err ShapeRefused.Classes) ↔ (SlotsFit slots × EntriesFit entries × ¬ (ClassesFit classes.items)) }
+        ensures fields { (result ≡ Err ShapeRefused.Fields) ↔ (SlotsFit slots × EntriesFit entries × ClassesFit classes.items × ¬ (FieldsFit classes.items)) }
+        ensures globals { (result ≡ Err ShapeRefused.Globals) ↔ (SlotsFit slots × EntriesFit entries × ClassesFit classes.items × FieldsFit classes.items × ¬ (GlobalsFit globals.items)) }
+        ensures ok { IfOk result (λ s. s ≡ record { slots = slots; entries = entries; caps = caps; classes = classes.items; globals = globals.items }) }
+    {
+        if slots < 1 || slots > 4096 {
+            return Err(ShapeRefused::Slots);
+        }
+        if entries < 1 || entries > 4096 {
+            return Err(ShapeRefused::Entries);
+        }
+        if classes.len() > 64 {
+            return Err(ShapeRefused::Classes);
+        }
+        if !fields_fit(&classes) {
+            return Err(ShapeRefused::Fields);
+        }
+        if globals.len() > 64 {
+            return Err(ShapeRefused::Globals);
+        }
+        Ok(Shape {
+            slots,
+            entries,
+            caps,
+            classes,
+            globals,
+        })
+    }
+
+    /// The number of slots, 1 to 4,096.
+    pub fn slots(&self) -> u32
+        ensures { result ≡ self.now.slots }
+    {
+        self.slots
+    }
+
+    /// The number of side table entries, 1 to 4,096.
+    pub fn entries(&self) -> u32
+        ensures { result ≡ self.now.entries }
+    {
+        self.entries
+    }
+
+    /// The greatest counts.
+    pub fn caps(&self) -> Caps
+        ensures { result ≡ self.now.caps }
+    {
+        self.caps
+    }
+
+    /// The classes, in the order of declaration.
+    pub fn classes(&self) -> &[ClassShape]
+        ensures { result.now ≡ self.now.classes }
+    {
+        self.classes.as_slice()
+    }
+
+    /// The globals, in the order of declaration.
+    pub fn globals(&self) -> &[RefShape]
+        ensures { result.now ≡ self.now.globals }
+    {
+        self.globals.as_slice()
+    }
+}
