@@ -27,6 +27,10 @@ impl Model for Caps {
 }
 
 impl Clone for Caps {
+    ghost use Rattle.std.specs.Prelude.{◌≡◌};
+
+    ghost is_clone = { λ old new. new ≡ old };
+
     fn clone(&self) -> Result<Self, AllocError> {
         Ok(*self)
     }

@@ -1,5 +1,5 @@
 ghost use Rattle.std.specs.Prelude.{◌≡◌, ◌↔◌, IsTrue, IfOk};
-ghost use Rattle.arc_model.specs.Ranges.{SlotsFit, EntriesFit, ClassesFit, FieldsFit, GlobalsFit};
+ghost use Rattle.arc_model.specs.Ranges.{SlotsFit, EntriesFit, ClassesFit, FieldsFit, GlobalsFit, ShapeFits};
 
 use crate::caps::Caps;
 use crate::memory::Memory;
@@ -74,6 +74,14 @@ fn fields_fit(classes: &[ClassShape]) -> bool
     classes.iter().all(|c| c.fields.len() <= 8)
 }
 
+fn copied_fields(alloc: Global, class: &ClassShape) -> Result<ClassShape, Memory>
+    ensures equal { IfOk result (λ c. c ≡ class.now) }
+{
+    let mut fields = Vec::new(alloc);
+    fields.extend_from_slice(class.fields.as_slice())?;
+    Ok(ClassShape { fields })
+}
+
 impl Shape {
     /// The shape, or the first of its parts that is out of range: 1 to 4,096 slots and as many entries, at most 64 classes,
     /// each with at most 8 fields, and at most 64 globals. The class numbers of fields and globals are not judged.
@@ -117,14 +125,16 @@ impl Shape {
 
     /// The number of slots, 1 to 4,096.
     pub fn slots(&self) -> u32
-        ensures { result ≡ self.now.slots }
+        ensures value { result ≡ self.now.slots }
+        ensures fits { ShapeFits self.now.slots self.now.entries self.now.classes self.now.globals }
     {
         self.slots
     }
 
     /// The number of side table entries, 1 to 4,096.
     pub fn entries(&self) -> u32
-        ensures { result ≡ self.now.entries }
+        ensures value { result ≡ self.now.entries }
+        ensures fits { ShapeFits self.now.slots self.now.entries self.now.classes self.now.globals }
     {
         self.entries
     }
@@ -138,15 +148,64 @@ impl Shape {
 
     /// The classes, in the order of declaration.
     pub fn classes(&self) -> &[ClassShape]
-        ensures { result.now ≡ self.now.classes }
+        ensures value { result.now ≡ self.now.classes }
+        ensures fits { ShapeFits self.now.slots self.now.entries self.now.classes self.now.globals }
     {
         self.classes.as_slice()
     }
 
     /// The globals, in the order of declaration.
     pub fn globals(&self) -> &[RefShape]
-        ensures { result.now ≡ self.now.globals }
+        ensures value { result.now ≡ self.now.globals }
+        ensures fits { ShapeFits self.now.slots self.now.entries self.now.classes self.now.globals }
     {
         self.globals.as_slice()
+    }
+    /// An equal shape. `Memory` where none was found.
+    pub fn copy(&self, alloc: Global) -> Result<Shape, Memory>
+        ensures equal { IfOk result (λ s. s ≡ self.now) }
+    {
+        let mut classes = Vec::new(alloc);
+        for class in self.classes.iter() {
+            classes.push(copied_fields(alloc, class)?)?;
+        }
+        let mut globals = Vec::new(alloc);
+        globals.extend_from_slice(self.globals.as_slice())?;
+        Ok(Shape {
+            slots: self.slots,
+            entries: self.entries,
+            caps: self.caps,
+            classes,
+            globals,
+        })
+    }
+}
+
+#[cfg(test)]
+mod tests {
+    use super::*;
+
+    /// With ample memory a shape is made and copied.
+    #[test]
+    fn a_copy_is_found(rt: HostRuntime) -> Result<(), Memory> {
+        let weak = RefShape {
+            kind: Kind::Weak,
+            class: 0,
+        };
+        let mut fields = Vec::new(rt.alloc());
+        fields.push(weak)?;
+        let mut classes = Vec::new(rt.alloc());
+        classes.push(ClassShape { fields })?;
+        let mut globals = Vec::new(rt.alloc());
+        globals.push(weak)?;
+        let caps = Caps::new(1, 2, 3).map_err(|_| Memory)?;
+        let shape = Shape::new(4, 5, caps, classes, globals).map_err(|_| Memory)?;
+        let copy = shape.copy(rt.alloc())?;
+        assert_eq!(rt; copy.slots(), 4);
+        assert_eq!(rt; copy.entries(), 5);
+        assert_eq!(rt; copy.caps().wide(), 3);
+        assert_eq!(rt; copy.classes().len(), 1);
+        assert_eq!(rt; copy.globals().len(), 1);
+        Ok(())
     }
 }

@@ -1,0 +1,102 @@
+-- What the report and the history text ask of lines, events and words, from what a replay says of them.
+use Rattle.std.proofs.Common.{◌≡◌, ℕ, true, List, length, ap, subst, ◌∙◌, arith, rules, tests}
+use Rattle.std.specs.Prelude.{All, ◌==◌}
+use Rattle.std.specs.List.{AllByRecursion}
+use Rattle.std.proofs.lemmas.List.{length-map}
+use Rattle.std.proofs.lemmas.List.Elements.{recursion_from_All}
+use Rattle.arc_model.specs.declared.event.Origin.TheVariants.{Hand, Cell}
+use Rattle.arc_model.specs.declared.event.Act.{Act}
+use Rattle.arc_model.specs.declared.event.Act.TheVariants as acts
+use Rattle.arc_bits.specs.Words.{unpacked}
+use Rattle.arc_rule.specs.Extents.{Extent}
+use Rattle.arc_rule.specs.declared.layout.Place.TheVariants as place
+use Rattle.arc_model.specs.declared.answer.Answer.{Answer}
+use Rattle.arc_model.specs.declared.answer.Answer.TheVariants as answers
+use Rattle.arc_script.specs.declared.answer.Line.{Line}
+use Rattle.arc_script.specs.declared.script.Script.{Script}
+use Rattle.arc_script.specs.Valid.{IsScript}
+use Rattle.arc_ops.specs.declared.told.Stamped.{Stamped}
+use Rattle.arc_plain.specs.declared.replay.Replay.{Replay}
+use Rattle.arc_plain.specs.Named.{AnswerFits, LineFits, ActFits}
+use Rattle.arc_plain.specs.Replays.{AreEmpty, IsReplay}
+use Rattle.arc_report.specs.Lines.{AnswerHasClass, LinesHaveClasses, ThreadsHaveClasses}
+use Rattle.arc_report.specs.Events.{ActIsNamed, EventIsNamed}
+use Rattle.arc_report.specs.Words.{word_at, is_taken, AreFinalWords, EntryIsThere, ObjectsHaveClasses}
+
+answer_named : (n : ℕ) (a : Answer) → AnswerFits n a → AnswerHasClass n a
+answer_named n (answers.New name) h = h
+answer_named n answers.Full h = h
+answer_named n (answers.Got name) h = h
+answer_named n answers.Ok h = h
+answer_named n answers.Nil h = h
+answer_named n answers.Dead h = h
+answer_named n answers.NoEntry h = h
+answer_named n answers.CountFull h = h
+answer_named n (answers.Deinit name) h = h
+
+pub lines_named : (n : ℕ) (lines : List Line) → All (LineFits n) lines → LinesHaveClasses n lines
+lines_named n lines all = recursion_from_All (λ (l : Line). AnswerHasClass n l.answer) lines (λ k d h. answer_named n _ (all k d h))
+
+act_named : (classes globals : ℕ) (act : Act) → ActFits classes act → ActIsNamed classes globals act
+act_named n g (acts.New hand class slot) h = h
+act_named n g acts.Full h = h
+act_named n g (acts.Copy (Hand of) hand) h = h
+act_named n g (acts.Copy (Cell cell) hand) h = absurd h
+act_named n g (acts.UnownedOf of hand) h = absurd h
+act_named n g (acts.WeakOf of hand) h = absurd h
+act_named n g (acts.Load of got) h = absurd h
+act_named n g (acts.Drop hand last) h = h
+act_named n g (acts.CountFull list from) h = absurd h
+act_named n g (acts.Claim entry) h = absurd h
+act_named n g acts.NoEntry h = absurd h
+act_named n g (acts.Side slot entry why) h = absurd h
+act_named n g (acts.Back entry) h = absurd h
+act_named n g (acts.Swap cell put took) h = absurd h
+act_named n g (acts.Look cell) h = absurd h
+act_named n g (acts.Take slot field hand) h = absurd h
+act_named n g (acts.Finish slot last) h = h
+act_named n g (acts.Vacate slot) h = h
+act_named n g (acts.Gone entry last) h = absurd h
+
+pub events_named : (classes globals : ℕ) (events : List Stamped) → All (λ (s : Stamped). ActFits classes s.event.act) events → AllByRecursion (EventIsNamed classes globals) events
+events_named n g events all = recursion_from_All (EventIsNamed n g) events (λ k d h. act_named n g _ (all k d h))
+
+-- ---- words of a heap in which no object and no entry is left
+
+free_is_there : (l : Extent) (w : ℕ) → w ≡ 0 → EntryIsThere l (unpacked w)
+unfolding unpacked
+free_is_there l w e = rw e tt
+
+none_taken : (l : Extent) (words : List ℕ) (s : ℕ) → word_at l words (place.Count s) ≡ 0 → is_taken l words s ≡ true → ⊥
+none_taken l words s e t = absurd (let z : (word_at l words (place.Count s) == 0) ≡ true = search (rules, tests) in cc)
+
+pub final_words : (l : Extent) (words : List ℕ) → AreEmpty l words → AreFinalWords l words
+final_words l words left = record {
+  whole = left.whole;
+  names = λ s h t. absurd (none_taken l words s (left.counts s h) t);
+  entries = λ s h. free_is_there l _ (left.counts s h);
+  links = λ e h. rw (left.links e h) (omega arith);
+}
+
+pub no_classes : (n : ℕ) (l : Extent) (words : List ℕ) → AreEmpty l words → ObjectsHaveClasses n l words
+no_classes n l words left = λ s h t. absurd (none_taken l words s (left.counts s h) t)
+
+-- ---- of a replay
+
+-- a script has as many classes as its shape
+classes_count : (script : Script) → IsScript script → length script.shape.classes ≡ length script.classes
+classes_count script valid = ap length valid.heading.of_classes ∙ simp length-map
+
+pub threads_told : (script : Script) (r : Replay) → IsScript script → IsReplay script r → ThreadsHaveClasses (length script.classes) r.threads.items
+threads_told script r valid told =
+    let lines = subst (λ n. LinesHaveClasses n told.first.kept.lines) (classes_count script valid) (lines_named _ _ told.lines_fit) in
+    rw told.threads (lines, tt)
+
+pub end_told : (script : Script) (r : Replay) → IsScript script → IsReplay script r → LinesHaveClasses (length script.classes) r.end.items
+end_told script r valid told =
+    let lines = subst (λ n. LinesHaveClasses n told.last.kept.lines) (classes_count script valid) (lines_named _ _ told.end_fits) in
+    rw told.end lines
+
+pub events_told : (script : Script) (r : Replay) → IsScript script → IsReplay script r → AllByRecursion (EventIsNamed (length script.classes) (length script.globals)) r.events.items
+events_told script r valid told =
+    subst (λ n. AllByRecursion (EventIsNamed n (length script.globals)) r.events.items) (classes_count script valid) (events_named _ _ _ told.events_fit)

@@ -1,0 +1,81 @@
+ghost use Rattle.std.specs.Prelude.{◌≡◌, IfSome};
+ghost use Rattle.arc.specs.Commands.{command_of, script_asked, CountFits};
+
+use crate::number::long_number;
+use arc_text::number_in;
+use std::marker::Model;
+
+/// A word of the command line. Seen as its bytes.
+#[derive(Debug, Drop)]
+pub struct Arg {
+    bytes: Vec<u8>,
+}
+
+impl Model for Arg {
+    ghost use Rattle.std.specs.Prelude.{ℕ, List};
+
+    ghost Value = { List ℕ };
+
+    ghost view = { λ a. a.bytes.items };
+}
+
+impl Arg {
+    pub fn new(bytes: Vec<u8>) -> Arg
+        ensures { result ≡ bytes.items }
+    {
+        Arg { bytes }
+    }
+
+    /// The word's bytes.
+    pub fn bytes(&self) -> &[u8]
+        ensures { result.now ≡ self.now }
+    {
+        &self.bytes
+    }
+}
+
+/// What the words of the command line ask for.
+#[derive(Clone, Copy, Debug, PartialEq, Eq)]
+pub enum Command {
+    /// Reads a script and writes the report and the history of its replay.
+    Replay,
+    /// Writes the generated script of `count` operations, 1 to 100,000, that these numbers give.
+    Script { count: u32, start: u64 },
+}
+
+fn script_asked(count: &[u8], start: &[u8]) -> Option<Command>
+    ensures command { result ≡ script_asked count.now start.now }
+    ensures fits { IfSome result CountFits }
+{
+    match number_in(count, 1, 100_000) {
+        Some(count) => match long_number(start) {
+            Some(start) => Some(Command::Script { count, start }),
+            None => None,
+        },
+        None => None,
+    }
+}
+
+/// The command of these words, or None exactly where they are no row of the table of words.
+pub fn command_of(words: &[Arg]) -> Option<Command>
+    ensures command { result ≡ command_of words.now }
+    ensures fits { IfSome result CountFits }
+{
+    match words {
+        [name] => {
+            if name.bytes() == b"replay".as_slice() {
+                Some(Command::Replay)
+            } else {
+                None
+            }
+        }
+        [name, count, start] => {
+            if name.bytes() == b"script".as_slice() {
+                script_asked(count.bytes(), start.bytes())
+            } else {
+                None
+            }
+        }
+        _ => None,
+    }
+}

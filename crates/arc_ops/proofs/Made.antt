@@ -1,0 +1,106 @@
+-- A script that is served gives each of its threads a stepper.
+use Rattle.std.proofs.Common.{◌≡◌, ℕ, zero, suc, ◌-◌, ◌≤◌, Bool, true, false, cond, eqb, List, [], ◌∷◌, length, None, refl, ap, ◌∙◌, arith}
+use Rattle.std.proofs.lemmas.List.{length-map, length-replicate}
+use Rattle.std.specs.Prelude.{slice_get, All, sum_by}
+use Rattle.std.proofs.lemmas.List.Sums.{sum_by-cons}
+use Rattle.std.specs.List.{AllByRecursion}
+use Rattle.std.proofs.lemmas.List.Elements.{All-from_recursion, recursion_from_All, All-replicate}
+use Rattle.arc_script.specs.declared.script.ClassDecl.{ClassDecl}
+use Rattle.arc_script.specs.declared.script.VarDecl.{VarDecl}
+use Rattle.arc_script.specs.declared.script.ThreadDecl.{ThreadDecl}
+use Rattle.arc_script.specs.declared.script.Script.{Script}
+use Rattle.arc_script.specs.declared.script.Op.{Op}
+use Rattle.arc_script.specs.declared.script.Op.TheVariants as op
+use Rattle.arc_script.specs.Valid.{IsScript, IsThread, IsOp, op_count, field_refs}
+use Rattle.arc_ops.specs.Served.{IsServed, IsServedThread, IsServedOp}
+use Rattle.arc_ops.specs.Programs.{ops_in, first_phase, program_of, count_of_vars, vars_of, VarsFit, ClassFits}
+use Rattle.arc_ops.specs.Thread.{HeldFits, IsStepper, stepper_of}
+
+phase_few : (phases : List (List Op)) → length (ops_in (slice_get phases 0)) ≤ sum_by (λ (ops : List Op). length ops) phases
+phase_few [] = omega arith
+phase_few (ops ∷ rest) =
+    let a : length (ops_in (slice_get (ops ∷ rest) 0)) ≡ length ops = refl in
+    let b = sum_by-cons (λ (o : List Op). length o) ops rest in
+    omega arith
+
+first_few : (ts : List ThreadDecl) (i : ℕ) → length (first_phase (slice_get ts i)) ≤ op_count ts
+first_few [] i = omega arith
+first_few (t ∷ ts) zero =
+    let h = phase_few t.phases in
+    let b = sum_by-cons (λ (u : ThreadDecl). sum_by (λ (o : List Op). length o) u.phases) t ts in
+    omega arith
+first_few (t ∷ ts) (suc i) =
+    let h = first_few ts i in
+    let b = sum_by-cons (λ (u : ThreadDecl). sum_by (λ (o : List Op). length o) u.phases) t ts in
+    omega arith
+
+pub program_few : (s : Script) (thread : ℕ) → IsScript s → length (program_of s thread) ≤ 100000
+program_few s thread valid = go (eqb thread 0)
+  where
+    go : (b : Bool) → length (first_phase (cond b None (slice_get s.threads (thread - 1)))) ≤ 100000
+    go true = omega arith
+    go false = let h = first_few s.threads (thread - 1) in let k = valid.few_ops in omega arith
+
+op_fits : (classes : List ClassDecl) (globals vars : List VarDecl) → length classes ≤ 64 → (o : Op) → IsOp classes globals vars o → IsServedOp o → VarsFit (length vars) o × ClassFits (length classes) o
+op_fits classes globals vars few (op.New to class) h s = let k = h.1 in (h.0, (h.1, omega arith))
+op_fits classes globals vars few (op.Copy to from) h s = ((h.0.to_there, h.0.of_there), tt)
+op_fits classes globals vars few (op.Drop v) h s = (h, tt)
+op_fits classes globals vars few (op.Move to from) h s = absurd s
+op_fits classes globals vars few (op.Unown to of) h s = absurd s
+op_fits classes globals vars few (op.Weak to of) h s = absurd s
+op_fits classes globals vars few (op.Load to of) h s = absurd s
+op_fits classes globals vars few (op.Get to cell) h s = absurd s
+op_fits classes globals vars few (op.Set cell from) h s = absurd s
+
+-- operations that fit
+abbrev OpsFit : ℕ → ℕ → List Op → Type 0
+OpsFit vars classes ops = AllByRecursion (VarsFit vars) ops × AllByRecursion (ClassFits classes) ops
+
+ops_fit : (classes : List ClassDecl) (globals vars : List VarDecl) → length classes ≤ 64 → (ops : List Op) → AllByRecursion (IsOp classes globals vars) ops → AllByRecursion IsServedOp ops → OpsFit (length vars) (length classes) ops
+ops_fit classes globals vars few [] h s = (tt, tt)
+ops_fit classes globals vars few (o ∷ ops) h s =
+    let a = op_fits classes globals vars few o h.0 s.0 in
+    let b = ops_fit classes globals vars few ops h.1 s.1 in
+    ((a.0, b.0), (a.1, b.1))
+
+phase_fits : (classes : List ClassDecl) (globals vars : List VarDecl) → length classes ≤ 64 → (phases : List (List Op)) →
+    AllByRecursion (λ (ops : List Op). AllByRecursion (IsOp classes globals vars) ops) phases → AllByRecursion (All IsServedOp) phases → OpsFit (length vars) (length classes) (ops_in (slice_get phases 0))
+phase_fits classes globals vars few [] h s = (tt, tt)
+phase_fits classes globals vars few (ops ∷ rest) h s = ops_fit classes globals vars few ops h.0 (recursion_from_All IsServedOp ops s.0)
+
+thread_fits : (classes : List ClassDecl) (globals : List VarDecl) → length classes ≤ 64 → (ts : List ThreadDecl) (i : ℕ) → AllByRecursion (IsThread classes globals) ts → AllByRecursion IsServedThread ts →
+    OpsFit (count_of_vars (slice_get ts i)) (length classes) (first_phase (slice_get ts i))
+thread_fits classes globals few [] i h s = (tt, tt)
+thread_fits classes globals few (t ∷ ts) zero h s = phase_fits classes globals t.vars few t.phases h.0.ops (recursion_from_All (All IsServedOp) t.phases s.0.ops)
+thread_fits classes globals few (t ∷ ts) (suc i) h s = thread_fits classes globals few ts i h.1 s.1
+
+program_fits : (s : Script) (thread : ℕ) → IsScript s → IsServed s → OpsFit (vars_of s thread) (length s.classes) (program_of s thread)
+program_fits s thread valid served = go (eqb thread 0)
+  where
+    go : (b : Bool) → OpsFit (count_of_vars (cond b None (slice_get s.threads (thread - 1)))) (length s.classes) (first_phase (cond b None (slice_get s.threads (thread - 1))))
+    go true = (tt, tt)
+    go false =
+        thread_fits s.classes s.globals (rw length-map at valid.heading.classes_named.names.few) s.threads (thread - 1) valid.threads
+        (recursion_from_All IsServedThread s.threads served.threads)
+
+pub is_stepper : (s : Script) (thread : ℕ) → IsScript s → IsServed s → thread ≤ length s.threads → IsStepper (stepper_of s thread)
+is_stepper s thread valid served within =
+    let fits = program_fits s thread valid served in
+    let length_is : length s.shape.classes ≡ length s.classes = ap length valid.heading.of_classes ∙ length-map s.classes (λ (c : ClassDecl). field_refs c.fields) in
+    let few = valid.few_threads in
+    let cap = served.strong_cap in
+    record {
+      layout = refl;
+      without_fields = served.without_fields;
+      slots = valid.heading.slots.1;
+      strong_cap = omega arith;
+      thread = omega arith;
+      vars_fit = rw length-replicate (All-from_recursion (VarsFit (vars_of s thread)) (program_of s thread) fits.0);
+      classes_fit = rw length_is (All-from_recursion (ClassFits (length s.classes)) (program_of s thread) fits.1);
+      few = program_few s thread valid;
+      held = All-replicate (HeldFits s.shape.slots) (vars_of s thread) None tt;
+      index = omega arith;
+      made = omega arith;
+      under_way = tt;
+      in_operation = omega arith;
+    }

@@ -1,0 +1,4 @@
+pub mod Served
+pub mod Kept
+pub mod Programs
+pub mod Thread

@@ -1,0 +1,15 @@
+//! One thread of a script as a machine: the steps that it makes one after the other, the events of these steps and the lines of its
+//! operations.
+#![tactic(auto)]
+
+mod asking;
+mod kept;
+mod programs;
+mod served;
+mod stepper;
+mod told;
+
+pub use arc_script::{Answer, Line};
+pub use served::is_served;
+pub use stepper::{Move, Stepper, Turn};
+pub use told::{Stamped, ThreadLines};

@@ -1,0 +1,74 @@
+ghost use Rattle.std.specs.Prelude.{◌≡◌, ◌↔◌, All, IsTrue, []};
+ghost use Rattle.arc_model.specs.declared.shape.RefShape.{RefShape};
+ghost use Rattle.arc_ops.specs.Served.{IsServed, IsServedThread, IsServedOp, IsStrongVar};
+
+use arc_model::{Caps, ClassShape, Kind};
+use arc_script::{Op, Script, ThreadDecl, VarDecl};
+
+fn is_served_op(op: &Op) -> bool
+    ensures { IsTrue result ↔ IsServedOp op.now }
+{
+    match *op {
+        Op::New { to: _, class: _ } => true,
+        Op::Copy { to: _, from: _ } => true,
+        Op::Drop { var: _ } => true,
+        _ => false,
+    }
+}
+
+fn are_served_ops(ops: &[Op]) -> bool
+    ensures { IsTrue result ↔ All IsServedOp ops.now }
+{
+    ops.iter().all(|op| is_served_op(op))
+}
+
+fn is_strong_var(var: &VarDecl) -> bool
+    ensures { IsTrue result ↔ IsStrongVar var.now }
+{
+    match var.kind {
+        Kind::Strong => true,
+        Kind::Unowned => false,
+        Kind::Weak => false,
+    }
+}
+
+fn is_served_thread(thread: &ThreadDecl) -> bool
+    ensures { IsTrue result ↔ IsServedThread thread.now }
+{
+    let one_phase = thread.phases.len() == 1;
+    let strong = thread.vars.as_slice().iter().all(|var| is_strong_var(var));
+    let ops = thread
+        .phases
+        .as_slice()
+        .iter()
+        .all(|ops| are_served_ops(ops.as_slice()));
+    one_phase && strong && ops
+}
+
+fn are_served_threads(threads: &[ThreadDecl]) -> bool
+    ensures { IsTrue result ↔ All IsServedThread threads.now }
+{
+    threads.iter().all(|thread| is_served_thread(thread))
+}
+
+fn have_no_fields(classes: &[ClassShape]) -> bool
+    ensures { IsTrue result ↔ All (λ fields. fields ≡ []) classes.now }
+{
+    classes.iter().all(|class| class.fields.is_empty())
+}
+
+/// Whether the script is one of those that are served so far: one thread of one phase, strong variables, the operations `new`,
+/// `copy` and `drop`, classes without fields, no globals, no schedule and the greatest caps.
+pub fn is_served(script: &Script) -> bool
+    ensures { IsTrue result ↔ IsServed script.now }
+{
+    let shape = &script.shape;
+    let caps = shape.caps();
+    let threads = script.threads.as_slice();
+    let greatest = caps.strong() == 1_073_741_823
+        && caps.unowned() == 2_147_483_647
+        && caps.wide() == u32::MAX;
+    let plain = have_no_fields(shape.classes()) && script.globals.is_empty();
+    let alone = threads.len() == 1 && script.schedule.is_empty();
+    greatest && plain && alone && are_served_threads(threads)
+}

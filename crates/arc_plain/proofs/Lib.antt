@@ -1,0 +1,11 @@
+pub mod Places
+pub mod Begins
+pub mod Writes
+pub mod Makes
+pub mod Copies
+pub mod Drops
+pub mod Dies
+pub mod Steps
+pub mod Tells
+pub mod Runs
+pub mod Whole

@@ -1,0 +1,4 @@
+pub mod Shown
+pub mod Named
+pub mod Replays
+pub mod Replaying

@@ -1,0 +1,54 @@
+-- Which classes lines and events name.
+use Rattle.std.specs.Prelude.{ℕ, ◌<◌, All, Option, Some, None, ⊤}
+use Rattle.arc_model.specs.declared.event.Origin.TheVariants.{Hand, Cell}
+use Rattle.arc_model.specs.declared.event.Act.{Act}
+use Rattle.arc_model.specs.declared.event.Act.TheVariants as acts
+use Rattle.arc_model.specs.declared.answer.Answer.{Answer}
+use Rattle.arc_model.specs.declared.answer.Answer.TheVariants as answers
+use Rattle.arc_script.specs.declared.answer.Line.{Line}
+use Rattle.arc_ops.specs.Kept.{Kept}
+
+-- an object that the answer names is of one of so many classes
+abbrev pub AnswerFits : ℕ → Answer → Type 0
+AnswerFits n (answers.New name) = name.class < n
+AnswerFits n answers.Full = ⊤
+AnswerFits n (answers.Got name) = name.class < n
+AnswerFits n answers.Ok = ⊤
+AnswerFits n answers.Nil = ⊤
+AnswerFits n answers.Dead = ⊤
+AnswerFits n answers.NoEntry = ⊤
+AnswerFits n answers.CountFull = ⊤
+AnswerFits n (answers.Deinit name) = name.class < n
+
+abbrev pub LineFits : ℕ → Line → Type 0
+LineFits n line = AnswerFits n line.answer
+
+abbrev pub LinesFit : ℕ → Kept → Type 0
+LinesFit n kept = All (LineFits n) kept.lines
+
+-- An event of the operations that are served so far: an object is made, of one of so many classes, or no slot is free; a reference is
+-- copied from a hand, or dropped; a deinit is finished, a slot is vacated.
+abbrev pub ActFits : ℕ → Act → Type 0
+ActFits n (acts.New hand class slot) = class < n
+ActFits n acts.Full = ⊤
+ActFits n (acts.Copy (Hand of) hand) = ⊤
+ActFits n (acts.Copy (Cell cell) hand) = ⊥
+ActFits n (acts.UnownedOf of hand) = ⊥
+ActFits n (acts.WeakOf of hand) = ⊥
+ActFits n (acts.Load of got) = ⊥
+ActFits n (acts.Drop hand last) = ⊤
+ActFits n (acts.CountFull list from) = ⊥
+ActFits n (acts.Claim entry) = ⊥
+ActFits n acts.NoEntry = ⊥
+ActFits n (acts.Side slot entry why) = ⊥
+ActFits n (acts.Back entry) = ⊥
+ActFits n (acts.Swap cell put took) = ⊥
+ActFits n (acts.Look cell) = ⊥
+ActFits n (acts.Take slot field hand) = ⊥
+ActFits n (acts.Finish slot last) = ⊤
+ActFits n (acts.Vacate slot) = ⊤
+ActFits n (acts.Gone entry last) = ⊥
+
+abbrev pub EventFits : ℕ → Option Act → Type 0
+EventFits n None = ⊤
+EventFits n (Some act) = ActFits n act

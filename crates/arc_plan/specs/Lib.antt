@@ -1,0 +1,4 @@
+pub mod Attempts
+pub mod Strong
+pub mod Unowned
+pub mod Slots

@@ -1,0 +1,11 @@
+pub mod ProgramsKept
+pub mod ProgramsPoints
+pub mod ProgramsRefused
+pub mod ProgramsSteps
+pub mod ProgramsTold
+pub mod ProgramsWorked
+pub mod ProgramsWorkedFields
+pub mod ProgramsWorkedKinds
+pub mod ProgramsWorkedOld
+pub mod ProgramsWorkedRefusals
+pub mod ProgramsWorkedThreads

@@ -1,0 +1,6 @@
+pub mod Sorting
+pub mod LeakOrder
+pub mod Numbers
+pub mod AllThere
+pub mod Counted
+pub mod OneClass

@@ -1,0 +1,6 @@
+use Rattle.std.proofs.Common.{◌≡◌, take}
+use Rattle.arc_report.specs.Lines.{deinit_total}
+use Rattle.arc_report.proofs.totals.deinit_total.Given as goal
+
+abbrev pub invariant-loop-thread : goal.invariant-loop-thread
+invariant-loop-thread l = l.total ≡ deinit_total (take l.thread-index l.threads) l.end

@@ -1,0 +1,10 @@
+pub mod Order
+pub mod Shown
+pub mod Names
+pub mod Lines
+pub mod Words
+pub mod Leaks
+pub mod Report
+pub mod Events
+pub mod History
+pub mod Summary

@@ -1,0 +1,5 @@
+pub mod Extents
+pub mod Places
+pub mod Isa
+pub mod Steps
+pub mod Plans

@@ -1,0 +1,21 @@
+-- What a step made on the words gives back and leaves.
+use Rattle.std.specs.Prelude.{ℕ, ◌==◌, if◌then◌else◌, List, slice_index, slice_set}
+use Rattle.arc_rule.specs.declared.step.Step.{Step}
+use Rattle.arc_rule.specs.declared.step.Step.TheVariants.{Load, Exchange, Store}
+
+abbrev pub place_of : Step → ℕ
+place_of (Load place) = place
+place_of (Exchange place old new) = place
+place_of (Store place new) = place
+
+-- the word that the step gives back
+abbrev pub found_by : Step → List ℕ → ℕ
+found_by (Load place) words = slice_index words place
+found_by (Exchange place old new) words = slice_index words place
+found_by (Store place new) words = 0
+
+-- the words after it
+abbrev pub made_by : Step → List ℕ → List ℕ
+made_by (Load place) words = words
+made_by (Exchange place old new) words = if slice_index words place == old then slice_set words place new else words
+made_by (Store place new) words = slice_set words place new

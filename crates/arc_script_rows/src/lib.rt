@@ -1,0 +1,9 @@
+//! Tests of the script language: which line is refused, and with which number.
+#![tactic(auto)]
+
+#[cfg(test)]
+mod limits;
+#[cfg(test)]
+mod lines;
+#[cfg(test)]
+mod texts;
