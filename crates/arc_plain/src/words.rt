@@ -1,5 +1,5 @@
 ghost use Rattle.std.specs.Prelude.{◌≡◌, ◌<◌, None, length, replicate, IfOk};
-ghost use Rattle.arc_rule.specs.Places.{ExtentFits, extent_of, word_count};
+ghost use Rattle.arc_rule.specs.Places.{extent_of, word_count};
 ghost use Rattle.arc_rule.specs.Steps.{place_of, found_by, made_by};
 ghost use Rattle.arc_rule.specs.Plans.{RunsOn, RunsTo};
 
@@ -25,7 +25,6 @@ impl Model for PlainWords {
 impl PlainWords {
     /// The words of a heap of this shape, all 0.
     pub fn make(alloc: Global, shape: &Shape) -> Result<PlainWords, Memory>
-        requires { ExtentFits (extent_of shape.now) }
         ensures { IfOk result (λ w. w ≡ replicate (word_count (extent_of shape.now)) 0) }
     {
         let layout = Layout::of(shape);
