@@ -203,6 +203,3 @@ pub fn storm(alloc: Global, count: u32, start: u64) -> Result<Script, Memory>
         schedule,
     })
 }
-
-#[cfg(test)]
-mod tests;

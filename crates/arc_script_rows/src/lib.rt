@@ -6,4 +6,6 @@ mod limits;
 #[cfg(test)]
 mod lines;
 #[cfg(test)]
+mod storms;
+#[cfg(test)]
 mod texts;

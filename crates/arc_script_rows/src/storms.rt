@@ -1,5 +1,4 @@
-use super::*;
-use crate::write::write_script;
+use arc_script::{Op, OpCell, storm};
 use std::test::*;
 
 // The expected operations and places are those of bench/storm.py.
@@ -66,29 +65,5 @@ fn a_thread_gets_every_sixteenth(rt: HostRuntime) -> Result<(), Fail> {
         },
     ];
     assert_eq!(rt; phase.as_slice(), expected.as_slice());
-    Ok(())
-}
-
-/// A checksum, so that the whole text need not stand here: 32-bit FNV-1a.
-fn checksum(text: &[u8]) -> u32 {
-    let mut sum = 2166136261u32;
-    for byte in text {
-        sum = (sum ^ u32::from(*byte)).wrapping_mul(16777619);
-    }
-    sum
-}
-
-#[test]
-fn the_canonical_text_of_a_storm(rt: HostRuntime) -> Result<(), Fail> {
-    let script = storm(rt.alloc(), 17, 18446744073709551615)
-        .ok()
-        .ok_or("a script")?;
-    let text = write_script(rt.alloc(), &script).ok().ok_or("a text")?;
-    assert_eq!(rt; text.len(), 4225);
-    assert_eq!(rt; checksum(&text), 3060485931);
-    let script = storm(rt.alloc(), 1000, 7).ok().ok_or("a script")?;
-    let text = write_script(rt.alloc(), &script).ok().ok_or("a text")?;
-    assert_eq!(rt; text.len(), 26238);
-    assert_eq!(rt; checksum(&text), 1129521947);
     Ok(())
 }
