@@ -3,3 +3,4 @@ pub mod Places
 pub mod Isa
 pub mod Steps
 pub mod Plans
+pub mod Shown

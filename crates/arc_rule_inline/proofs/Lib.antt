@@ -1,0 +1,13 @@
+pub mod Names
+pub mod Found
+pub mod Leads
+pub mod Written
+pub mod Alike
+pub mod Counted
+pub mod Retain
+pub mod Release
+pub mod Finish
+pub mod Vacate
+pub mod Claim
+pub mod Bare
+pub mod Worked

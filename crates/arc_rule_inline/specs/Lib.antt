@@ -1,0 +1,4 @@
+pub mod Inline
+pub mod References
+pub mod Bare
+pub mod Worked
