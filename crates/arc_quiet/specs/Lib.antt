@@ -1,0 +1,5 @@
+pub mod OneWay
+pub mod Quiet
+pub mod Finished
+pub mod Whole
+pub mod Premises
