@@ -42,14 +42,14 @@ cascade_on l shape s event at = record { layout = l; shape = shape; slot = s; at
 pub dying_unpacked : unpacked dying_word ≡ Some (Counts (record { strong_extra = 0; unowned = 1; deiniting = true }))
 dying_unpacked = unpacked-packed (Counts (record { strong_extra = 0; unowned = 1; deiniting = true })) (record { strong = omega arith; unowned = omega arith; some = omega arith })
 
-finish_row : unowned_down_row (unpacked dying_word) ≡ Write deinited_word
+pub finish_row : unowned_down_row (unpacked dying_word) ≡ Write deinited_word
 finish_row = rw dying_unpacked refl
 
-finish_end : unowned_down_end (unpacked dying_word) ≡ less.Last
+pub finish_end : unowned_down_end (unpacked dying_word) ≡ less.Last
 finish_end = rw dying_unpacked refl
 
 -- the count of the dying object
-count_there : (t : Thread) (words : List ℕ) (c : CascadeState) → Known t words (doings.Dying c) → c.slot < t.layout.slots → word_at words t.layout (Count c.slot) ≡ cascade_word c.at
+pub count_there : (t : Thread) (words : List ℕ) (c : CascadeState) → Known t words (doings.Dying c) → c.slot < t.layout.slots → word_at words t.layout (Count c.slot) ≡ cascade_word c.at
 count_there t words c k lt = k.counts c.slot lt ∙ ap (λ (b : Bool). cond b (cascade_word c.at) (live_word (holders c.slot t.vars))) (eqb_same c.slot)
 
 -- the words show a thread that goes on with the cascade, where its count isn't written

@@ -9,3 +9,13 @@ pub mod Steps
 pub mod Tells
 pub mod Runs
 pub mod Whole
+pub mod References
+pub mod Owned
+pub mod Sides
+pub mod SideMakes
+pub mod SideCopies
+pub mod SideDies
+pub mod Told
+pub mod ToldFirst
+pub mod WholeHistory
+pub mod Promises

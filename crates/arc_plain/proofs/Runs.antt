@@ -35,7 +35,7 @@ use Rattle.arc_ops.specs.declared.stepper.Doing.{Doing}
 use Rattle.arc_ops.specs.declared.stepper.Doing.TheVariants as doings
 use Rattle.arc_ops.specs.declared.stepper.Move.{Move}
 use Rattle.arc_ops.specs.declared.stepper.Move.TheVariants as moves
-use Rattle.arc_ops.specs.Thread.{Thread, IsStepper, takes_at, turned, turned_at}
+use Rattle.arc_ops.specs.Thread.{Thread, IsStepper, takes, takes_at, turned, turned_at}
 use Rattle.arc_ops.specs.Thread.{begun as begun_thread}
 use Rattle.arc_plain.specs.Shown.{word_at, holders, live_word, shown_count, is_naming, Shows, PlaceShown, AsksFor, MakingShown, CopyingShown, DroppingShown, FinishingShown, VacatingShown, CascadeShown, held_unit, left, units}
 use Rattle.arc_plain.specs.Named.{LinesFit, EventFits}
@@ -46,9 +46,19 @@ use Rattle.arc_plain.proofs.Begins.{Comes, begins}
 use Rattle.arc_plain.proofs.Makes.{Goes}
 use Rattle.arc_plain.proofs.Steps.{Follows, goes}
 use Rattle.arc_plain.proofs.Tells.{Tells, NamesFit, tells}
+use Rattle.arc_model.specs.History.{History, heap_after, IsLegal}
+use Rattle.arc_model.specs.SpellingTies.{Ties}
+use Rattle.arc_model.specs.SpellingTies.Causes.{Judged}
+use Rattle.arc_rule.specs.Shown.{ShowsBut, Shows as HeapShown}
+use Rattle.arc_spelled.specs.Spelled.{with_event_of}
+use Rattle.arc_plain.specs.Histories.{history_of, work_in, BeginsOn, HasHistory}
+use Rattle.arc_plain.proofs.Sides.{unnamed}
+use Rattle.arc_plain.proofs.Told.{ToldOf, told_on}
+use Rattle.arc_plain.proofs.ToldFirst.{inline_laws, served_work, history_stamped, told_first}
 
 -- the thread stayed in its heap
 pub record Stays (before t : Thread) : Type 0 where
+  pub thread : t.thread ≡ before.thread
   pub layout : t.layout ≡ before.layout
   pub shape : t.shape ≡ before.shape
 
@@ -60,6 +70,7 @@ pub record Running (thread : ℕ) (before : Thread) (words_before : List ℕ) (s
   pub bound : steps + left t ≤ steps_before + 4200 * 200257
   pub hands : t.hands + left t ≤ 4200 * 200257
   pub lines : LinesFit (length before.shape.classes) t.kept
+  pub told : BeginsOn thread before (history_of events_before) words_before → ToldOf (work_in before) t words (history_of events_before) (history_of events)
   pub events_fit : All (StampedFits (length before.shape.classes)) events_before → All (StampedFits (length before.shape.classes)) events
 
 held_few : (vars : List (Option Held)) → sum_by held_unit vars ≤ length vars
@@ -82,15 +93,19 @@ starts_running thread t words steps events s stepper =
     let left_few = comes.few in
     let hands = told.hands in
     record {
-      run = begun;
+      run = begun may_begin;
       follows = record { fixed = comes.fixed; stepper = stepper; shows = comes.shows };
-      stays = record { layout = told.layout; shape = told.shape };
+      stays = record { thread = told.thread; layout = told.layout; shape = told.shape };
       bound = omega arith;
       hands = omega arith;
       lines = told.lines s.lines;
+      told = λ begins_on. told_first t words (history_of events) s may_begin (record { shape = told.shape; layout = told.layout; thread = told.thread }) (subst (λ (n : ℕ). BeginsOn n t (history_of events) words) (sym begins_on.own) begins_on);
       events_fit = λ h. h;
     }
   where
+    may_begin : takes t None
+    may_begin = let P : Doing → Type 0 = takes_at None in subst P (sym s.ready) refl
+
     is_begun : turned t None ≡ begun_thread (record t { doing = doings.Ended; first = false; event = None })
     is_begun = ap (λ (d : Doing). turned_at None d (record t { doing = doings.Ended; first = false; event = None })) s.ready
 
@@ -164,12 +179,17 @@ module _ (thread : ℕ) (before : Thread) (words_before : List ℕ) (steps_befor
       let now' : now ≡ stamped (steps + 1) thread (turned t (Some (found_by s words))).event events = now_is ∙ ap (λ (x : Thread). stamped (steps + 1) thread x.event events) new_is in
       rw (new_is, after_is, now') (
         record {
-          run = made s intent r.run asked;
+          run = made s intent r.run asked g.takes;
           follows = record { fixed = g.fixed; stepper = stepper'; shows = g.shows };
-          stays = record { layout = told.layout ∙ r.stays.layout; shape = told.shape ∙ r.stays.shape };
+          stays = record { thread = told.thread ∙ r.stays.thread; layout = told.layout ∙ r.stays.layout; shape = told.shape ∙ r.stays.shape };
           bound = omega arith;
           hands = omega arith;
           lines = subst (λ (n : ℕ). LinesFit n (turned t (Some (found_by s words))).kept) classes (told.lines (subst (λ (n : ℕ). LinesFit n t.kept) (sym classes) r.lines));
+          told = λ begins_on.
+              let own : t.thread ≡ thread = r.stays.thread ∙ begins_on.own in
+              let on = told_on inline_laws (work_in before) t words (history_of events_before) (history_of events) s intent (served_work before (r.told begins_on).now t (r.told begins_on).stands r.follows.fixed) r.follows (r.told begins_on) asked (record { shape = told.shape; layout = told.layout; thread = told.thread }) in
+              subst (λ (h : History). ToldOf (work_in before) (turned t (Some (found_by s words))) (made_by s words) (history_of events_before) h)
+              (ap (λ (p : ℕ). with_event_of p (turned t (Some (found_by s words))).event (history_of events)) own ∙ sym (history_stamped (steps + 1) thread (turned t (Some (found_by s words))).event events)) on;
           events_fit = λ h. stamped_fits (length before.shape.classes) (steps + 1) thread (turned t (Some (found_by s words))).event events (subst (λ (n : ℕ). EventFits n (turned t (Some (found_by s words))).event) classes told.event) (r.events_fit h);
         },
         fewer,
@@ -255,6 +275,7 @@ ends thread before words_before steps_before events_before t words steps events 
       left = subst (λ (l : Extent). AreEmpty l words) r.stays.layout record { whole = s.long; counts = λ x below. idle x below ∙ ap live_word (none x); links = s.links };
       lines = r.lines;
       events_fit = r.events_fit;
+      history = λ begins_on. has_history (r.told begins_on) begins_on.own;
       bound = omega arith;
       shows = rw (← r.stays.layout, ← r.stays.shape) record { long = s.long; links = s.links; counts = idle; named = λ x below taken. s.named x below taken (ap (λ (d : Doing). is_naming d x) done) };
     }
@@ -264,6 +285,21 @@ ends thread before words_before steps_before events_before t words steps events 
 
     done : t.doing ≡ doings.Ended
     done = not_asking t words r.follows.shows (subst (λ (m : Move). NotStep m) (sym asked) tt)
+
+    has_history : ToldOf (work_in before) t words (history_of events_before) (history_of events) → before.thread ≡ thread → HasHistory thread before (history_of events_before) t (history_of events) words
+    has_history told own = record {
+      now = told.now;
+      stands = told.stands;
+      tied = subst (λ (p : ℕ). Ties Judged before.shape p told.now (history_of events)) (told.stands.works.thread_is ∙ own) (subst (λ (x : HeapShape). Ties Judged x t.thread told.now (history_of events)) shape_is told.tied);
+      legal = subst (λ (x : HeapShape). IsLegal x (history_of events)) shape_is told.legal;
+      shows = subst (λ (x : HeapShape). HeapShown x (heap_after (history_of events)) words) shape_is (subst (λ (d : Doing). ShowsBut (unnamed d) t.shape (heap_after (history_of events)) words) done told.shows);
+      named = told.named;
+      shares = λ q apart. told.shares q (λ e. apart (e ∙ told.stands.works.thread_is ∙ own));
+      made = λ q apart. told.others q (λ e. apart (e ∙ told.stands.works.thread_is ∙ own));
+    }
+      where
+        shape_is : t.shape ≡ before.shape
+        shape_is = told.stands.works.shape_is
 
     none : (x : ℕ) → holders x t.vars ≡ 0
     none = (subst (λ (d : Doing). PlaceShown t words d) done r.follows.shows.place).1

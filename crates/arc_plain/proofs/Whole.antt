@@ -22,6 +22,8 @@ use Rattle.arc_plain.specs.Shown.{word_at, refers, holders, live_word, Fixed, Sh
 use Rattle.arc_plain.specs.Named.{LineFits, LinesFit}
 use Rattle.arc_plain.specs.Replays.{AreEmpty, IsReplay, StampedFits}
 use Rattle.arc_plain.specs.Replaying.{Starts, HasRun}
+use Rattle.arc_plain.specs.Histories.{history_of, BeginsOn, HasHistory}
+use Rattle.arc_plain.proofs.WholeHistory.{replay_history}
 use Rattle.arc_plain.specs.declared.replay.Replay.{Replay}
 
 vars_few_of : (classes : List ClassDecl) (globals : List VarDecl) (ts : List ThreadDecl) (i : ℕ) → AllByRecursion (IsThread classes globals) ts → count_of_vars (slice_get ts i) ≤ 256
@@ -92,6 +94,9 @@ starts_on s thread words valid served within long empty = record {
   at_start = refl;
   no_hands = refl;
   none_made = refl;
+  quiet = refl;
+  all_nil = ap (λ (n : ℕ). replicate n None) (sym (length-replicate (vars_of s thread) None));
+  no_lines = refl;
   lines = All-nil (LineFits (length s.shape.classes));
 }
 
@@ -115,6 +120,9 @@ last_starts s thread before words_before steps_before events_before first words 
       at_start = refl;
       no_hands = refl;
       none_made = refl;
+      quiet = refl;
+      all_nil = refl;
+      no_lines = refl;
       lines = All-nil (LineFits (length s.shape.classes));
     }
 
@@ -148,6 +156,10 @@ replay_is s t0 first e0 last w0 w1 w2 n1 n2 ev0 ev1 ev2 valid served t_is e_is w
       };
       threads = threads;
       end = end;
+      history = rw (events, words) (replay_history s first last w0 w1 w2 n1 n2 ev1 (reverse ev2) valid served (extent_fits s valid served)
+          (ap length w_is ∙ length-replicate (word_count (extent_of s.shape)) 0) (λ i. ap (λ (ws : List ℕ). slice_index ws i) w_is ∙ zeros (word_count (extent_of s.shape)) i)
+          (λ b. rw (← t_is) (subst (λ (ev : List Stamped). HasHistory 1 t0 (history_of ev) first (history_of ev1) w1) ev_is (run_first.history (subst (λ (ev : List Stamped). BeginsOn 1 t0 (history_of ev) w0) (sym ev_is) (rw t_is b))))) run_first.ended
+          (λ b. rw (← e_is) (run_last.history (rw e_is b))) run_last.ended (rw (← e_is) run_last.run));
       left = rw words (subst (λ (b : Thread). AreEmpty b.layout w2) e_is run_last.left);
       lines_fit = subst (λ (b : Thread). LinesFit (length b.shape.classes) first.kept) t_is run_first.lines;
       end_fits = subst (λ (b : Thread). LinesFit (length b.shape.classes) last.kept) e_is run_last.lines;

@@ -1,16 +1,21 @@
 -- What the run of one thread needs of the words, and what it gives.
-use Rattle.std.specs.Prelude.{ℕ, ◌≡◌, ◌≤◌, ◌+◌, ◌^◌, List, length, All}
+use Rattle.std.specs.Prelude.{ℕ, ◌≡◌, ◌≤◌, ◌+◌, ◌^◌, List, [], length, replicate, All, None}
 use Rattle.arc_ops.specs.declared.told.Stamped.{Stamped}
 use Rattle.arc_ops.specs.declared.stepper.Doing.TheVariants.{Ready}
 use Rattle.arc_ops.specs.declared.stepper.Move.TheVariants as moves
+use Rattle.arc_ops.specs.Programs.{room_for}
 use Rattle.arc_ops.specs.Thread.{Thread, IsStepper}
 use Rattle.arc_plain.specs.Shown.{Fixed, ShowsIdle}
 use Rattle.arc_plain.specs.Named.{LinesFit}
+use Rattle.arc_plain.specs.Histories.{history_of, BeginsOn, HasHistory}
 use Rattle.arc_plain.specs.Replays.{Steps, AreEmpty, StampedFits}
 
 -- a new stepper, on words that show no reference but its variables'
 pub record Starts (t : Thread) (words : List ℕ) : Type 0 where
   pub ready : t.doing ≡ Ready
+  pub quiet : t.asked ≡ moves.PhaseEnd
+  pub all_nil : t.vars ≡ replicate (length t.vars) None
+  pub no_lines : t.kept ≡ record { lines = []; room = room_for t.program }
   pub fixed : Fixed t
   pub stepper : IsStepper t
   pub shows : ShowsIdle t.layout t.shape t.vars words
@@ -26,5 +31,6 @@ pub record HasRun (thread : ℕ) (before : Thread) (words_before : List ℕ) (st
   pub left : AreEmpty before.layout words
   pub lines : LinesFit (length before.shape.classes) t.kept
   pub events_fit : All (StampedFits (length before.shape.classes)) events_before → All (StampedFits (length before.shape.classes)) events
+  pub history : BeginsOn thread before (history_of events_before) words_before → HasHistory thread before (history_of events_before) t (history_of events) words
   pub bound : steps ≤ steps_before + 2 ^ 40
   pub shows : ShowsIdle before.layout before.shape t.vars words

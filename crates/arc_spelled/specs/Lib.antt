@@ -2,3 +2,4 @@ pub mod Shown
 pub mod CascadeStands
 pub mod StepperStands
 pub mod Spelled
+pub mod Room
