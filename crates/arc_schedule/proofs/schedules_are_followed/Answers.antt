@@ -1,0 +1,8 @@
+use Rattle.arc_schedule.proofs.Worked.{places_come_first as places, accesses_end_first as accesses}
+use Rattle.arc_schedule.proofs.schedules_are_followed.Goals as goal
+
+pub returns-clause-places : goal.returns-clause-places
+returns-clause-places c = places
+
+pub returns-clause-accesses : goal.returns-clause-accesses
+returns-clause-accesses c = accesses

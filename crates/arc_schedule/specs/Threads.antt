@@ -1,0 +1,44 @@
+-- Which steps a thread makes: those of its operations, phase by phase, and those of the end of its scope.
+use Rattle.std.specs.Prelude.{ℕ, ◌≡◌, ◌+◌, ◌-◌, List, [], length, slice_get, replicate, Some, None}
+use Rattle.arc_model.specs.Shapes.{HeapShape}
+use Rattle.arc_script.specs.declared.script.Op.{Op}
+use Rattle.arc_script.specs.declared.script.ThreadDecl.{ThreadDecl}
+use Rattle.arc_script.specs.declared.script.Script.{Script}
+use Rattle.arc_schedule.specs.Made.{Point, Made}
+use Rattle.arc_schedule.specs.Operations.{Variables, State, value, Drops, Does}
+
+abbrev pub point_of : (thread phase operation : ℕ) → Point
+point_of thread phase operation = record { thread = thread; phase = phase; operation = operation }
+
+-- the first operations of a phase
+pub data OpsDone (shape : HeapShape) (thread phase : ℕ) (ops : List Op) (first : State) (b : List Made) : (done : ℕ) → State → List Made → Type 0 where
+  none : OpsDone shape thread phase ops first b 0 first b
+  one : {i : ℕ} {o : Op} {state new : State} {ns after : List Made} →
+      OpsDone shape thread phase ops first b i state ns → slice_get ops i ≡ Some o → Does shape (point_of thread phase (i + 1)) o state ns new after →
+      OpsDone shape thread phase ops first b (i + 1) new after
+
+-- the first phases of a thread, whose variables are nil at first
+pub data PhasesDone (shape : HeapShape) (thread : ℕ) (decl : ThreadDecl) : (done : ℕ) → State → List Made → Type 0 where
+  none : PhasesDone shape thread decl 0 (record { vars = replicate (length decl.vars) None; made = 0 }) []
+  one : {k : ℕ} {ops : List Op} {state new : State} {ns after : List Made} →
+      PhasesDone shape thread decl k state ns → slice_get decl.phases k ≡ Some ops → OpsDone shape thread k ops state ns (length ops) new after →
+      PhasesDone shape thread decl (k + 1) new after
+
+-- the first variables are dropped, in the order of declaration
+pub data ScopeEnds (shape : HeapShape) (point : Point) (vars : Variables) (b : List Made) : (done : ℕ) → List Made → Type 0 where
+  none : ScopeEnds shape point vars b 0 b
+  one : {v : ℕ} {ns after : List Made} → ScopeEnds shape point vars b v ns → Drops shape point (value vars v) ns after → ScopeEnds shape point vars b (v + 1) after
+
+-- all steps of the thread: the end of its scope belongs to its last phase
+pub record IsThread (shape : HeapShape) (thread : ℕ) (decl : ThreadDecl) (own : List Made) : Type 0 where
+  pub behind : State
+  pub worked : List Made
+  pub phases : PhasesDone shape thread decl (length decl.phases) behind worked
+  pub scope : ScopeEnds shape (point_of thread (length decl.phases - 1) 0) behind.vars worked (length behind.vars) own
+
+-- the first globals are cleared by thread 0; so far there are none
+pub data GlobalsCleared (shape : HeapShape) : (done : ℕ) → List Made → Type 0 where
+  none : GlobalsCleared shape 0 []
+
+abbrev pub IsEndSection : Script → List Made → Type 0
+IsEndSection script own = GlobalsCleared script.shape (length script.globals) own
