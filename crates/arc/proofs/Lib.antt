@@ -1,2 +1,4 @@
 pub mod LongNumbers
 pub mod Reported
+pub mod Printed
+pub mod Judged

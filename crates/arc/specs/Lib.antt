@@ -1,3 +1,5 @@
 pub mod Commands
 pub mod Statuses
 pub mod Outputs
+pub mod Printed
+pub mod Judged

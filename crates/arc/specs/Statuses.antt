@@ -18,6 +18,10 @@ line_of status.Refused = None
 line_of status.TooLong = Some (codes "too long\n")
 line_of status.Memory = Some (codes "memory\n")
 
+abbrev pub ended : Bool → Status
+ended true = status.Done
+ended false = status.NotLegal
+
 abbrev pub refused_text : ℕ → ℕ → List ℕ
 refused_text line why = codes "refused line " ++ (decimal line ++ (codes " reason " ++ (decimal why ++ codes "\n")))
 

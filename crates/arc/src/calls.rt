@@ -1,11 +1,14 @@
-ghost use Rattle.std.specs.Prelude.{◌≡◌, ◌≢◌, ◌↔◌, ◌≤◌, ◌⊎◌, List, ℕ, Some, None, true, IfOk, IfSome, IsSomeAnd};
+ghost use Rattle.std.specs.Prelude.{◌≡◌, ◌≢◌, ◌↔◌, ◌⊎◌, ◌+◌, Bool, List, ℕ, Some, None, true, false, IfOk, IfSome, IsSomeAnd};
 ghost use Rattle.std.specs.String.{string_bytes};
 ghost use Rattle.std.specs.Io.KnownBytes.{Appends, IsAtEnd};
 ghost use Rattle.arc_io.specs.Causes.{Rose};
 ghost use Rattle.arc_io.specs.Moved.{Took, TookAtMost, AppendsPrefix};
-ghost use Rattle.arc.specs.Commands.{command_of};
-ghost use Rattle.arc.specs.Statuses.{line_of, refused_text, Sends, is_of_input, is_past_input};
-ghost use Rattle.arc.specs.Outputs.{IsOutput, IsRefusal, IsValidInput, IsUnservedInput};
+ghost use Rattle.arc.specs.Commands.{command_of, is_reading, limit_of};
+ghost use Rattle.arc.specs.Statuses.{line_of, ended, refused_text, Sends, is_of_input, is_past_input};
+ghost use Rattle.arc.specs.Outputs.{IsOutput, IsRefusal, IsValidInput, IsUnservedInput, legal_text};
+ghost use Rattle.arc.specs.Judged.{HadReplay};
+ghost use Rattle.arc.specs.Printed.{Prints, OfHistory, IsScheduledReplay};
+ghost use Rattle.arc_plain.specs.Promises.{DeinitsOnce, LoadsComeBefore, SlotsAreVacated, EntriesAreGivenBack};
 
 use crate::command::{Arg, Command, command_of};
 use crate::output::{Fault, output_of};
@@ -21,6 +24,17 @@ fn tell<K: Sink>(sink: &mut K, status: Status, line: &[u8]) -> Status
     match write_all(sink, line) {
         Ok(()) => status,
         Err(_) => status,
+    }
+}
+
+/// How a call ended whose whole output went out.
+fn ended(legal: bool) -> Status
+    ensures { result ≡ ended legal }
+{
+    if legal {
+        Status::Done
+    } else {
+        Status::NotLegal
     }
 }
 
@@ -41,47 +55,71 @@ pub fn arc_plain_top<S: Source, K: Sink>(
     // The words are refused exactly where they are no row of the table.
     ensures usage { (result ≡ Status.Usage) ↔ (command_of words.now ≡ None) }
 
-    // Only `replay` reads, and a fault of reading or of the text comes only with it.
-    ensures unread { command_of words.now ≢ Some Command.Replay → source.new ≡ source.old }
-    ensures reading { is_of_input result ≡ true → command_of words.now ≡ Some Command.Replay }
+    // Only `replay` and `check` read, and a fault of reading or of the text comes only with them.
+    ensures unread { is_reading (command_of words.now) ≡ false → source.new ≡ source.old }
+    ensures reading { is_of_input result ≡ true → is_reading (command_of words.now) ≡ true }
 
     // Whatever is written of a text, or says that it is refused, comes once all of it was read.
-    ensures end { is_past_input result ≡ true → command_of words.now ≡ Some Command.Replay → IsAtEnd (S.left source.new) }
+    ensures end { is_past_input result ≡ true → is_reading (command_of words.now) ≡ true → IsAtEnd (S.left source.new) }
 
-    // The whole output went out.
+    // The whole output went out, and nothing that was judged isn't legal.
     ensures done { result ≡ Status.Done → IsSomeAnd (command_of words.now) (λ c. (out : List ℕ) ×
-        IsOutput c (S.left source.old) out × Appends (K.taken sink.old) (K.taken sink.new) out) }
+        IsOutput c (S.left source.old) true out × Appends (K.taken sink.old) (K.taken sink.new) out) }
+
+    // An event isn't legal, and its line went out.
+    ensures not_legal { result ≡ Status.NotLegal → (command_of words.now ≡ Some Command.Check) × ((out : List ℕ) ×
+        IsOutput Command.Check (S.left source.old) false out × Appends (K.taken sink.old) (K.taken sink.new) out) }
 
     // A part of the output went out, since the sink failed.
-    ensures write_fault { result ≡ Status.WriteFault → IsSomeAnd (command_of words.now) (λ c. (out : List ℕ) ×
-        IsOutput c (S.left source.old) out × AppendsPrefix (K.taken sink.old) (K.taken sink.new) out)
+    ensures write_fault { result ≡ Status.WriteFault → IsSomeAnd (command_of words.now) (λ c. (legal : Bool) × (out : List ℕ) ×
+        IsOutput c (S.left source.old) legal out × AppendsPrefix (K.taken sink.old) (K.taken sink.new) out)
         × Rose (K.faults sink.old) (K.faults sink.new) }
+
+    // The steps of the replay that was printed are those of the script's operations, in the order of its schedule.
+    ensures scheduled { result ≡ Status.Done → command_of words.now ≡ Some Command.Replay →
+        Prints IsScheduledReplay (S.left source.old) (K.taken sink.old) (K.taken sink.new) }
+
+    // Each object is deinited once in the history that was printed, as its last strong holder goes.
+    ensures deinited_once { result ≡ Status.Done → command_of words.now ≡ Some Command.Replay →
+        Prints (OfHistory DeinitsOnce) (S.left source.old) (K.taken sink.old) (K.taken sink.new) }
+
+    // A load gives an object only before that.
+    ensures loads_before { result ≡ Status.Done → command_of words.now ≡ Some Command.Replay →
+        Prints (OfHistory LoadsComeBefore) (S.left source.old) (K.taken sink.old) (K.taken sink.new) }
+
+    // No slot is given again while a strong or unowned holder remains, and no entry while a weak one does.
+    ensures slots_vacated { result ≡ Status.Done → command_of words.now ≡ Some Command.Replay →
+        Prints (OfHistory SlotsAreVacated) (S.left source.old) (K.taken sink.old) (K.taken sink.new) }
+    ensures entries_given_back { result ≡ Status.Done → command_of words.now ≡ Some Command.Replay →
+        Prints (OfHistory EntriesAreGivenBack) (S.left source.old) (K.taken sink.old) (K.taken sink.new) }
+
+    // Of the report and the history text that `replay` writes, `check` says that so many events are legal.
+    ensures replays_are_legal { command_of words.now ≡ Some Command.Check → (events : ℕ) → HadReplay (S.left source.old) events →
+        (Rose (S.faults source.old) (S.faults source.new) → ⊥) → (Rose (K.faults sink.old) (K.faults sink.new) → ⊥) →
+        ((result ≡ Status.Done) × Appends (K.taken sink.old) (K.taken sink.new) (legal_text events)) ⊎ (result ≡ Status.Memory) }
 
     ensures read_fault { result ≡ Status.ReadFault → Rose (S.faults source.old) (S.faults source.new) }
 
     // One byte past the limit was taken exactly where the answer says so.
-    ensures too_long { result ≡ Status.TooLong → Took (S.left source.old) (S.left source.new) 8388609 }
-    ensures within { result ≢ Status.TooLong → TookAtMost (S.left source.old) (S.left source.new) 8388608 }
+    ensures too_long { result ≡ Status.TooLong → Took (S.left source.old) (S.left source.new) (limit_of (command_of words.now) + 1) }
+    ensures within { result ≢ Status.TooLong → TookAtMost (S.left source.old) (S.left source.new) (limit_of (command_of words.now)) }
 
-    // The text is no script, or none that is served, and the line names the place and the reason.
-    ensures refused { result ≡ Status.Refused → (line : ℕ) × (why : ℕ) × IsRefusal (S.left source.old) line why ×
-        Sends (K.taken sink.old) (K.taken sink.new) (K.faults sink.old) (K.faults sink.new) (refused_text line why) }
+    // The text is no script, or none that is served, or holds no history, and the line names the place and the reason.
+    ensures refused { result ≡ Status.Refused → IsSomeAnd (command_of words.now) (λ c. (line : ℕ) × (why : ℕ) × IsRefusal c (S.left source.old) line why ×
+        Sends (K.taken sink.old) (K.taken sink.new) (K.faults sink.old) (K.faults sink.new) (refused_text line why)) }
 
     // The line of each other status went out, and nothing else.
     ensures line { IfSome (line_of result) (λ text.
         Sends (K.taken sink.old) (K.taken sink.new) (K.faults sink.old) (K.faults sink.new) text) }
 
-    // No command that is served judges a history.
-    ensures judged { result ≢ Status.NotLegal }
-
     // A text that can't be served, read to its end without a fault, is refused, unless memory runs out.
-    ensures refuses { command_of words.now ≡ Some Command.Replay → IsUnservedInput (S.left source.old) →
+    ensures refuses { IsSomeAnd (command_of words.now) (λ c. IsUnservedInput c (S.left source.old)) →
         (Rose (S.faults source.old) (S.faults source.new) → ⊥) → (result ≡ Status.Refused) ⊎ (result ≡ Status.Memory) }
 
     // Input that can be served, and no fault of the outside, give the whole output, unless memory runs out.
     ensures complete { IsSomeAnd (command_of words.now) (λ c. IsValidInput c (S.left source.old)) →
         (Rose (S.faults source.old) (S.faults source.new) → ⊥) → (Rose (K.faults sink.old) (K.faults sink.new) → ⊥) →
-        (result ≡ Status.Done) ⊎ (result ≡ Status.Memory) }
+        (result ≡ Status.Done) ⊎ (result ≡ Status.NotLegal) ⊎ (result ≡ Status.Memory) }
 {
     let Some(command) = command_of(words) else {
         return tell(
@@ -91,8 +129,8 @@ pub fn arc_plain_top<S: Source, K: Sink>(
         );
     };
     match output_of(alloc, command, source) {
-        Ok(output) => match write_all(sink, &output) {
-            Ok(()) => Status::Done,
+        Ok(output) => match write_all(sink, &output.text) {
+            Ok(()) => ended(output.legal),
             Err(_) => Status::WriteFault,
         },
         Err(Fault::Read) => tell(sink, Status::ReadFault, b"read fault\n"),

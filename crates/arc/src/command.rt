@@ -1,5 +1,5 @@
 ghost use Rattle.std.specs.Prelude.{◌≡◌, IfSome};
-ghost use Rattle.arc.specs.Commands.{command_of, script_asked, CountFits};
+ghost use Rattle.arc.specs.Commands.{command_of, one_word, script_asked, CountFits};
 
 use crate::number::long_number;
 use arc_text::number_in;
@@ -39,6 +39,8 @@ impl Arg {
 pub enum Command {
     /// Reads a script and writes the report and the history of its replay.
     Replay,
+    /// Reads a history, alone or behind a report, and says whether its events are legal.
+    Check,
     /// Writes the generated script of `count` operations, 1 to 100,000, that these numbers give.
     Script { count: u32, start: u64 },
 }
@@ -56,19 +58,26 @@ fn script_asked(count: &[u8], start: &[u8]) -> Option<Command>
     }
 }
 
+fn one_word(name: &[u8]) -> Option<Command>
+    ensures command { result ≡ one_word name.now }
+    ensures fits { IfSome result CountFits }
+{
+    if name == b"replay".as_slice() {
+        Some(Command::Replay)
+    } else if name == b"check".as_slice() {
+        Some(Command::Check)
+    } else {
+        None
+    }
+}
+
 /// The command of these words, or None exactly where they are no row of the table of words.
 pub fn command_of(words: &[Arg]) -> Option<Command>
     ensures command { result ≡ command_of words.now }
     ensures fits { IfSome result CountFits }
 {
     match words {
-        [name] => {
-            if name.bytes() == b"replay".as_slice() {
-                Some(Command::Replay)
-            } else {
-                None
-            }
-        }
+        [name] => one_word(name.bytes()),
         [name, count, start] => {
             if name.bytes() == b"script".as_slice() {
                 script_asked(count.bytes(), start.bytes())

@@ -1,24 +1,35 @@
-ghost use Rattle.std.specs.Prelude.{◌≡◌, ◌≢◌, ◌≤◌, length, IfOk, IfErr, OnOk};
+ghost use Rattle.std.specs.Prelude.{◌≡◌, ◌≢◌, ◌≤◌, true, false, Some, length, IfOk, IfErr, OnOk};
 ghost use Rattle.std.specs.Io.KnownBytes.{IsAtEnd};
 ghost use Rattle.arc_io.specs.Moved.{TookAtMost};
 ghost use Rattle.arc_script.specs.Valid.{IsScript};
 ghost use Rattle.arc_script.specs.Canonical.{canonical};
 ghost use Rattle.arc_script.specs.Storm.{storm_script};
 ghost use Rattle.arc_ops.specs.Served.{IsServed};
-ghost use Rattle.arc.specs.Commands.{CountFits};
-ghost use Rattle.arc.specs.Outputs.{TellsReplay, TellsOf, IsOutput, RefusesText, IsCause};
+ghost use Rattle.arc.specs.Commands.{CountFits, reads, limit_of};
+ghost use Rattle.arc.specs.Outputs.{TellsReplay, TellsOf, illegal_number, legal_text, illegal_text, TellsVerdict, IsOutput, RefusesText, IsCause};
 
 use crate::command::Command;
+use arc_check::{CheckFault, Verdict, check};
 use arc_io::{InFault, Source, read_all};
-use arc_model::Memory;
+use arc_model::{Illegal, Memory};
 use arc_ops::is_served;
 use arc_plain::replay_all;
 use arc_report::{history_text, report_text};
 use arc_script::{ReadFault, Script, read_script, storm, write_script};
-use std::alloc::Global;
+use std::alloc::{AllocError, Global};
 
 /// The most bytes of a script's text.
 pub const LIMIT: usize = 8_388_608;
+
+/// The most bytes of a text that holds a history.
+pub const HISTORY_LIMIT: usize = 67_108_864;
+
+/// What a command writes, and whether what it judged is legal.
+#[derive(Debug, Drop)]
+pub struct Output {
+    pub text: Vec<u8>,
+    pub legal: bool,
+}
 
 /// Why a command has nothing to write.
 #[derive(Clone, Copy, Debug, PartialEq, Eq)]
@@ -46,7 +57,7 @@ fn replay_text(alloc: Global, script: &Script) -> Result<Vec<u8>, Memory>
 fn output_of_text(alloc: Global, text: &[u8]) -> Result<Vec<u8>, Fault>
     requires { length text.now ≤ LIMIT }
     ensures output { IfOk result (λ v. TellsOf text.now v.items) }
-    ensures refused { IfErr result (λ e. RefusesText e text.now) }
+    ensures refused { IfErr result (λ e. RefusesText Command.Replay e text.now) }
 {
     let script = match read_script(alloc, text) {
         Ok(script) => script,
@@ -72,29 +83,108 @@ fn script_text(alloc: Global, count: u32, start: u64) -> Result<Vec<u8>, Memory>
     write_script(alloc, &script)
 }
 
-/// What the command writes. Only `replay` reads from the source.
+/// The number of what is wrong with an event, 1 to 6.
+fn illegal_number(why: Illegal) -> u32
+    ensures { result ≡ illegal_number why }
+{
+    match why {
+        Illegal::NotHeld => 1,
+        Illegal::NoSuchObject => 2,
+        Illegal::Taken => 3,
+        Illegal::NotTaken => 4,
+        Illegal::WrongAnswer => 5,
+        Illegal::Duty => 6,
+    }
+}
+
+fn legal_line(alloc: Global, events: u32) -> Result<Vec<u8>, AllocError>
+    ensures { IfOk result (λ v. v.items ≡ legal_text events) }
+{
+    let line = format!(in alloc; "legal {events}\n")?;
+    line.as_bytes().to_vec(alloc)
+}
+
+fn illegal_line(alloc: Global, line: u32, why: Illegal) -> Result<Vec<u8>, AllocError>
+    ensures { IfOk result (λ v. v.items ≡ illegal_text line why) }
+{
+    let reason = illegal_number(why);
+    let line = format!(in alloc; "illegal line {line} reason {reason}\n")?;
+    line.as_bytes().to_vec(alloc)
+}
+
+/// The line that tells the verdict on the history that the text holds.
+fn verdict_line(alloc: Global, text: &[u8]) -> Result<Output, Fault>
+    requires { length text.now ≤ HISTORY_LIMIT }
+    ensures output { IfOk result (λ o. TellsVerdict text.now o.legal o.text.items) }
+    ensures refused { IfErr result (λ e. RefusesText Command.Check e text.now) }
+{
+    match check(alloc, text) {
+        Ok(Verdict::Legal { events }) => match legal_line(alloc, events) {
+            Ok(text) => Ok(Output { text, legal: true }),
+            Err(_) => Err(Fault::Memory),
+        },
+        Ok(Verdict::Illegal { line, why }) => match illegal_line(alloc, line, why) {
+            Ok(text) => Ok(Output { text, legal: false }),
+            Err(_) => Err(Fault::Memory),
+        },
+        Err(CheckFault::Refused { line, why }) => Err(Fault::Refused { line, why }),
+        Err(CheckFault::Memory) => Err(Fault::Memory),
+    }
+}
+
+/// The verdict on what is left in the source.
+fn judged<S: Source>(alloc: Global, source: &mut S) -> Result<Output, Fault>
+    ensures output { IfOk result (λ o. IsOutput Command.Check (S.left source.old) o.legal o.text.items) }
+    ensures fault { IfErr result (λ e. IsCause Command.Check e (S.left source.old) (S.left source.new) (S.faults source.old) (S.faults source.new)) }
+    ensures end { OnOk result (IsAtEnd (S.left source.new)) }
+    ensures within { (result ≡ Err Fault.TooLong → ⊥) → TookAtMost (S.left source.old) (S.left source.new) HISTORY_LIMIT }
+{
+    match read_all(alloc, source, HISTORY_LIMIT) {
+        Ok(text) => verdict_line(alloc, &text),
+        Err(InFault::Read) => Err(Fault::Read),
+        Err(InFault::TooLong) => Err(Fault::TooLong),
+        Err(InFault::Memory) => Err(Fault::Memory),
+    }
+}
+
+/// The replay of the script that is left in the source.
+fn replayed<S: Source>(alloc: Global, source: &mut S) -> Result<Output, Fault>
+    ensures output { IfOk result (λ o. IsOutput Command.Replay (S.left source.old) o.legal o.text.items) }
+    ensures fault { IfErr result (λ e. IsCause Command.Replay e (S.left source.old) (S.left source.new) (S.faults source.old) (S.faults source.new)) }
+    ensures end { OnOk result (IsAtEnd (S.left source.new)) }
+    ensures within { (result ≡ Err Fault.TooLong → ⊥) → TookAtMost (S.left source.old) (S.left source.new) LIMIT }
+{
+    match read_all(alloc, source, LIMIT) {
+        Ok(text) => match output_of_text(alloc, &text) {
+            Ok(text) => Ok(Output { text, legal: true }),
+            Err(fault) => Err(fault),
+        },
+        Err(InFault::Read) => Err(Fault::Read),
+        Err(InFault::TooLong) => Err(Fault::TooLong),
+        Err(InFault::Memory) => Err(Fault::Memory),
+    }
+}
+
+/// What the command writes. `script` reads nothing from the source.
 pub fn output_of<S: Source>(
     alloc: Global,
     command: Command,
     source: &mut S,
-) -> Result<Vec<u8>, Fault>
+) -> Result<Output, Fault>
     requires { CountFits command }
-    ensures output { IfOk result (λ v. IsOutput command (S.left source.old) v.items) }
-    ensures fault { IfErr result (λ e. IsCause e (S.left source.old) (S.left source.new) (S.faults source.old) (S.faults source.new)) }
-    ensures end { OnOk result (command ≡ Command.Replay → IsAtEnd (S.left source.new)) }
-    ensures reading { IfErr result (λ e. e ≢ Fault.Memory → command ≡ Command.Replay) }
-    ensures within { (result ≡ Err Fault.TooLong → ⊥) → TookAtMost (S.left source.old) (S.left source.new) LIMIT }
-    ensures unread { command ≢ Command.Replay → source.new ≡ source.old }
+    ensures output { IfOk result (λ o. IsOutput command (S.left source.old) o.legal o.text.items) }
+    ensures fault { IfErr result (λ e. IsCause command e (S.left source.old) (S.left source.new) (S.faults source.old) (S.faults source.new)) }
+    ensures end { OnOk result (reads command ≡ true → IsAtEnd (S.left source.new)) }
+    ensures reading { IfErr result (λ e. e ≢ Fault.Memory → reads command ≡ true) }
+    ensures judging { IfOk result (λ o. o.legal ≡ false → command ≡ Command.Check) }
+    ensures within { (result ≡ Err Fault.TooLong → ⊥) → TookAtMost (S.left source.old) (S.left source.new) (limit_of (Some command)) }
+    ensures unread { reads command ≡ false → source.new ≡ source.old }
 {
     match command {
-        Command::Replay => match read_all(alloc, source, LIMIT) {
-            Ok(text) => output_of_text(alloc, &text),
-            Err(InFault::Read) => Err(Fault::Read),
-            Err(InFault::TooLong) => Err(Fault::TooLong),
-            Err(InFault::Memory) => Err(Fault::Memory),
-        },
+        Command::Replay => replayed(alloc, source),
+        Command::Check => judged(alloc, source),
         Command::Script { count, start } => match script_text(alloc, count, start) {
-            Ok(text) => Ok(text),
+            Ok(text) => Ok(Output { text, legal: true }),
             Err(Memory) => Err(Fault::Memory),
         },
     }

@@ -266,3 +266,22 @@ fn a_word_that_is_no_text_is_handed_on_as_one_byte(rt: HostRuntime) -> Result<()
     assert_eq!(rt; words[2].bytes(), b"?".as_slice());
     Ok(())
 }
+
+#[test]
+fn a_history_is_judged(rt: HostRuntime) -> Result<(), Fail> {
+    let alloc = rt.alloc();
+    let want = (Status::Done, b"legal 4\n".as_slice());
+    check(&rt, alloc, b"check", SMALLEST_LIFE_REPLAYED, (0, 0), want)?;
+    let want = (Status::Done, b"legal 6\n".as_slice());
+    check(&rt, alloc, b"check", A_COPY_REPLAYED, (0, 0), want)?;
+    let early =
+        b"history 1\nslots 1\nentries 1\ncaps 1 2 3\nclass Node\nthreads 1\nevents\n1 1 new 1 Node 0\n2 1 vacate 0\ndone\n";
+    let want = (Status::NotLegal, b"illegal line 9 reason 6\n".as_slice());
+    check(&rt, alloc, b"check", early, (0, 0), want)?;
+    let want = (Status::WriteFault, b"illegal li".as_slice());
+    check(&rt, alloc, b"check", early, (0, 2), want)?;
+    let want = (Status::Refused, b"refused line 2 reason 2\n".as_slice());
+    check(&rt, alloc, b"check", b"history 1", (0, 0), want)?;
+    let want = (Status::ReadFault, b"read fault\n".as_slice());
+    check(&rt, alloc, b"check", early, (3, 0), want)
+}

@@ -1,5 +1,10 @@
-use Rattle.std.proofs.Common.{ℕ, List, subst, ◌∙◌}
-use Rattle.arc.specs.Statuses.{Sends}
+use Rattle.std.proofs.Common.{◌≡◌, ℕ, List, Some, inl, ap, subst, sym, ◌∙◌}
+use Rattle.std.specs.Io.KnownBytes.{Appends}
+use Rattle.arc_model.proofs.Basics.{Some-inj}
+use Rattle.arc.specs.Commands.{command_of}
+use Rattle.arc.proofs.Printed.{prints_schedule, prints_once, prints_loads, prints_slots, prints_entries}
+use Rattle.arc.specs.Statuses.{Sends, ended}
+use Rattle.arc.proofs.Judged.{told_legal, not_refused}
 use Rattle.arc.proofs.calls.arc_plain_top.Goals as goal
 
 pub returns-in-Ok-refused_line-clause-refused : goal.returns-in-Ok-refused_line-clause-refused
@@ -9,9 +14,52 @@ returns-in-Ok-refused_line-clause-refused g c = λ _.
     let old = c.args.sink.now in
     let new = c.tell-in-Ok-refused_line.new.sink in
     let sent = λ (text : List ℕ). Sends (taken old) (taken new) (faults old) (faults new) text in
-    let cause = rw c.in-Err-Refused.field-0-is at c.in-Err-Refused.ensures.fault in (
+    let cause = rw c.in-Err-Refused.field-0-is at c.in-Err-Refused.ensures.fault in
+    let known : command_of c.args.words.now ≡ Some c.in-Some.command = sym c.command_of.ensures.command ∙ c.in-Some.is in
+    rw known (
       c.in-Err-Refused.line,
       c.in-Err-Refused.why,
       cause.0,
       subst sent (c.as_bytes.ensures.value ∙ c.in-Ok-refused_line.ensures) c.tell-in-Ok-refused_line.ensures.sent,
     )
+
+pub returns-in-Ok-write_all-clause-scheduled : goal.returns-in-Ok-write_all-clause-scheduled
+returns-in-Ok-write_all-clause-scheduled g c = λ done is.
+    let sent = λ (text : List ℕ). Appends (g.K.Sink.taken c.args.sink.now) (g.K.Sink.taken c.write_all.new.sink) text in
+    prints_schedule c.in-Some.command (g.S.Source.left c.args.source.now) (g.K.Sink.taken c.args.sink.now) (g.K.Sink.taken c.write_all.new.sink) c.in-Ok.output.legal c.in-Ok.output.text.items (Some-inj (c.in-Some.ensures.command ∙ is))
+    c.in-Ok.ensures.output (subst sent c.deref.ensures.value c.in-Ok-write_all.ensures.ok)
+
+pub returns-in-Ok-write_all-clause-deinited_once : goal.returns-in-Ok-write_all-clause-deinited_once
+returns-in-Ok-write_all-clause-deinited_once g c = λ done is.
+    let sent = λ (text : List ℕ). Appends (g.K.Sink.taken c.args.sink.now) (g.K.Sink.taken c.write_all.new.sink) text in
+    prints_once c.in-Some.command (g.S.Source.left c.args.source.now) (g.K.Sink.taken c.args.sink.now) (g.K.Sink.taken c.write_all.new.sink) c.in-Ok.output.legal c.in-Ok.output.text.items (Some-inj (c.in-Some.ensures.command ∙ is))
+    c.in-Ok.ensures.output (subst sent c.deref.ensures.value c.in-Ok-write_all.ensures.ok)
+
+pub returns-in-Ok-write_all-clause-loads_before : goal.returns-in-Ok-write_all-clause-loads_before
+returns-in-Ok-write_all-clause-loads_before g c = λ done is.
+    let sent = λ (text : List ℕ). Appends (g.K.Sink.taken c.args.sink.now) (g.K.Sink.taken c.write_all.new.sink) text in
+    prints_loads c.in-Some.command (g.S.Source.left c.args.source.now) (g.K.Sink.taken c.args.sink.now) (g.K.Sink.taken c.write_all.new.sink) c.in-Ok.output.legal c.in-Ok.output.text.items (Some-inj (c.in-Some.ensures.command ∙ is))
+    c.in-Ok.ensures.output (subst sent c.deref.ensures.value c.in-Ok-write_all.ensures.ok)
+
+pub returns-in-Ok-write_all-clause-slots_vacated : goal.returns-in-Ok-write_all-clause-slots_vacated
+returns-in-Ok-write_all-clause-slots_vacated g c = λ done is.
+    let sent = λ (text : List ℕ). Appends (g.K.Sink.taken c.args.sink.now) (g.K.Sink.taken c.write_all.new.sink) text in
+    prints_slots c.in-Some.command (g.S.Source.left c.args.source.now) (g.K.Sink.taken c.args.sink.now) (g.K.Sink.taken c.write_all.new.sink) c.in-Ok.output.legal c.in-Ok.output.text.items (Some-inj (c.in-Some.ensures.command ∙ is))
+    c.in-Ok.ensures.output (subst sent c.deref.ensures.value c.in-Ok-write_all.ensures.ok)
+
+pub returns-in-Ok-write_all-clause-entries_given_back : goal.returns-in-Ok-write_all-clause-entries_given_back
+returns-in-Ok-write_all-clause-entries_given_back g c = λ done is.
+    let sent = λ (text : List ℕ). Appends (g.K.Sink.taken c.args.sink.now) (g.K.Sink.taken c.write_all.new.sink) text in
+    prints_entries c.in-Some.command (g.S.Source.left c.args.source.now) (g.K.Sink.taken c.args.sink.now) (g.K.Sink.taken c.write_all.new.sink) c.in-Ok.output.legal c.in-Ok.output.text.items (Some-inj (c.in-Some.ensures.command ∙ is))
+    c.in-Ok.ensures.output (subst sent c.deref.ensures.value c.in-Ok-write_all.ensures.ok)
+
+pub returns-in-Ok-write_all-clause-replays_are_legal : goal.returns-in-Ok-write_all-clause-replays_are_legal
+returns-in-Ok-write_all-clause-replays_are_legal g c = λ is events had read wrote.
+    let sent = λ (text : List ℕ). Appends (g.K.Sink.taken c.args.sink.now) (g.K.Sink.taken c.write_all.new.sink) text in
+    let told = told_legal (g.S.Source.left c.args.source.now) events had c.in-Some.command (Some-inj (c.in-Some.ensures.command ∙ is)) c.in-Ok.output.legal c.in-Ok.output.text.items c.in-Ok.ensures.output in
+    inl (c.ended.ensures ∙ ap ended told.0, subst sent (c.deref.ensures.value ∙ told.1) c.in-Ok-write_all.ensures.ok)
+
+pub returns-in-Ok-refused_line-clause-replays_are_legal : goal.returns-in-Ok-refused_line-clause-replays_are_legal
+returns-in-Ok-refused_line-clause-replays_are_legal g c = λ is events had read wrote.
+    let cause = rw c.in-Err-Refused.field-0-is at c.in-Err-Refused.ensures.fault in
+    absurd (not_refused (g.S.Source.left c.args.source.now) events had c.in-Some.command (Some-inj (c.in-Some.ensures.command ∙ is)) c.in-Err-Refused.line c.in-Err-Refused.why cause.0)

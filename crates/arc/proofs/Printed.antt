@@ -1,0 +1,39 @@
+-- What `replay` prints keeps its promises.
+use Rattle.std.proofs.Common.{◌≡◌, ℕ, Bool, true, false, List, Option, subst}
+use Rattle.std.specs.Io.KnownBytes.{Appends}
+use Rattle.arc_script.specs.declared.script.Script.{Script}
+use Rattle.arc_script.specs.Valid.{IsScript}
+use Rattle.arc_script.proofs.Told.{read_is_script}
+use Rattle.arc_ops.specs.Served.{IsServed}
+use Rattle.arc_plain.specs.declared.replay.Replay.{Replay}
+use Rattle.arc_plain.specs.Promises.{DeinitsOnce, LoadsComeBefore, SlotsAreVacated, EntriesAreGivenBack}
+use Rattle.arc_plain.specs.Replays.{IsReplay}
+use Rattle.arc_schedule.proofs.Runs.{replays_are_schedule_runs}
+use Rattle.arc.specs.declared.command.Command.{Command}
+use Rattle.arc.specs.declared.command.Command.TheVariants as command
+use Rattle.arc.specs.Outputs.{IsOutput, TellsOf}
+use Rattle.arc.specs.Printed.{Prints, OfHistory, IsScheduledReplay}
+
+module _ (c : Command) (left old new : Option (List ℕ)) where
+  prints : (Holds : Script → Replay → Type 0) → ((script : Script) (replay : Replay) → IsScript script → IsServed script → IsReplay script replay → Holds script replay) → (legal : Bool) (out : List ℕ) →
+      c ≡ command.Replay → IsOutput c left legal out → Appends old new out → Prints Holds left old new
+  prints Holds each true out is output sent =
+      let o : IsOutput command.Replay left true out = subst (λ (x : Command). IsOutput x left true out) is output in
+      let served = o.2.served in
+      record { text = o.0; all = o.1; out = out; tells = o.2; sent = sent; holds = each served.script o.2.tells.replay (read_is_script o.0 served.script served.stands) served.served o.2.tells.of_script }
+  prints Holds each false out is output sent = absurd (subst (λ (x : Command). IsOutput x left false out) is output)
+
+  pub prints_schedule : (legal : Bool) (out : List ℕ) → c ≡ command.Replay → IsOutput c left legal out → Appends old new out → Prints IsScheduledReplay left old new
+  prints_schedule = prints IsScheduledReplay (λ script replay valid served r. replays_are_schedule_runs script r.first r.last replay.words.items replay.steps _ valid served r.run)
+
+  pub prints_once : (legal : Bool) (out : List ℕ) → c ≡ command.Replay → IsOutput c left legal out → Appends old new out → Prints (OfHistory DeinitsOnce) left old new
+  prints_once = prints (OfHistory DeinitsOnce) (λ script replay valid served r. r.history.once)
+
+  pub prints_loads : (legal : Bool) (out : List ℕ) → c ≡ command.Replay → IsOutput c left legal out → Appends old new out → Prints (OfHistory LoadsComeBefore) left old new
+  prints_loads = prints (OfHistory LoadsComeBefore) (λ script replay valid served r. r.history.loads)
+
+  pub prints_slots : (legal : Bool) (out : List ℕ) → c ≡ command.Replay → IsOutput c left legal out → Appends old new out → Prints (OfHistory SlotsAreVacated) left old new
+  prints_slots = prints (OfHistory SlotsAreVacated) (λ script replay valid served r. r.history.slots)
+
+  pub prints_entries : (legal : Bool) (out : List ℕ) → c ≡ command.Replay → IsOutput c left legal out → Appends old new out → Prints (OfHistory EntriesAreGivenBack) left old new
+  prints_entries = prints (OfHistory EntriesAreGivenBack) (λ script replay valid served r. r.history.entries)

@@ -1,0 +1,13 @@
+pub mod FewWords
+pub mod LongNumbers
+pub mod Tails
+pub mod Headings
+pub mod Openings
+pub mod WordsBack
+pub mod ActsBack
+pub mod HeadingBack
+pub mod HistoryBack
+pub mod EventsFit
+pub mod OpenedTexts
+pub mod OtherLines
+pub mod Judged

@@ -1,0 +1,145 @@
+-- The report of a replay goes before a history text.
+use Rattle.std.proofs.Common.{◌≡◌, ℕ, zero, suc, ◌-◌, ◌<◌, Bool, true, false, cond, eqb, ◌&&◌, List, [], ◌∷◌, ◌++◌, length, map, refl, sym, ap, subst, ◌∙◌, append_assoc, arith}
+use Rattle.std.specs.Prelude.{not, codes}
+use Rattle.std.specs.List.{AllByRecursion, flat_map}
+use Rattle.std.specs.Fmt.{decimal}
+use Rattle.std.proofs.lemmas.List.{length-map}
+use Rattle.std.proofs.lemmas.List.Elements.{recursion_from_All}
+use Rattle.arc_text.specs.Words.{is_name}
+use Rattle.arc_model.specs.declared.event.ObjectName.{ObjectName}
+use Rattle.arc_model.specs.declared.answer.Answer.{Answer}
+use Rattle.arc_model.specs.declared.answer.Answer.TheVariants as answer
+use Rattle.arc_rule.specs.Extents.{Extent}
+use Rattle.arc_rule.specs.Places.{extent_of}
+use Rattle.arc_rule.specs.declared.layout.Place.TheVariants as place
+use Rattle.arc_script.specs.declared.answer.Line.{Line}
+use Rattle.arc_script.specs.declared.script.ClassDecl.{ClassDecl}
+use Rattle.arc_script.specs.declared.script.Script.{Script}
+use Rattle.arc_script.specs.Valid.{name_at, class_names, IsScript}
+use Rattle.arc_ops.specs.declared.told.ThreadLines.{ThreadLines}
+use Rattle.arc_plain.specs.declared.replay.Replay.{Replay}
+use Rattle.arc_plain.specs.Named.{LineFits}
+use Rattle.arc_plain.specs.Replays.{AreEmpty, IsReplay}
+use Rattle.arc_report.specs.Names.{object_text}
+use Rattle.arc_report.specs.Lines.{answer_text, operation_text, line_text, thread_text, end_line_text, end_text, object_total, deinit_total}
+use Rattle.arc_report.specs.Order.{in_order}
+use Rattle.arc_report.specs.Words.{word_at, is_taken, is_freed, has_entry, numbers_where}
+use Rattle.arc_report.specs.Leaks.{leak_at, leak_cmp, leak_text, freed_of, freed_text}
+use Rattle.arc_report.specs.Report.{totals_text, left_text, left_total}
+use Rattle.arc_check.specs.Behind.{GoesBefore}
+use Rattle.arc_check.proofs.OtherLines.{Unbroken, none_before, both_before, each_before}
+use Rattle.arc_judged.specs.Written.{report_of}
+use Rattle.arc_judged.proofs.Lines.{joined, unbroken_test, Opens, opens_unbroken, opens_more, line_end, part, opened, decimal_opens, decimal_unbroken, name_unbroken}
+
+module _ (names : List (List ℕ)) (spelled : (i : ℕ) → i < length names → is_name (name_at names i) ≡ true) where
+  object_unbroken : (name : ObjectName) → name.class < length names → Unbroken (object_text names name)
+  object_unbroken name h =
+      joined (name_at names name.class) (35 ∷ (decimal name.thread ++ 46 ∷ decimal name.number)) (name_unbroken (name_at names name.class) (spelled name.class h))
+      (refl, joined (decimal name.thread) (46 ∷ decimal name.number) (decimal_unbroken name.thread) (refl, decimal_unbroken name.number))
+
+  answer_opens : (n : ℕ) → n ≡ length names → (line : Line) → LineFits n line → Opens (answer_text names line.answer)
+  answer_opens n e line fits = at line.answer fits
+    where
+      within : (name : ObjectName) → name.class < n → name.class < length names
+      within name h = omega arith
+
+      at : (a : Answer) → LineFits n (record { operation = 0; answer = a }) → Opens (answer_text names a)
+      at (answer.New name) h = opens_more (codes "new ") (object_text names name) (refl, refl, unbroken_test (codes "new ") refl) (object_unbroken name (within name h))
+      at answer.Full h = (refl, refl, unbroken_test (codes "full") refl)
+      at (answer.Got name) h = opens_more (codes "got ") (object_text names name) (refl, refl, unbroken_test (codes "got ") refl) (object_unbroken name (within name h))
+      at answer.Ok h = (refl, refl, unbroken_test (codes "ok") refl)
+      at answer.Nil h = (refl, refl, unbroken_test (codes "nil") refl)
+      at answer.Dead h = (refl, refl, unbroken_test (codes "dead") refl)
+      at answer.NoEntry h = (refl, refl, unbroken_test (codes "noentry") refl)
+      at answer.CountFull h = (refl, refl, unbroken_test (codes "countfull") refl)
+      at (answer.Deinit name) h = opens_more (codes "deinit ") (object_text names name) (refl, refl, unbroken_test (codes "deinit ") refl) (object_unbroken name (within name h))
+
+  operation_opens : (n : ℕ) → Opens (operation_text n)
+  operation_opens n = go (eqb n 0)
+    where
+      go : (b : Bool) → Opens (cond b (codes "end") (decimal n))
+      go true = (refl, refl, unbroken_test (codes "end") refl)
+      go false = decimal_opens n
+
+  line_goes : (n : ℕ) → n ≡ length names → (line : Line) → LineFits n line → GoesBefore (line_text names line)
+  line_goes n e line fits =
+      opened (operation_text line.operation) (32 ∷ (answer_text names line.answer ++ 10 ∷ [])) (operation_opens line.operation)
+      (part (32 ∷ []) (answer_text names line.answer ++ 10 ∷ []) (refl, tt) (part (answer_text names line.answer) (10 ∷ []) (opens_unbroken (answer_text names line.answer) (answer_opens n e line fits)) line_end))
+
+  end_line_goes : (n : ℕ) → n ≡ length names → (line : Line) → LineFits n line → GoesBefore (end_line_text names line)
+  end_line_goes n e line fits = opened (answer_text names line.answer) (10 ∷ []) (answer_opens n e line fits) line_end
+
+  thread_goes : (n : ℕ) → n ≡ length names → (t : ThreadLines) → AllByRecursion (LineFits n) t.lines → GoesBefore (thread_text names t)
+  thread_goes n e t fit =
+      let head = opened (codes "thread ") (decimal t.thread ++ 10 ∷ []) (refl, refl, unbroken_test (codes "thread ") refl) (part (decimal t.thread) (10 ∷ []) (decimal_unbroken t.thread) line_end) in
+      subst GoesBefore (ap (λ (l : List ℕ). codes "thread " ++ l) (append_assoc (decimal t.thread) (10 ∷ []) (flat_map (line_text names) t.lines)))
+      (both_before (codes "thread " ++ (decimal t.thread ++ 10 ∷ [])) (flat_map (line_text names) t.lines) head (each_before (LineFits n) (line_text names) (line_goes n e) t.lines fit))
+
+  end_goes : (n : ℕ) → n ≡ length names → (lines : List Line) → AllByRecursion (LineFits n) lines → GoesBefore (end_text names lines)
+  end_goes n e lines fit =
+      both_before (codes "end\n") (flat_map (end_line_text names) lines) (opened (codes "end") (10 ∷ []) (refl, refl, unbroken_test (codes "end") refl) line_end)
+      (each_before (LineFits n) (end_line_text names) (end_line_goes n e) lines fit)
+
+totals_go : (objects deinits leaks : ℕ) → GoesBefore (totals_text objects deinits leaks)
+totals_go objects deinits leaks =
+    opened (codes "objects ") (decimal objects ++ (codes " deinits " ++ (decimal deinits ++ (codes " leaks " ++ (decimal leaks ++ codes "\n"))))) (refl, refl, unbroken_test (codes "objects ") refl)
+    (part (decimal objects) (codes " deinits " ++ (decimal deinits ++ (codes " leaks " ++ (decimal leaks ++ codes "\n")))) (decimal_unbroken objects)
+    (part (codes " deinits ") (decimal deinits ++ (codes " leaks " ++ (decimal leaks ++ codes "\n"))) (unbroken_test (codes " deinits ") refl)
+    (part (decimal deinits) (codes " leaks " ++ (decimal leaks ++ codes "\n")) (decimal_unbroken deinits)
+    (part (codes " leaks ") (decimal leaks ++ codes "\n") (unbroken_test (codes " leaks ") refl)
+    (part (decimal leaks) (10 ∷ []) (decimal_unbroken leaks) line_end)))))
+
+-- ---- nothing is left
+
+nowhere : (test : ℕ → Bool) (n : ℕ) → ((k : ℕ) → k < n → test k ≡ false) → numbers_where test n ≡ []
+unfolding numbers_where
+nowhere test zero h = refl
+nowhere test (suc n) h =
+    let last = h n (omega arith) in
+    let before = nowhere test n (λ k below. h k (omega arith)) in
+    rw (last, before) refl
+
+left_is : (names : List (List ℕ)) (l : Extent) (words : List ℕ) → AreEmpty l words → left_text names l words ≡ []
+left_is names l words empty =
+    let taken : numbers_where (is_taken l words) l.slots ≡ [] = nowhere (is_taken l words) l.slots (λ s below. ap (λ (w : ℕ). not (eqb w 0)) (empty.counts s below)) in
+    let freed : numbers_where (is_freed l words) l.entries ≡ [] = nowhere (is_freed l words) l.entries (λ e below. ap (λ (w : ℕ). not (eqb w 0) && not (has_entry l words (word_at l words (place.Link e) - 1) e)) (empty.links e below)) in
+    ap (λ (ns : List ℕ). flat_map (leak_text names l words) (in_order leak_cmp (map (leak_at l words) ns)) ++ flat_map (freed_text l words) (freed_of l words)) taken
+    ∙ ap (λ (ns : List ℕ). flat_map (freed_text l words) ns) freed
+
+-- ---- the whole report
+
+abbrev lines_in : Script → Replay → List ℕ
+lines_in s r = flat_map (thread_text (class_names s.classes)) r.threads.items
+
+abbrev end_in : Script → Replay → List ℕ
+end_in s r = end_text (class_names s.classes) r.end.items
+
+abbrev left_in : Script → Replay → List ℕ
+left_in s r = left_text (class_names s.classes) (extent_of s.shape) r.words.items
+
+abbrev totals_in : Script → Replay → List ℕ
+totals_in s r = totals_text (object_total r.threads.items) (deinit_total r.threads.items r.end.items) (left_total (extent_of s.shape) r.words.items)
+
+pub replay_before : (s : Script) (r : Replay) → IsScript s → IsReplay s r → GoesBefore (report_of s r)
+replay_before s r valid replay =
+    both_before (codes "report 1\n") (lines_in s r ++ (end_in s r ++ (left_in s r ++ totals_in s r))) (opened (codes "report 1") (10 ∷ []) (refl, refl, unbroken_test (codes "report 1") refl) line_end)
+    (both_before (lines_in s r) (end_in s r ++ (left_in s r ++ totals_in s r)) threads (both_before (end_in s r) (left_in s r ++ totals_in s r) end (both_before (left_in s r) (totals_in s r) none
+    (totals_go (object_total r.threads.items) (deinit_total r.threads.items r.end.items) (left_total (extent_of s.shape) r.words.items)))))
+  where
+    none : GoesBefore (left_text (class_names s.classes) (extent_of s.shape) r.words.items)
+    none = subst GoesBefore (sym (left_is (class_names s.classes) (extent_of s.shape) r.words.items replay.left)) none_before
+
+    spelled : (i : ℕ) → i < length (class_names s.classes) → is_name (name_at (class_names s.classes) i) ≡ true
+    spelled = valid.heading.classes_named.names.spelled
+
+    n_is : length s.shape.classes ≡ length (class_names s.classes)
+    n_is = ap length valid.heading.of_classes ∙ length-map s.classes _ ∙ sym (length-map s.classes (λ (c : ClassDecl). c.name))
+
+    threads : GoesBefore (flat_map (thread_text (class_names s.classes)) r.threads.items)
+    threads = subst (λ (ts : List ThreadLines). GoesBefore (flat_map (thread_text (class_names s.classes)) ts)) (sym replay.threads)
+        (both_before (thread_text (class_names s.classes) (record { thread = 1; lines = replay.first.kept.lines })) []
+        (thread_goes (class_names s.classes) spelled (length s.shape.classes) n_is (record { thread = 1; lines = replay.first.kept.lines }) (recursion_from_All (LineFits (length s.shape.classes)) replay.first.kept.lines replay.lines_fit)) none_before)
+
+    end : GoesBefore (end_text (class_names s.classes) r.end.items)
+    end = end_goes (class_names s.classes) spelled (length s.shape.classes) n_is r.end.items
+        (subst (λ (ls : List Line). AllByRecursion (LineFits (length s.shape.classes)) ls) (sym replay.end) (recursion_from_All (LineFits (length s.shape.classes)) replay.last.kept.lines replay.end_fits))
