@@ -1,0 +1,10 @@
+pub mod Growing
+pub mod Running
+pub mod HandSpots
+pub mod Hands
+pub mod Invariant
+pub mod Counted
+pub mod Making
+pub mod Kept
+pub mod Upping
+pub mod Downing

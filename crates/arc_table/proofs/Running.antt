@@ -1,0 +1,52 @@
+-- The loop of a plan on the shared heap.
+use Rattle.std.proofs.Common.{◌≡◌, ℕ, Option, Some, None, refl, sym, ◌∙◌, subst}
+use Rattle.arc_model.specs.Shapes.{HeapShape}
+use Rattle.arc_rule.specs.declared.step.Step.{Step}
+use Rattle.arc_rule.specs.declared.step.Intent.{Intent}
+use Rattle.arc_rule.specs.declared.plan.Next.{Next}
+use Rattle.arc_rule.specs.declared.plan.Next.TheVariants as nexts
+use Rattle.arc_view.specs.declared.view.View.{View}
+use Rattle.arc_view.specs.Built.{IsAllowed}
+use Rattle.arc_view.specs.Steps.{Told}
+use Rattle.arc_table.specs.Runs.{MayRun, Ran}
+use Rattle.arc_table.specs.Runs.MayRun.{ends, steps_on}
+use Rattle.arc_table.specs.Runs.Ran.{ended, stepped}
+
+module _ {P A : Type 0} (takes : P → Option ℕ → Type 0) (turned : P → Option ℕ → P) (answer : P → Option ℕ → Next A) (shape : HeapShape) (intent : Intent) where
+  -- what the plan has done so far, and that it may go on
+  pub record IsUnderWay (start : P) (begun : View) (p : P) (last : Option ℕ) (v : View) : Type 0 where
+    pub may : MayRun takes turned answer shape intent p last v
+    pub so_far : (a : A) (w : View) → Ran turned answer shape intent p last v a w → Ran turned answer shape intent start None begun a w
+
+  pub may_start : (p : P) (v : View) → MayRun takes turned answer shape intent p None v → IsUnderWay p v p None v
+  may_start p v may = record { may = may; so_far = λ a w ran. ran }
+
+  step≢done : {s : Step} {a : A} → nexts.Step s ≡ nexts.Done a → ⊥
+  step≢done e = cc
+
+  step_inj : {s t : Step} → Path (Next A) (nexts.Step s) (nexts.Step t) → s ≡ t
+  step_inj e = cc
+
+  -- the plan may be given what it is given
+  pub may_take : (p : P) (last : Option ℕ) (v : View) → MayRun takes turned answer shape intent p last v → takes p last
+  may_take p last v m = elim m [ ends a t e ↦ t | steps_on s t e allowed on ↦ t ]
+
+  -- a step that it asks for is allowed
+  pub may_step : (p : P) (last : Option ℕ) (v : View) (s : Step) → MayRun takes turned answer shape intent p last v → answer p last ≡ nexts.Step s → IsAllowed shape v s intent
+  may_step p last v s m is = elim m [
+    | ends a t e ↦ absurd (step≢done (sym is ∙ e))
+    | steps_on r t e allowed on ↦ subst (λ z. IsAllowed shape v z intent) (step_inj (sym e ∙ is)) allowed
+  ]
+
+  -- after it the plan may go on
+  pub goes_on : (start : P) (begun : View) (p : P) (last : Option ℕ) (v : View) (s : Step) (found : ℕ) (w : View) → IsUnderWay start begun p last v → answer p last ≡ nexts.Step s → Told shape intent s v found w → IsUnderWay start begun (turned p last) (Some found) w
+  goes_on start begun p last v s found w u is told = record {
+    may = elim u.may [
+      | ends a t e ↦ absurd (step≢done (sym is ∙ e))
+      | steps_on r t e allowed on ↦ on found w (subst (λ z. Told shape intent z v found w) (step_inj (sym is ∙ e)) told)
+    ];
+    so_far = λ a z ran. u.so_far a z (stepped s found w is told ran);
+  }
+
+  pub comes_to : (start : P) (begun : View) (p : P) (last : Option ℕ) (v : View) (a : A) → IsUnderWay start begun p last v → answer p last ≡ nexts.Done a → Ran turned answer shape intent start None begun a v
+  comes_to start begun p last v a u is = u.so_far a v (ended is refl)

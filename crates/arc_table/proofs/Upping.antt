@@ -1,0 +1,371 @@
+-- The plan that copies a strong reference by the inline word, on the shared heap.
+use Rattle.std.proofs.Common.{◌≡◌, ◌≢◌, inl, inr, ℕ, ◌<◌, ◌≤◌, ◌==◌, Bool, false, cond, List, [], ◌∷◌, ◌++◌, length, Option, None, Some, refl, sym, ap, ◌∙◌, subst, arith, eq-eqb, ne_eqb}
+use Rattle.std.specs.Prelude.{slice_get}
+use Rattle.std.specs.Option.{unwrap_or}
+use mathlib.Core.Logic.{dite}
+use native.Mathlib.Decide.{ℕ_discrete}
+use Rattle.arc_bits.specs.declared.packing.Inline.{Inline}
+use Rattle.arc_bits.specs.declared.packing.Word.TheVariants.{Counts, Slow}
+use Rattle.arc_bits.specs.Words.{CountsFit, IsWordOf, unpacked, counts_word}
+use Rattle.arc_bits.specs.Moves.{strong_more}
+use Rattle.arc_bits.proofs.Unpacking.{unpacked-packed}
+use Rattle.arc_model.specs.declared.event.Act.{Act}
+use Rattle.arc_model.specs.declared.shape.Kind.TheVariants as kinds
+use Rattle.arc_model.specs.Shapes.{HeapShape}
+use Rattle.arc_model.specs.Heaps.{Hand, Strongs, Object, Heap}
+use Rattle.arc_model.specs.Holders.{is_empty}
+use Rattle.arc_model.specs.History.{History, heap_after, IsLegal}
+use Rattle.arc_model.specs.Lookup.{spot}
+use Rattle.arc_model.specs.WellFormed.{IsWhole, tally}
+use Rattle.arc_model.specs.WellFormed.IsWhole.{live, deiniting, deinited, vacating, going, freed, dead}
+use Rattle.arc_model.proofs.Basics.{in-not_empty}
+use Rattle.arc_model.proofs.Courses.{well_formed}
+use Rattle.arc_model.proofs.Tally.{clash}
+use Rattle.arc_rule.specs.Places.{extent_of}
+use Rattle.arc_rule.specs.declared.layout.Place.TheVariants.{Count}
+use Rattle.arc_rule.specs.Shown.{Says, ShowsCounts, IsHeader, counts_in}
+use Rattle.arc_view.specs.Holding.{At}
+use Rattle.arc_view.specs.Rule.{InShape, IsSized, IsWithin}
+use Rattle.arc_view.proofs.Held.{hand_listed, stays_after}
+use Rattle.arc_view.proofs.Strongs.{slot_found}
+use Rattle.arc_view.proofs.Within.{each_at}
+use Rattle.arc_plan.specs.Attempts.{IsCountWord}
+use Rattle.arc_model.specs.declared.event.Act.TheVariants as acts
+use Rattle.arc_model.specs.declared.event.Origin.TheVariants as origins
+use Rattle.arc_model.specs.Holders.{is_number}
+use Rattle.arc_model.specs.History.{next_hand}
+use Rattle.arc_model.proofs.Basics.{None≢Some}
+use Rattle.arc_model.proofs.Others.{others_leave}
+use Rattle.arc_rule.specs.declared.step.Step.{Step}
+use Rattle.arc_rule.specs.declared.step.Step.TheVariants.{Load, Exchange}
+use Rattle.arc_rule.specs.declared.step.Intent.{Intent}
+use Rattle.arc_rule.specs.declared.step.Intent.TheVariants as intents
+use Rattle.arc_rule.specs.declared.layout.Place.{Place}
+use Rattle.arc_rule.specs.declared.plan.Next.{Next}
+use Rattle.arc_rule.specs.declared.plan.Next.TheVariants as nexts
+use Rattle.arc_rule.specs.Places.{number}
+use Rattle.arc_rule.proofs.Places.{place_at-number}
+use Rattle.arc_view.specs.declared.view.Mark.{Mark}
+use Rattle.arc_view.specs.declared.view.Working.{Working}
+use Rattle.arc_view.specs.declared.view.View.{View}
+use Rattle.arc_view.specs.Views.{made_in}
+use Rattle.arc_view.specs.Holding.{heap_of}
+use Rattle.arc_view.specs.Kinds.{act_of, event_list, kind_at, loaded_act, working_loaded, working_after}
+use Rattle.arc_view.specs.Built.{IsAllowed}
+use Rattle.arc_view.specs.Steps.{Told}
+use Rattle.arc_view.specs.Calls.{Grew, Called}
+use Rattle.arc_model.proofs.Own.{own_gains}
+use Rattle.arc_table.specs.Strangers.{SeesNoStranger}
+use Rattle.arc_table.specs.Tokens.{IsStrongOf}
+use Rattle.arc_table.proofs.Counted.{told_alone}
+use Rattle.arc_table.proofs.Making.{grew_on, next_none}
+use Rattle.arc_view.proofs.Held.{Held, held_stays, strong≢weak}
+use Rattle.arc_plan.specs.declared.attempt.At.{At as At'}
+use Rattle.arc_plan.specs.declared.attempt.At.TheVariants as ats
+use Rattle.arc_plan.specs.declared.attempt.Choice.{Choice}
+use Rattle.arc_plan.specs.declared.attempt.Choice.TheVariants.{Tell, Write}
+use Rattle.arc_plan.specs.declared.strong.StrongUpAnswer.{StrongUpAnswer}
+use Rattle.arc_plan.specs.declared.strong.StrongUpAnswer.TheVariants as ups
+use Rattle.arc_plan.specs.Attempts.{CappedAttempt, turned_at, exchanging, chosen, left_at}
+use Rattle.arc_plan.specs.Strong.{strong_up_row, strong_up_takes, strong_up_turned, strong_up_answer}
+use Rattle.arc_table.specs.Runs.{MayRun, Ran}
+use Rattle.arc_table.proofs.Growing.{acts_of, told_grew}
+use Rattle.arc_table.proofs.Invariant.{Keeps, may_run, has_run}
+
+-- what the inline word of an object with a strong reference shows: its counts, with room or at the cap, or its entry
+pub data ShowsStrong (shape : HeapShape) (o : Object) (w : ℕ) : Type 0 where
+  counts : (c : Inline) → unpacked w ≡ Some (Counts c) → IsWordOf (Counts c) w → c.deiniting ≡ false → c.strong_extra ≤ shape.caps.strong → 1 ≤ c.unowned → o.entry ≡ None → ShowsStrong shape o w
+  slow : (e : ℕ) → unpacked w ≡ Some (Slow e) → o.entry ≡ Some e → e < shape.entries → ShowsStrong shape o w
+
+tally_some : (xs : List Rattle.arc_model.specs.Heaps.Holder) → tally Strongs xs ≡ 1 → 1 ≤ length xs
+tally_some [] t = absurd (omega (arith, t))
+tally_some (x ∷ xs) t = omega arith
+
+-- a live object has an unowned holder
+live_unowned : (o : Object) → is_empty o.strong ≡ false → IsWhole o → 1 ≤ length o.unowned
+live_unowned o some (live s d l a b p) = tally_some o.unowned a
+live_unowned o some (deiniting s d l a b p) = tally_some o.unowned a
+live_unowned o some (deinited s d l a u b p) = clash (is_empty o.strong) s some
+live_unowned o some (vacating s d l u b p) = clash (is_empty o.strong) s some
+live_unowned o some (going s d l u b e) = clash (is_empty o.strong) s some
+live_unowned o some (freed s d l u b w e) = clash (is_empty o.strong) s some
+live_unowned o some (dead s d l u w e) = clash (is_empty o.strong) s some
+
+-- the word that a step finds in the slot of an object of which p has a strong hand
+pub shows_strong : (shape : HeapShape) (h : History) (p k i s w : ℕ) (o : Object) → IsSized shape → IsLegal shape h → InShape shape h → spot (Hand p k) (heap_after h) ≡ Some (record { place = i; kind = kinds.Strong }) → At (heap_after h) i o → o.slot ≡ Some s
+    → Says shape (heap_after h) (Count s) w → ShowsStrong shape o w
+shows_strong shape h p k i s w o sized legal within hand here slot says = go o.entry refl (subst (λ m. ShowsCounts shape m w) (slot_found shape h i s o legal here slot) says)
+  where
+    some : is_empty o.strong ≡ false
+    some = in-not_empty (Hand p k) o.strong (hand_listed shape h p k i kinds.Strong o legal hand here)
+
+    unowned : 1 ≤ length o.unowned
+    unowned = live_unowned o some ((well_formed shape h legal).whole i o here)
+
+    go : (m : Option ℕ) → o.entry ≡ m → IsHeader shape o m w → ShowsStrong shape o w
+    go None none (is, strong_cap, unowned_cap) =
+        let fits : CountsFit (counts_in o) = record {
+          strong = (let cap = sized.caps_fit.strong_fits in omega (arith, strong_cap, cap));
+          unowned = (let cap = sized.caps_fit.unowned_fits.1 in omega (arith, unowned_cap, cap));
+          some = omega (arith, unowned);
+        } in
+        counts (counts_in o) (ap unpacked is ∙ unpacked-packed (Counts (counts_in o)) fits) (record { packable = fits; packed_is = sym is }) some (omega (arith, strong_cap)) unowned none
+    go (Some e) entry is =
+        let lt : e < shape.entries = (each_at (IsWithin shape) (heap_after h).objects i o within.within here).1 e entry in
+        slow e (ap unpacked is ∙ unpacked-packed (Slow e) (let few = sized.shape_fits.entries_fit.1 in omega (arith, lt, few))) entry lt
+
+-- which the attempt may be given
+pub is_count_word : (shape : HeapShape) (o : Object) (w : ℕ) → ShowsStrong shape o w → IsCountWord shape.entries (λ c. c.strong_extra ≤ shape.caps.strong) (unpacked w)
+is_count_word shape o w (counts c is word lives cap unowned none) = subst (IsCountWord shape.entries (λ c. c.strong_extra ≤ shape.caps.strong)) (sym is) (unowned, cap)
+is_count_word shape o w (slow e is entry lt) = subst (IsCountWord shape.entries (λ c. c.strong_extra ≤ shape.caps.strong)) (sym is) lt
+
+module _ (shape : HeapShape) (k s : ℕ) (v0 : View) (sized : IsSized shape) (lt : s < shape.slots) (free : v0.working.owes ≡ None) (i : ℕ) (o0 : Object)
+    (hand0 : spot (Hand v0.number k) (heap_of v0) ≡ Some (record { place = i; kind = kinds.Strong })) (here0 : At (heap_of v0) i o0) (slot0 : o0.slot ≡ Some s) where
+  abbrev count_at : ℕ
+  count_at = number (extent_of shape) (Count s)
+
+  abbrev copy : Intent
+  copy = intents.Copy (origins.Hand k)
+
+  abbrev look : Step
+  look = Load count_at
+
+  abbrev act : Act
+  act = acts.Copy (origins.Hand k) (next_hand v0.number v0.seen)
+
+  -- the hand stands in the strong list of object i, in the slot
+  pub record Holding (v : View) : Type 0 where
+    pub number : v.number ≡ v0.number
+    pub working : v.working ≡ v0.working
+    pub o : Object
+    pub hand : spot (Hand v.number k) (heap_of v) ≡ Some (record { place = i; kind = kinds.Strong })
+    pub here : At (heap_of v) i o
+    pub slot : o.slot ≡ Some s
+    pub is_class : o.class ≡ o0.class
+
+  holding0 : Holding v0
+  holding0 = record { number = refl; working = refl; o = o0; hand = hand0; here = here0; slot = slot0; is_class = refl }
+
+  -- a load of the inline word shows no event
+  may_look : (v : View) → Holding v → IsAllowed shape v look copy
+  may_look v g = ((Count s, refl, lt, ap (λ (w : Working). w.owes) g.working ∙ free, inl (i, g.o, g.here, g.slot, inl (k, kinds.Strong, g.hand))), inr (ap kind_at g.hand))
+
+  look_none : (v : View) (x : ℕ) → act_of shape v look copy x ≡ None
+  look_none v x = ap (λ (q : Place). loaded_act shape v q x copy) (place_at-number (extent_of shape) (Count s) lt)
+
+  look_works : (v : View) (x : ℕ) → working_after shape v look copy x ≡ v.working
+  look_works v x = ap (λ (q : Place). working_loaded v.working q x copy) (place_at-number (extent_of shape) (Count s) lt)
+
+  -- after a step of no event that leaves what is under way, the hand stands where it stood
+  pub record Looked (x : ℕ) (v : View) : Type 0 where
+    pub grew : Grew [] 1 v0 v
+    pub legal : IsLegal shape v.seen
+    pub in_shape : InShape shape v.seen
+    pub holding : Holding v
+    pub shows : ShowsStrong shape holding.o x
+    pub mark : Mark
+    pub trail : v.trail ≡ mark ∷ v0.trail
+    pub step : mark.step ≡ look
+    pub found : mark.found ≡ x
+
+  looked : (x : ℕ) (v : View) → Told shape copy look v0 x v → Looked x v
+  looked x v t =
+      let h = t.between ++ v0.seen in
+      let none = look_none v0 x in
+      let seen : v.seen ≡ h = ap (λ (u : View). u.seen) t.after ∙ ap (λ a. event_list v0.number a ++ h) none in
+      let legal : IsLegal shape h = subst (IsLegal shape) seen t.legal in
+      let within : InShape shape h = subst (InShape shape) seen t.in_shape in
+      let held : Held kinds.Strong i o0 (heap_after h) = held_stays shape v0.number k i kinds.Strong o0 v0.seen t.between legal t.others hand0 here0 in
+      let hand : spot (Hand v0.number k) (heap_after h) ≡ Some (record { place = i; kind = kinds.Strong }) = (others_leave shape v0.number v0.seen t.between legal t.others).hands k ∙ hand0 in
+      let slot = held.slot strong≢weak ∙ slot0 in
+      let says : Says shape (heap_after h) (Count s) x = (t.read (Count s) tt lt refl).says (λ u. u) in
+      let number_is : v.number ≡ v0.number = ap (λ (u : View). u.number) t.after in record {
+        grew = subst (λ a. Grew (acts_of a) 1 v0 v) none (told_grew shape copy look v0 x v t);
+        legal = t.legal;
+        in_shape = t.in_shape;
+        holding = record {
+          number = number_is;
+          working = ap (λ (u : View). u.working) t.after ∙ look_works v0 x;
+          o = held.q;
+          hand = (λ j. spot (Hand (number_is j) k) (heap_after (seen j))) ∙ hand;
+          here = ap (λ l. slice_get (heap_after l).objects i) seen ∙ held.here;
+          slot = slot;
+          is_class = held.class;
+        };
+        shows = shows_strong shape h v0.number k i s x held.q sized legal within hand held.here slot says;
+        mark = record { step = look; found = x; length = length h; made = made_in v0.number h };
+        trail = ap (λ (u : View). u.trail) t.after;
+        step = refl;
+        found = refl;
+      }
+
+  -- the counts that were read have room
+  may_copy : (x : ℕ) (v : View) (c : Inline) → Looked x v → IsWordOf (Counts c) x → c.deiniting ≡ false → c.strong_extra < shape.caps.strong → IsAllowed shape v (Exchange count_at x (counts_word (strong_more c))) copy
+  may_copy x v c l word lives room = let g = l.holding in (
+    (Count s, refl, lt, ap (λ (w : Working). w.owes) g.working ∙ free, (kinds.Strong, i, g.o, (g.hand, tt), g.here, ap (λ m. is_number m s) g.slot ∙ eq-eqb s s refl, (c, word, lives, room, refl))),
+    ap kind_at g.hand,
+  )
+
+  abbrev row : ℕ → Choice StrongUpAnswer
+  row x = strong_up_row shape.caps.strong (unpacked x)
+
+  -- what the plan makes of the word that was read
+  data Row (x : ℕ) (v : View) (l : Looked x v) : Type 0 where
+    capped : (c : Inline) → IsWordOf (Counts c) x → c.deiniting ≡ false → c.strong_extra ≡ shape.caps.strong → row x ≡ Tell ups.AtCap → Row x v l
+    copies : (c : Inline) → IsWordOf (Counts c) x → c.deiniting ≡ false → c.strong_extra < shape.caps.strong → row x ≡ Write (counts_word (strong_more c)) → Row x v l
+    aside : (e : ℕ) → l.holding.o.entry ≡ Some e → e < shape.entries → row x ≡ Tell (ups.Slow e) → Row x v l
+
+  row_of : (x : ℕ) (v : View) (l : Looked x v) → Row x v l
+  row_of x v l = go l.shows
+    where
+      by : Bool → Bool → Inline → Choice StrongUpAnswer
+      by d t c = cond d (Tell ups.Dead) (cond t (Tell ups.AtCap) (Write (counts_word (strong_more c))))
+
+      go : ShowsStrong shape l.holding.o x → Row x v l
+      go (counts c is word lives cap unowned none) = dite (ℕ_discrete c.strong_extra shape.caps.strong)
+          (λ e. capped c word lives e (ap (strong_up_row shape.caps.strong) is ∙ (λ j. by (lives j) (eq-eqb c.strong_extra shape.caps.strong e j) c)))
+          (λ ne. copies c word lives (omega (arith, cap, ne)) (ap (strong_up_row shape.caps.strong) is ∙ (λ j. by (lives j) (ne_eqb c.strong_extra shape.caps.strong ne j) c)))
+      go (slow e is entry within) = aside e entry within (ap (strong_up_row shape.caps.strong) is)
+
+  abbrev swap : ℕ → Inline → Step
+  swap x c = Exchange count_at x (counts_word (strong_more c))
+
+  -- an exchange for the counts that were read found a word
+  pub record Tried (seen found : ℕ) (w : View) : Type 0 where
+    pub v : View
+    pub c : Inline
+    pub l : Looked seen v
+    pub told : Told shape copy (swap seen c) v found w
+
+  abbrev pub Outcome : StrongUpAnswer → View → Type 0
+  Outcome ups.Up w = (seen : ℕ) × Tried seen seen w
+  Outcome ups.Dead w = ⊥
+  Outcome ups.AtCap w = (x : ℕ) × (c : Inline) × Looked x w × IsWordOf (Counts c) x × (c.deiniting ≡ false) × (c.strong_extra ≡ shape.caps.strong)
+  Outcome (ups.Slow e) w = (x : ℕ) × (l : Looked x w) × (l.holding.o.entry ≡ Some e) × (e < shape.entries)
+  Outcome (ups.Again c) w = Tried c.seen c.found w × (c.found ≢ c.seen)
+
+  abbrev IsAt : At' → Option ℕ → View → Type 0
+  IsAt ats.Start last v = (last ≡ None) × (v ≡ v0)
+  IsAt ats.Loading None v = ⊥
+  IsAt ats.Loading (Some x) v = Looked x v
+  IsAt (ats.Exchanging seen new) None v = ⊥
+  IsAt (ats.Exchanging seen new) (Some f) v = Tried seen f v
+  IsAt ats.Ended last v = ⊥
+
+  abbrev plan : At' → CappedAttempt
+  plan m = record { layout = extent_of shape; slot = s; cap = shape.caps.strong; at = m }
+
+  abbrev Is : CappedAttempt → Option ℕ → View → Type 0
+  Is p last v = (m : At') × (p ≡ plan m) × IsAt m last v
+
+  takes_it : (m : At') (last : Option ℕ) (v : View) → IsAt m last v → strong_up_takes (plan m) last
+  takes_it ats.Start last v i = i.0
+  takes_it ats.Loading None v i = absurd (i)
+  takes_it ats.Loading (Some x) v l = is_count_word shape l.holding.o x l.shows
+  takes_it (ats.Exchanging seen new) None v i = absurd (i)
+  takes_it (ats.Exchanging seen new) (Some f) v i = λ e. absurd (None≢Some f (sym e))
+  takes_it ats.Ended last v i = absurd (i)
+
+  step_inj : {a b : Step} → Path (Next StrongUpAnswer) (nexts.Step a) (nexts.Step b) → a ≡ b
+  step_inj e = cc
+
+  done_inj : {a b : StrongUpAnswer} → Path (Next StrongUpAnswer) (nexts.Done a) (nexts.Done b) → a ≡ b
+  done_inj e = cc
+
+  done≢step : {X : Type 0} {a : StrongUpAnswer} {b : Step} → Path (Next StrongUpAnswer) (nexts.Done a) (nexts.Step b) → X
+  done≢step e = absurd (cc)
+
+  step≢done : {X : Type 0} {a : StrongUpAnswer} {b : Step} → Path (Next StrongUpAnswer) (nexts.Step b) (nexts.Done a) → X
+  step≢done e = absurd (cc)
+
+  abbrev Stepping : At' → View → At' → Step → Type 0
+  Stepping m v n a = IsAllowed shape v a copy × (left_at n < left_at m) × ((found : ℕ) (w : View) → Told shape copy a v found w → Is (plan n) (Some found) w)
+
+  looks : Stepping ats.Start v0 ats.Loading look
+  looks = (may_look v0 holding0, omega arith, λ found w told. (ats.Loading, refl, looked found w told))
+
+  after_look : (x : ℕ) (v : View) (a : Step) → Looked x v → chosen count_at x (row x) ≡ nexts.Step a → Stepping ats.Loading v (exchanging x (row x)) a
+  after_look x v a l = elim (row_of x v l) [
+    | capped c word lives full is ↦ subst (λ r. chosen count_at x r ≡ nexts.Step a → Stepping ats.Loading v (exchanging x r) a) (sym is) (λ e. done≢step e)
+    | aside e entry within is ↦ subst (λ r. chosen count_at x r ≡ nexts.Step a → Stepping ats.Loading v (exchanging x r) a) (sym is) (λ e. done≢step e)
+    | copies c word lives room is ↦ subst (λ r. chosen count_at x r ≡ nexts.Step a → Stepping ats.Loading v (exchanging x r) a) (sym is)
+        (λ e. subst (Stepping ats.Loading v (ats.Exchanging x (counts_word (strong_more c)))) (step_inj e)
+        (may_copy x v c l word lives room, omega arith, λ found w told. (ats.Exchanging x (counts_word (strong_more c)), refl, record { v = v; c = c; l = l; told = told })))
+  ]
+
+  look_ends : (x : ℕ) (v : View) (a : StrongUpAnswer) → Looked x v → chosen count_at x (row x) ≡ nexts.Done a → Outcome a v
+  look_ends x v a l = elim (row_of x v l) [
+    | capped c word lives full is ↦ subst (λ r. chosen count_at x r ≡ nexts.Done a → Outcome a v) (sym is) (λ e. subst (λ b. Outcome b v) (done_inj e) (x, c, l, word, lives, full))
+    | aside e entry within is ↦ subst (λ r. chosen count_at x r ≡ nexts.Done a → Outcome a v) (sym is) (λ d. subst (λ b. Outcome b v) (done_inj d) (x, l, entry, within))
+    | copies c word lives room is ↦ subst (λ r. chosen count_at x r ≡ nexts.Done a → Outcome a v) (sym is) (λ e. step≢done e)
+  ]
+
+  swap_ends : (seen f : ℕ) (v : View) → Tried seen f v → Outcome (cond (f == seen) ups.Up (ups.Again (record { seen = seen; found = f }))) v
+  swap_ends seen f v t = dite (ℕ_discrete f seen)
+      (λ e. subst (λ b. Outcome (cond b ups.Up (ups.Again (record { seen = seen; found = f }))) v) (sym (eq-eqb f seen e)) (seen, subst (λ g. Tried seen g v) e t))
+      (λ ne. subst (λ b. Outcome (cond b ups.Up (ups.Again (record { seen = seen; found = f }))) v) (sym (ne_eqb f seen ne)) (t, ne))
+
+  steps_at : (m : At') (last : Option ℕ) (v : View) (a : Step) → IsAt m last v → strong_up_answer (plan m) last ≡ nexts.Step a → Stepping m v (turned_at row m (unwrap_or last 0)) a
+  steps_at ats.Start last v a i is = subst (λ u. Stepping ats.Start u ats.Loading a) (sym i.1) (subst (Stepping ats.Start v0 ats.Loading) (step_inj is) looks)
+  steps_at ats.Loading None v a i is = absurd (i)
+  steps_at ats.Loading (Some x) v a l is = after_look x v a l is
+  steps_at (ats.Exchanging seen new) None v a i is = absurd (i)
+  steps_at (ats.Exchanging seen new) (Some f) v a i is = done≢step is
+  steps_at ats.Ended last v a i is = absurd (i)
+
+  ends_at : (m : At') (last : Option ℕ) (v : View) (a : StrongUpAnswer) → IsAt m last v → strong_up_answer (plan m) last ≡ nexts.Done a → Outcome a v
+  ends_at ats.Start last v a i is = step≢done is
+  ends_at ats.Loading None v a i is = absurd (i)
+  ends_at ats.Loading (Some x) v a l is = look_ends x v a l is
+  ends_at (ats.Exchanging seen new) None v a i is = absurd (i)
+  ends_at (ats.Exchanging seen new) (Some f) v a i is = subst (λ b. Outcome b v) (done_inj is) (swap_ends seen f v i)
+  ends_at ats.Ended last v a i is = absurd (i)
+
+  up_keeps : Keeps strong_up_takes strong_up_turned strong_up_answer shape copy Is Outcome (λ p. left_at p.at)
+  up_keeps = record {
+    takes_it = λ p last v i. subst (λ q. strong_up_takes q last) (sym i.1) (takes_it i.0 last v i.2);
+    steps_it = λ p last v a i is. subst (λ (q : CappedAttempt). IsAllowed shape v a copy × (left_at (strong_up_turned q last).at < left_at q.at) × ((found : ℕ) (w : View) → Told shape copy a v found w → Is (strong_up_turned q last) (Some found) w)) (sym i.1)
+        (steps_at i.0 last v a i.2 (subst (λ q. strong_up_answer q last ≡ nexts.Step a) i.1 is));
+    ends_it = λ p last v a i is. ends_at i.0 last v a i.2 (subst (λ q. strong_up_answer q last ≡ nexts.Done a) i.1 is);
+  }
+
+  -- The attempt may run, and its answer has its cause: Again two differing words that were read one after the other, AtCap counts at the cap, Slow the
+  -- object's entry. It never answers Dead.
+  pub may_up : MayRun strong_up_takes strong_up_turned strong_up_answer shape copy (plan ats.Start) None v0
+  may_up = may_run strong_up_takes strong_up_turned strong_up_answer shape copy Is Outcome (λ p. left_at p.at) up_keeps (plan ats.Start) None v0 (ats.Start, refl, (refl, refl))
+
+  pub has_upped : (a : StrongUpAnswer) (w : View) → Ran strong_up_turned strong_up_answer shape copy (plan ats.Start) None v0 a w → Outcome a w
+  has_upped a w ran = has_run strong_up_takes strong_up_turned strong_up_answer shape copy Is Outcome (λ p. left_at p.at) up_keeps (plan ats.Start) None v0 a w ran (ats.Start, refl, (refl, refl))
+
+  -- Up: one more hand of the pass, a strong one of the same object
+  pub record Copied (w : View) : Type 0 where
+    pub called : Called shape (acts.Copy (origins.Hand k) (next_hand v0.number v0.seen) ∷ []) 2 v0 w
+    pub working : w.working ≡ v0.working
+    pub alone : SeesNoStranger w
+    pub strong : IsStrongOf w (next_hand v0.number v0.seen) s o0.class
+
+  pub has_copied : (seen : ℕ) (w : View) → Tried seen seen w → Copied w
+  has_copied seen w t =
+      let v = t.v in
+      let l = t.l in
+      let p = v.number in
+      let n = next_hand v.number v.seen in
+      let a : Act = acts.Copy (origins.Hand k) n in
+      let st = swap seen t.c in
+      let h = t.told.between ++ v.seen in
+      let act_is : act_of shape v st copy seen ≡ Some a = ap (λ b. cond b (Some a) None) (eq-eqb seen seen refl) in
+      let seen_is : w.seen ≡ record { thread = p; act = a } ∷ h = ap (λ (u : View). u.seen) t.told.after ∙ ap (λ b. event_list p b ++ h) act_is in
+      let legal : IsLegal shape (record { thread = p; act = a } ∷ h) = subst (IsLegal shape) seen_is t.told.legal in
+      let held : Held kinds.Strong i l.holding.o (heap_after h) = held_stays shape p k i kinds.Strong l.holding.o v.seen t.told.between legal.1 t.told.others l.holding.hand l.holding.here in
+      let hand : spot (Hand p k) (heap_after h) ≡ Some (record { place = i; kind = kinds.Strong }) = (others_leave shape p v.seen t.told.between legal.1 t.told.others).hands k ∙ l.holding.hand in
+      let q = stays_after shape (record { thread = p; act = a }) h legal i held.q held.here in
+      let busy = in-not_empty (Hand p k) held.q.strong (hand_listed shape h p k i kinds.Strong held.q legal.1 hand held.here) in
+      let next_is : n ≡ next_hand v0.number v0.seen = next_none 1 v0 v l.grew in
+      let g = grew_on [] (a ∷ []) 1 1 v0 v w l.grew (subst (λ b. Grew (acts_of b) 1 v w) act_is (told_grew shape copy st v seen w t.told)) in
+      let w_is : w.number ≡ p = ap (λ (u : View). u.number) t.told.after in
+      let came : spot (Hand w.number n) (heap_of w) ≡ Some (record { place = i; kind = kinds.Strong }) = (λ j. spot (Hand (w_is j) n) (heap_after (seen_is j))) ∙ (own_gains shape h (record { thread = p; act = a }) n legal refl ∙ hand) in record {
+        called = record { grew = subst (λ m. Grew (acts.Copy (origins.Hand k) m ∷ []) 2 v0 w) next_is g; legal = t.told.legal; in_shape = t.told.in_shape };
+        working = ap (λ (u : View). u.working) t.told.after ∙ (ap (λ b. cond b v.working v.working) (eq-eqb seen seen refl) ∙ l.holding.working);
+        alone = told_alone shape copy st v seen w t.told;
+        strong = subst (λ m. IsStrongOf w m s o0.class) next_is (i, q.q, came, ap (λ l. slice_get (heap_after l).objects i) seen_is ∙ q.here, q.slot (inl busy) ∙ (held.slot strong≢weak ∙ l.holding.slot), q.class ∙ (held.class ∙ l.holding.is_class));
+      }

@@ -1,0 +1,67 @@
+use Rattle.std.proofs.Common.{◌≡◌, ◌+◌, [], ◌∷◌, sym, ap, ◌∙◌, subst, arith, refl}
+use Rattle.arc_model.specs.declared.event.Act.TheVariants.{New, Full}
+use Rattle.arc_model.specs.History.{next_hand}
+use Rattle.arc_view.specs.Calls.{Called}
+use Rattle.arc_table.specs.Seats.{shape_of, view_of, part_view}
+use Rattle.arc_table.specs.Tokens.{IsStrongOf, last_hand}
+use Rattle.arc_table.proofs.Counted.{news_one}
+use Rattle.arc_table.proofs.Kept.{keeps_strong}
+use Rattle.arc_table.proofs.Making.{next_one}
+use Rattle.arc_table.proofs.heap.Heap.new_object.Goals as goal
+
+pub invariant_of-pass : goal.invariant_of-pass
+invariant_of-pass c =
+    let p = c.args.pass.now in
+    let v = view_of p in
+    let w = part_view c.create.new.part in
+    let shape = shape_of c.args.self.now in
+    let g = c.in-Slot.ensures.created.0.grew in
+    let n = news_one (New (next_hand v.number v.seen) c.args.class c.in-Slot.slot) (shape.slots + 1) v w g in
+    let was = p.counted in record {
+      numbered = (g.number ∙ p.numbered.0, p.numbered.1);
+      counted = omega (arith, n, was);
+      parted = g.splits ∙ p.parted;
+      alone = c.create.ensures.alone;
+    }
+
+pub invariant_of-pass-in-NoSlot : goal.invariant_of-pass-in-NoSlot
+invariant_of-pass-in-NoSlot c =
+    let p = c.args.pass.now in
+    let v = view_of p in
+    let w = part_view c.create.new.part in
+    let shape = shape_of c.args.self.now in
+    let g = c.in-NoSlot.ensures.created.0.grew in
+    let n = news_one Full (shape.slots + 1) v w g in
+    let was = p.counted in record {
+      numbered = (g.number ∙ p.numbered.0, p.numbered.1);
+      counted = omega (arith, n, was);
+      parted = g.splits ∙ p.parted;
+      alone = c.create.ensures.alone;
+    }
+
+pub returns-in-Slot-clause-made : goal.returns-in-Slot-clause-made
+returns-in-Slot-clause-made c =
+    let v = view_of c.args.pass.now in
+    let w = part_view c.create.new.part in
+    let shape = shape_of c.args.self.now in
+    let s = c.in-Slot.slot in
+    let made = c.in-Slot.ensures.created in
+    let next = next_one (New (next_hand v.number v.seen) c.args.class s) (shape.slots + 1) v w made.0.grew refl in
+    let hand : last_hand c.of-at.result.value.me.0 ≡ next_hand v.number v.seen = ap (λ seat. last_hand seat.me.0) c.of-at.ensures ∙ omega (arith, next) in (
+      subst (λ k. Called shape (New k c.args.class s ∷ []) (shape.slots + 1) v w) (sym hand) made.0,
+      hand,
+      made.1,
+      subst (λ k. IsStrongOf w k s c.args.class) (sym hand) made.2,
+    )
+
+pub returns-in-Slot-clause-kept : goal.returns-in-Slot-clause-kept
+returns-in-Slot-clause-kept c =
+    let v = view_of c.args.pass.now in
+    let shape = shape_of c.args.self.now in
+    keeps_strong shape (New (next_hand v.number v.seen) c.args.class c.in-Slot.slot ∷ []) (shape.slots + 1) v (part_view c.create.new.part) c.in-Slot.ensures.created.0 (λ k. (refl, tt))
+
+pub returns-in-NoSlot-clause-kept : goal.returns-in-NoSlot-clause-kept
+returns-in-NoSlot-clause-kept c =
+    let v = view_of c.args.pass.now in
+    let shape = shape_of c.args.self.now in
+    keeps_strong shape (Full ∷ []) (shape.slots + 1) v (part_view c.create.new.part) c.in-NoSlot.ensures.created.0 (λ k. (refl, tt))

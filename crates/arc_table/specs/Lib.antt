@@ -1,0 +1,5 @@
+pub mod Seats
+pub mod Runs
+pub mod Hands
+pub mod Strangers
+pub mod Tokens

@@ -1,0 +1,65 @@
+//! The making of objects.
+ghost use Rattle.std.specs.Prelude.{◌≡◌, ◌+◌, ◌<◌, ◌≤◌, length};
+ghost use Rattle.arc_model.specs.declared.event.ObjectName.{ObjectName as Name};
+ghost use Rattle.arc_rule.specs.declared.step.Intent.TheVariants.{New};
+ghost use Rattle.arc_view.specs.Admission.{OwesNoName};
+ghost use Rattle.arc_view.specs.Rule.{news};
+ghost use Rattle.arc_table.specs.Seats.{heap_id, shape_of, part_id, part_view, pass_id, view_of};
+ghost use Rattle.arc_table.specs.Strangers.{SeesNoStranger};
+ghost use Rattle.arc_table.specs.Tokens.{IsNextName, IsCreated, IsMade, KeepsStrong};
+
+use crate::asks::Asks;
+use crate::heap::{Heap, Part, Pass};
+use crate::tokens::{Made, Strong};
+use arc_model::ObjectName;
+use arc_plan::{NewObject, NewObjectAnswer};
+use std::marker::Brand;
+use std::snapshot::Snapshot;
+
+impl Heap {
+    fn create<J: Asks>(&self, part: &mut Part, name: ObjectName) -> NewObjectAnswer
+        requires own { part_id part.old ≡ heap_id self.now }
+        requires asks { (J.intent ≡ New name.class) × (J.shape ≡ shape_of self.now) }
+        requires class { name.class < length (shape_of self.now).classes }
+        requires few { name.thread ≤ 64 }
+        requires room { news (part_view part.old).number (part_view part.old).seen < 100000 }
+        requires free { OwesNoName (part_view part.old) }
+        requires next { IsNextName (part_view part.old) name }
+        ensures same { part_id part.new ≡ part_id part.old }
+        ensures created { IsCreated (shape_of self.now) name.class (part_view part.old) (part_view part.new) result }
+        ensures working { (part_view part.new).working ≡ (part_view part.old).working }
+        ensures alone { SeesNoStranger (part_view part.new) }
+    {
+        let _sized = self.shape.slots();
+        let plan = NewObject::start(&self.layout, name);
+        self.run_as::<J, NewObject>(part, plan)
+    }
+
+    /// A new object of a class of the shape, in the first slot that is found free, with one strong reference, which is the pass's.
+    /// A pass makes at most 100,000 objects. At most as many steps as there are slots, and one. `NoSlot` where each slot was found
+    /// taken in this call. This project's own.
+    pub fn new_object(&self, pass: &mut Pass, class: u32) -> Made
+        requires own { pass_id pass.old ≡ heap_id self.now }
+        requires class { class < length (shape_of self.now).classes }
+        requires room { news (view_of pass.old).number (view_of pass.old).seen < 100000 }
+        requires free { OwesNoName (view_of pass.old) }
+        ensures same { pass_id pass.new ≡ pass_id pass.old }
+        ensures made { IsMade (shape_of self.now) class (view_of pass.old) (view_of pass.new) result }
+        ensures kept { KeepsStrong (view_of pass.old) (view_of pass.new) }
+        ensures working { (view_of pass.new).working ≡ (view_of pass.old).working }
+    {
+        let name = ObjectName {
+            class,
+            thread: pass.number,
+            number: pass.made + 1,
+        };
+        match self.create::<Brand>(&mut pass.part, name) {
+            NewObjectAnswer::Slot(slot) => {
+                pass.made += 1;
+                let at = Snapshot::of(&pass.part.seat);
+                Made::Ok(Strong { slot, at })
+            }
+            NewObjectAnswer::NoSlot => Made::NoSlot,
+        }
+    }
+}

@@ -1,0 +1,266 @@
+-- What a kind of step owes, with no seat in it, and the law that such a step keeps the rule.
+use Rattle.std.proofs.Common.{◌≡◌, ◌≢◌, ◌⊎◌, inl, inr, ⊎_elim, ℕ, zero, suc, ◌<◌, Bool, true, false, cond, List, [], ◌∷◌, ◌++◌, length, get_or, set, Option, Some, None, refl, sym, ap, ◌∙◌, subst, arith, le_refl, get_or-set_other, eq-eqb}
+use Rattle.std.specs.Prelude.{slice_get, slice_index, find, is_some, ⊤}
+use Rattle.std.proofs.lemmas.List.{set-get_or}
+use mathlib.Core.Logic.{dite}
+use mathlib.Core.Option.{some, some-injective, some-ne-none}
+use native.Mathlib.Decide.{ℕ_discrete}
+use lib.ListN.{get_elem?}
+use Rattle.atomic_table.specs.Table.{State, stepped, keeps}
+use Rattle.atomic_table.proofs.Lists.{at_set, set_here, set_else}
+use Rattle.arc_model.specs.declared.event.Act.{Act}
+use Rattle.arc_model.specs.declared.event.CellName.{CellName}
+use Rattle.arc_model.specs.declared.event.CellName.TheVariants as cells
+use Rattle.arc_model.specs.Shapes.{HeapShape}
+use Rattle.arc_model.specs.Heaps.{Object, Heap}
+use Rattle.arc_model.specs.Holders.{is_number, in_slot, is_slot_taken, is_entry_taken}
+use Rattle.arc_model.specs.Cells.{cell}
+use Rattle.arc_model.specs.Others.{IsQuiet}
+use Rattle.arc_model.specs.History.{History, heap_after, share, IsLegal}
+use Rattle.arc_model.specs.Lookup.{spot}
+use Rattle.arc_model.proofs.Basics.{None≢Some, Some-inj, true≢false}
+use Rattle.arc_model.proofs.Others.{others_leave}
+use Rattle.arc_rule.specs.declared.step.Step.{Step}
+use Rattle.arc_rule.specs.declared.layout.Place.{Place}
+use Rattle.arc_rule.specs.declared.layout.Place.TheVariants.{Count, Link}
+use Rattle.arc_rule.specs.Places.{IsPlace, extent_of, number}
+use Rattle.arc_rule.specs.Shown.{Says, ShowsBut}
+use Rattle.arc_rule.specs.Steps.{place_of}
+use Rattle.arc_view.specs.declared.view.Role.TheVariants.{Pass}
+use Rattle.arc_view.specs.declared.view.Stored.{Stored}
+use Rattle.arc_view.specs.declared.view.Begun.{Begun}
+use Rattle.arc_view.specs.declared.view.Working.{Working}
+use Rattle.arc_view.specs.declared.view.View.{View}
+use Rattle.arc_view.specs.Views.{StartsWith, Each, within, made_in, cell_place, private_words, Excepts}
+use Rattle.arc_view.specs.Holding.{CanReach, Owns}
+use Rattle.arc_view.specs.Rule.{MarkFits, IsMine, WorkFits, Fits, Lies, AccessFits, Lying, Excepted, InShape, AccessApart, IsKept}
+use Rattle.arc_view.specs.Kinds.{event_list}
+use Rattle.arc_view.specs.Steps.{moved}
+use Rattle.arc_view.proofs.Lists.{each_more, starts_self, share_more, others_came, share_of_other}
+use Rattle.arc_view.proofs.Words.{shows_to}
+use Rattle.arc_view.proofs.Keeps.{mark_more, fits_carry, owner_stays, reach_stays, stays_more}
+
+-- the owner of the cell is in its slot
+abbrev pub IsThere : Heap → CellName → Type 0
+IsThere heap (cells.Field s f) = is_slot_taken s heap ≡ true
+IsThere heap (cells.Global g) = ⊤
+
+-- a cell that an event leaves
+pub record CellKept (shape : HeapShape) (heap new : Heap) (c : CellName) : Type 0 where
+  pub says : (w : ℕ) → Says shape heap (cell_place c) w → Says shape new (cell_place c) w
+  pub owner : cell new c ≡ cell heap c
+  pub refers : spot (cell new c) new ≡ spot (cell heap c) heap
+
+-- What a kind owes where the word of number i is x, becomes y, and the view's pass does this act and then has this under way.
+pub record Good (shape : HeapShape) (v : View) (h : History) (i x y : ℕ) (act : Option Act) (work : Working) : Type 1 where
+  pub may : IsLegal shape (event_list v.number act ++ h)
+  pub in_shape : InShape shape (event_list v.number act ++ h)
+  -- the word doesn't change, or no other thread has it as its own
+  pub safe : (y ≡ x) ⊎ ((pl : Place) → IsPlace (extent_of shape) pl → number (extent_of shape) pl ≡ i → (q : ℕ) → Owns (heap_after h) q pl → q ≡ v.number)
+  -- nothing happens, or it isn't a cell that another accesses
+  pub calm : ((y ≡ x) × (act ≡ None)) ⊎ ((c : CellName) → IsPlace (extent_of shape) (cell_place c) → number (extent_of shape) (cell_place c) ≡ i → x ≡ 1 → (b : Begun) × (v.working.access ≡ Some b) × (b.cell ≡ c))
+  pub cells : (c : CellName) → IsPlace (extent_of shape) (cell_place c) → IsThere (heap_after h) c → number (extent_of shape) (cell_place c) ≢ i → CellKept shape (heap_after h) (heap_after (event_list v.number act ++ h)) c
+  pub begins : (b : Begun) → work.access ≡ Some b → (v.working.access ≡ Some b) ⊎ ((number (extent_of shape) (cell_place b.cell) ≡ i) × (x ≢ 1))
+  pub words : (Others : Place → Type 0) (ws : List ℕ) → ShowsBut (λ pl. Excepts v.working pl ⊎ Others pl) shape (heap_after h) ws → Lying shape h v.seen ws v.working → x ≡ slice_index ws i
+      → ShowsBut (λ pl. Excepts work pl ⊎ Others pl) shape (heap_after (event_list v.number act ++ h)) (set ws i y)
+  pub fits : WorkFits shape v.number (event_list v.number act ++ h) work
+  pub lying : (Others : Place → Type 0) (ws : List ℕ) → ShowsBut (λ pl. Excepts v.working pl ⊎ Others pl) shape (heap_after h) ws → Lying shape h v.seen ws v.working → x ≡ slice_index ws i
+      → Lying shape (event_list v.number act ++ h) (event_list v.number act ++ h) (set ws i y) work
+
+-- a fact of each view stays where one view changes
+pub views_stay : (F : ℕ → View → Type 0) (views : List View) (id : ℕ) (w : View) → F id w → ((j : ℕ) (u : View) → j ≢ id → get_elem? views j ≡ some u → F j u) → (j : ℕ) (u : View) → get_elem? (set views id w) j ≡ some u → F j u
+views_stay F views id w mine others j u e = ⊎_elim
+    (λ (t : (j ≡ id) × (w ≡ u)). subst (λ (x : ℕ × View). F x.0 x.1) (λ i. (sym t.0 i, t.1 i)) mine)
+    (λ (t : (j ≢ id) × (get_elem? views j ≡ some u)). others j u t.0 t.1)
+    (at_set views id j w u e)
+
+abbrev pub Apart : List View → Type 0
+Apart views = (i j : ℕ) (v w : View) → get_elem? views i ≡ some v → get_elem? views j ≡ some w → v.role ≡ Pass → w.role ≡ Pass → v.number ≡ w.number → i ≡ j
+
+-- the numbers stay apart where a view keeps its number, or is spent
+pub apart_set : (views : List View) (id : ℕ) (v w : View) → get_elem? views id ≡ some v → (w.role ≡ Pass → (v.role ≡ Pass) × (v.number ≡ w.number)) → Apart views → Apart (set views id w)
+apart_set views id v w at same apart i j x y ei ej =
+    views_stay (λ (i : ℕ) (x : View). x.role ≡ Pass → y.role ≡ Pass → x.number ≡ y.number → i ≡ j) views id w
+    (λ wp yp e. views_stay (λ (j : ℕ) (y : View). y.role ≡ Pass → w.number ≡ y.number → id ≡ j) views id w (λ _ _. refl) (λ k u _ eu up e. apart id k v u at eu (same wp).0 up ((same wp).1 ∙ e)) j y ej yp e)
+    (λ k u ne eu up yp e. views_stay (λ (j : ℕ) (y : View). y.role ≡ Pass → u.number ≡ y.number → k ≡ j) views id w (λ wp e. apart k id u v eu at up (same wp).0 (e ∙ sym (same wp).1)) (λ l z _ ez zp e. apart k l u z eu ez up zp e) j y ej yp e)
+    i x ei
+
+-- the accesses stay apart where the one of the view that changes is none of another's
+pub access_apart_set : (views : List View) (id : ℕ) (w : View) → ((b : Begun) → w.working.access ≡ Some b → (j : ℕ) (u : View) (a : Begun) → j ≢ id → get_elem? views j ≡ some u → u.working.access ≡ Some a → a.cell ≡ b.cell → ⊥)
+    → AccessApart views → AccessApart (set views id w)
+access_apart_set views id w new apart i j x y a b ei ej xa yb same =
+    views_stay (λ (i : ℕ) (x : View). x.working.access ≡ Some a → i ≡ j) views id w
+    (λ wa. views_stay (λ (j : ℕ) (y : View). y.working.access ≡ Some b → id ≡ j) views id w (λ _. refl) (λ k u ne eu ub. absurd (new a wa k u b ne eu ub (sym same))) j y ej yb)
+    (λ k u ne eu ua. views_stay (λ (j : ℕ) (y : View). y.working.access ≡ Some b → k ≡ j) views id w (λ wb. absurd (new b wb k u a ne eu ua same)) (λ l z _ ez zb. apart k l u z a b eu ez ua zb same) j y ej yb)
+    i x ei xa
+
+-- what the other views except
+abbrev pub ByOthers : List View → ℕ → Place → Type 0
+ByOthers views id pl = (i : ℕ) × (u : View) × (i ≢ id) × (get_elem? views i ≡ some u) × Excepts u.working pl
+
+pub excepted_apart : (views : List View) (id : ℕ) (v : View) → get_elem? views id ≡ some v → (pl : Place) → Excepted views pl → Excepts v.working pl ⊎ ByOthers views id pl
+excepted_apart views id v at pl o = dite (ℕ_discrete o.0 id)
+    (λ is. let same : some o.1 ≡ some v = sym o.2 ∙ (ap (get_elem? views) is ∙ at) in inl (subst (λ (u : View). Excepts u.working pl) (some-injective o.1 v same) o.3))
+    (λ ne. inr (o.0, o.1, ne, o.2, o.3))
+
+at_below : (views : List View) (id : ℕ) (v : View) → get_elem? views id ≡ some v → id < length views
+at_below [] id v e = absurd (some-ne-none v (sym e))
+at_below (x ∷ xs) zero v e = omega arith
+at_below (x ∷ xs) (suc i) v e = let lt = at_below xs i v e in omega arith
+
+pub excepted_again : (views : List View) (id : ℕ) (v w : View) → get_elem? views id ≡ some v → (pl : Place) → Excepts w.working pl ⊎ ByOthers views id pl → Excepted (set views id w) pl
+excepted_again views id v w at pl = ⊎_elim
+    (λ e. (id, w, set_here views id w (at_below views id v at), e))
+    (λ o. (o.0, o.1, set_else views id o.0 w o.2 ∙ o.3, o.4))
+
+pub found_some : (test : Object → Bool) (os : List Object) (i : ℕ) (o : Object) → slice_get os i ≡ Some o → test o ≡ true → is_some (find test os) ≡ true
+found_some test [] i o at passes = absurd (None≢Some o at)
+found_some test (r ∷ os) zero o at passes = ap (λ b. is_some (cond b (Some r) (find test os))) (ap test (Some-inj at) ∙ passes)
+found_some test (r ∷ os) (suc i) o at passes = go (test r) (found_some test os i o at passes)
+  where
+    go : (b : Bool) → is_some (find test os) ≡ true → is_some (cond b (Some r) (find test os)) ≡ true
+    go true ih = refl
+    go false ih = ih
+
+pub slot_is : (m : Option ℕ) (s : ℕ) → m ≡ Some s → is_number m s ≡ true
+slot_is m s e = ap (λ n. is_number n s) e ∙ eq-eqb s s refl
+
+pub reach_there : (shape : HeapShape) (heap : Heap) (p : ℕ) (c : CellName) → CanReach shape heap p c → IsThere heap c
+reach_there shape heap p (cells.Global g) r = tt
+reach_there shape heap p (cells.Field s f) (k, i, o, at, here, slot, has) = found_some (in_slot s) heap.objects i o here (slot_is o.slot s slot)
+
+pub quiet_more : (shape : HeapShape) (p : ℕ) (before after : History) → IsLegal shape (after ++ before) → share after p ≡ [] → IsQuiet p (heap_after before) → IsQuiet p (heap_after (after ++ before))
+quiet_more shape p before after legal none q = let u = others_leave shape p before after legal none in record {
+  hands = λ k. u.hands k ∙ q.hands k;
+  duties = λ i. u.duties i ∙ q.duties i;
+  claims = λ e. u.claims e ∙ q.claims e;
+}
+
+-- what a view owns, it owns in the heap now
+pub mine_now : (shape : HeapShape) (h : History) (splits : ℕ) (taken : List ℕ) (u : View) → IsLegal shape h → u.role ≡ Pass → Fits shape h splits taken u → Each (IsMine shape (heap_after h) u.number) (private_words u.working)
+mine_now shape h splits taken u legal pass f =
+    let rest = f.begins.0 in
+    let e : h ≡ rest ++ u.seen = f.begins.1 in
+    each_more (IsMine shape (heap_after u.seen) u.number) (IsMine shape (heap_after h) u.number)
+    (λ k m. (m.0, subst (λ l. Owns (heap_after l) u.number k.place) (sym e) (owner_stays shape u.seen rest k.place u.number (subst (IsLegal shape) e legal) (others_came u.number h u.seen rest e (f.own pass)) m.1)))
+    (private_words u.working) f.work.private
+
+-- a write at a place that p does not own leaves what p has stored
+pub lies_stay : (shape : HeapShape) (heap : Heap) (words : List ℕ) (i y p : ℕ) (ks : List Stored) → Each (IsMine shape heap p) ks → Each (Lies shape words) ks
+    → ((y ≡ slice_index words i) ⊎ ((pl : Place) → IsPlace (extent_of shape) pl → number (extent_of shape) pl ≡ i → Owns heap p pl → ⊥))
+    → Each (Lies shape (set words i y)) ks
+lies_stay shape heap words i y p [] mine lies safe = tt
+lies_stay shape heap words i y p (k ∷ ks) mine lies safe = (one k mine.0 lies.0 safe, lies_stay shape heap words i y p ks mine.1 lies.1 safe)
+  where
+    one : (k : Stored) → IsMine shape heap p k → Lies shape words k → ((y ≡ slice_index words i) ⊎ ((pl : Place) → IsPlace (extent_of shape) pl → number (extent_of shape) pl ≡ i → Owns heap p pl → ⊥)) → Lies shape (set words i y) k
+    one k mine lies (inl same) = ap (λ l. get_or l (number (extent_of shape) k.place) 0) (ap (set words i) same ∙ set-get_or words i 0) ∙ lies
+    one k mine lies (inr safe) = get_or-set_other words i (number (extent_of shape) k.place) y 0 (λ e. safe k.place mine.0 e mine.1) ∙ lies
+
+-- an access of a view stays, where it isn't that of the one that steps
+pub access_stays : (shape : HeapShape) (h seen : History) (words : List ℕ) (p i y : ℕ) (act : Option Act) (a : Begun) (Own : CellName → Type 0) → StartsWith h seen → IsPlace (extent_of shape) (cell_place a.cell) → IsThere (heap_after h) a.cell → (Own a.cell → ⊥)
+    → ((y ≡ slice_index words i) × (act ≡ None)) ⊎ ((c : CellName) → IsPlace (extent_of shape) (cell_place c) → number (extent_of shape) (cell_place c) ≡ i → slice_index words i ≡ 1 → Own c)
+    → ((c : CellName) → IsPlace (extent_of shape) (cell_place c) → IsThere (heap_after h) c → number (extent_of shape) (cell_place c) ≢ i → CellKept shape (heap_after h) (heap_after (event_list p act ++ h)) c)
+    → AccessFits shape h seen words a → AccessFits shape (event_list p act ++ h) seen (set words i y) a
+access_stays shape h seen words p i y act a Own since inside there other (inl nothing) kept f =
+    subst (λ (t : Option Act × List ℕ). AccessFits shape (event_list p t.0 ++ h) seen t.1 a) (λ n. (sym nothing.1 n, sym (ap (set words i) nothing.0 ∙ set-get_or words i 0) n)) f
+access_stays shape h seen words p i y act a Own since inside there other (inr calm) kept f = dite (ℕ_discrete (number (extent_of shape) (cell_place a.cell)) i)
+    (λ is. absurd (other (calm a.cell inside is (ap (slice_index words) (sym is) ∙ f.busy))))
+    (λ ne. let k = kept a.cell inside there ne in record {
+      busy = get_or-set_other words i (number (extent_of shape) (cell_place a.cell)) y 0 ne ∙ f.busy;
+      value = k.says a.value f.value;
+      stays = stays_more p act h seen a.cell since k.owner k.refers f.stays;
+    })
+
+-- what a mark of a step shows where it met the history h
+pub record Sees (shape : HeapShape) (h : History) (st : Step) (found : ℕ) : Type 0 where
+  pub slot : (s : ℕ) → s < shape.slots → place_of st ≡ number (extent_of shape) (Count s) → found ≢ 0 → is_slot_taken s (heap_after h) ≡ true
+  pub entry : (e : ℕ) → e < shape.entries → place_of st ≡ number (extent_of shape) (Link e) → found ≢ 0 → is_entry_taken e (heap_after h) ≡ true
+
+-- the view of the pass that steps
+moved_fits : (shape : HeapShape) (h more : History) (splits : ℕ) (taken : List ℕ) (v : View) (st : Step) (found : ℕ) (work : Working) → v.role ≡ Pass → Sees shape h st found → WorkFits shape v.number (more ++ h) work
+    → Fits shape h splits taken v → Fits shape (more ++ h) splits taken (moved v h (more ++ h) st found work)
+moved_fits shape h more splits taken v st found work pass sees work_fits f =
+    let p = v.number in
+    let here : MarkFits shape p h record { step = st; found = found; length = length h; made = made_in p h } = record {
+      later = [];
+      earlier = h;
+      split = refl;
+      at = refl;
+      made = refl;
+      slot = sees.slot;
+      entry = sees.entry;
+    } in
+    let older : Each (MarkFits shape p h) v.trail = subst (λ l. Each (MarkFits shape p l) v.trail) (sym f.begins.1) (each_more (MarkFits shape p v.seen) (MarkFits shape p (f.begins.0 ++ v.seen)) (mark_more shape p v.seen f.begins.0) v.trail f.marks) in record {
+      begins = starts_self (more ++ h);
+      olds = tt;
+      own = λ _. refl;
+      marks = (mark_more shape p h more _ here, each_more (MarkFits shape p h) (MarkFits shape p (more ++ h)) (mark_more shape p h more) v.trail older);
+      numbered = f.numbered;
+      first = f.first;
+      kept = λ is q w. ((f.kept is q w).0, refl);
+      work = work_fits;
+      working = inl pass;
+    }
+
+-- a step of the pass v, which does this act, keeps the rule
+pub advance : {S : Type 0} (shape : HeapShape) (s : State S View) (k : IsKept shape s) (id : ℕ) (v : View) (y : ℕ) (act : Option Act) (st : Step) (found : ℕ) (work : Working) (c : List (ℕ × S)) → get_elem? s.views id ≡ some v → v.role ≡ Pass
+    → Sees shape k.log st found → Good shape v k.log (place_of st) (slice_index s.words (place_of st)) y act work
+    → IsKept shape (stepped s (place_of st) y id c (moved v k.log (event_list v.number act ++ k.log) st found work) keeps)
+advance shape s k id v y act st found work c at pass sees g =
+    let i = place_of st in
+    let more = event_list v.number act in
+    let mine = k.fits id v at in
+    let lie = k.lying id v at in
+    let w = moved v k.log (more ++ k.log) st found work in
+    let alone : (p : ℕ) → p ≢ v.number → share more p ≡ [] = λ p ne. share_of_other v.number p act ne in
+    let shown = shows_to shape (Excepted s.views) (λ pl. Excepts v.working pl ⊎ ByOthers s.views id pl) (heap_after k.log) s.words (excepted_apart s.views id v at) k.words in record {
+      log = more ++ k.log;
+      splits = k.splits;
+      taken = k.taken;
+      sized = k.sized;
+      legal = g.may;
+      in_shape = g.in_shape;
+      words = shows_to shape (λ pl. Excepts work pl ⊎ ByOthers s.views id pl) (Excepted (set s.views id w)) (heap_after (more ++ k.log)) (set s.words i y) (excepted_again s.views id v w at) (g.words (ByOthers s.views id) s.words shown lie refl);
+      lying = views_stay (λ (j : ℕ) (u : View). Lying shape (more ++ k.log) u.seen (set s.words i y) u.working) s.views id w (g.lying (ByOthers s.views id) s.words shown lie refl) lying_of_other;
+      fits = views_stay (λ (j : ℕ) (u : View). Fits shape (more ++ k.log) k.splits k.taken u) s.views id w
+          (moved_fits shape k.log more k.splits k.taken v st found work pass sees g.fits mine)
+          (λ j u ne e. let f = k.fits j u e in fits_carry shape k.log more k.splits k.splits k.taken k.taken u
+          (λ up. alone u.number (λ is. ne (k.apart j id u v e at up pass is)))
+          (le_refl k.splits)
+          (λ up. (f.numbered up).1)
+          (λ p in_it. (in_it, alone p (not_taken p in_it)))
+          (λ _ _. (refl, refl))
+          f);
+      apart = apart_set s.views id v w at (λ p. (p, refl)) k.apart;
+      accesses = access_apart_set s.views id w
+          (λ b wb j u a ne e ua same. ⊎_elim
+          (λ old. ne (k.accesses j id u v a b e at ua old same))
+          (λ (t : (number (extent_of shape) (cell_place b.cell) ≡ i) × (slice_index s.words i ≢ 1)). t.1 (ap (slice_index s.words) (sym t.0 ∙ ap (λ c. number (extent_of shape) (cell_place c)) (sym same)) ∙ ((k.lying j u e).access a ua).busy))
+          (g.begins b wb)) k.accesses;
+      few = k.few;
+      taken_below = k.taken_below;
+      quiet = λ p in_it. quiet_more shape p k.log more g.may (alone p (not_taken p in_it)) (k.quiet p in_it);
+      strange = λ p lt. share_more p k.log more (alone p (λ is. let le = (mine.numbered pass).0 in omega arith)) ∙ k.strange p lt;
+    }
+  where
+    not_taken : (p : ℕ) → within p k.taken ≡ true → p ≢ v.number
+    not_taken p in_it is = true≢false (sym in_it ∙ (ap (λ q. within q k.taken) is ∙ ((k.fits id v at).numbered pass).1))
+
+    -- a view that isn't a pass has nothing under way
+    lying_of_other : (j : ℕ) (u : View) → j ≢ id → get_elem? s.views j ≡ some u → Lying shape (event_list v.number act ++ k.log) u.seen (set s.words (place_of st) y) u.working
+    lying_of_other j u ne e = ⊎_elim
+        (λ (up : u.role ≡ Pass).
+        let f = k.fits j u e in
+        let rest = f.begins.0 in
+        let since : k.log ≡ rest ++ u.seen = f.begins.1 in record {
+          private = lies_stay shape (heap_after k.log) s.words (place_of st) y u.number (private_words u.working) (mine_now shape k.log k.splits k.taken u k.legal up f) (k.lying j u e).private
+              (⊎_elim (λ same. inl same) (λ only. inr (λ pl inside is owned. ne (k.apart j id u v e at up pass (only pl inside is u.number owned)))) g.safe);
+          access = λ a ua. let r = f.work.reaches a ua in access_stays shape k.log u.seen s.words v.number (place_of st) y act a (λ c. (b : Begun) × (v.working.access ≡ Some b) × (b.cell ≡ c)) f.begins r.0
+              (reach_there shape (heap_after k.log) u.number a.cell (subst (λ l. CanReach shape (heap_after l) u.number a.cell) (sym since) (reach_stays shape u.seen rest a.cell u.number (subst (IsLegal shape) since k.legal) (others_came u.number k.log u.seen rest since (f.own up)) r.1)))
+              (λ own. ne (k.accesses j id u v a own.0 e at ua own.1 (sym own.2))) g.calm g.cells ((k.lying j u e).access a ua);
+        })
+        (λ (idle : (u.working.owes ≡ None) × (u.working.access ≡ None) × (private_words u.working ≡ [])). record {
+          private = subst (Each (Lies shape (set s.words (place_of st) y))) (sym idle.2) tt;
+          access = λ a ua. absurd (None≢Some a (sym idle.1 ∙ ua));
+        })
+        (k.fits j u e).working

@@ -1,0 +1,17 @@
+pub mod Lists
+pub mod Held
+pub mod Words
+pub mod Keeps
+pub mod Advance
+pub mod Bridge
+pub mod Within
+pub mod Classes
+pub mod Own
+pub mod Counting
+pub mod Plain
+pub mod Put
+pub mod Strongs
+pub mod NewObject
+pub mod Moves
+pub mod Seats
+pub mod Ends

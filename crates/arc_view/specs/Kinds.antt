@@ -1,0 +1,248 @@
+-- Which event a step has, by the view before it, the step, its intent and the word found; and what the view has under way after it.
+-- An exchange that fails has the event of no kind but the last one of a search.
+use Rattle.std.specs.Prelude.{ℕ, zero, suc, ◌-◌, ◌/◌, ◌%◌, ◌==◌, ◌&&◌, not, Bool, true, false, if◌then◌else◌, List, [], ◌∷◌, Option, None, Some, slice_get}
+use Rattle.arc_bits.specs.declared.packing.Word.{Word}
+use Rattle.arc_bits.specs.declared.packing.Word.TheVariants.{Counts, Slow}
+use Rattle.arc_bits.specs.Words.{unpacked}
+use Rattle.arc_model.specs.declared.event.Origin.{Origin}
+use Rattle.arc_model.specs.declared.event.Origin.TheVariants as origins
+use Rattle.arc_model.specs.declared.event.Got.TheVariants as got
+use Rattle.arc_model.specs.declared.event.Act.{Act}
+use Rattle.arc_model.specs.declared.event.Act.TheVariants as acts
+use Rattle.arc_model.specs.declared.shape.Kind.{Kind}
+use Rattle.arc_model.specs.declared.shape.Kind.TheVariants as kinds
+use Rattle.arc_model.specs.Shapes.{HeapShape}
+use Rattle.arc_model.specs.Heaps.{Hand, Object, Heap}
+use Rattle.arc_model.specs.Cells.{origin}
+use Rattle.arc_model.specs.History.{History, next_hand}
+use Rattle.arc_model.specs.Lookup.{Spot, spot}
+use Rattle.arc_rule.specs.declared.step.Step.{Step}
+use Rattle.arc_rule.specs.declared.step.Step.TheVariants.{Load, Exchange, Store}
+use Rattle.arc_rule.specs.declared.step.Intent.{Intent}
+use Rattle.arc_rule.specs.declared.step.Intent.TheVariants as intents
+use Rattle.arc_rule.specs.declared.layout.Place.{Place}
+use Rattle.arc_rule.specs.declared.layout.Place.TheVariants.{Count, Isa, Next, Field, Link, Strong, Unowned, Weak}
+use Rattle.arc_rule.specs.Places.{extent_of, number, place_at}
+use Rattle.arc_view.specs.declared.view.Mark.{Mark}
+use Rattle.arc_view.specs.declared.view.Stored.{Stored}
+use Rattle.arc_view.specs.declared.view.Parent.{Parent}
+use Rattle.arc_view.specs.declared.view.Entered.{Entered}
+use Rattle.arc_view.specs.declared.view.Working.{Working}
+use Rattle.arc_view.specs.declared.view.View.{View}
+use Rattle.arc_view.specs.Views.{made_in, cell_place}
+use Rattle.arc_view.specs.Holding.{heap_of, is_counted_at}
+
+abbrev pub slot_of : Place → ℕ
+slot_of (Count s) = s
+slot_of (Isa s) = s
+slot_of (Next s) = s
+slot_of (Field s f) = s
+slot_of _ = 0
+
+abbrev pub field_of : Place → ℕ
+field_of (Field s f) = f
+field_of _ = 0
+
+abbrev pub entry_of : Place → ℕ
+entry_of (Link e) = e
+entry_of (Strong e) = e
+entry_of (Unowned e) = e
+entry_of (Weak e) = e
+entry_of _ = 0
+
+-- the entry that a slow word names
+abbrev pub entry_named : Option Word → ℕ
+entry_named (Some (Slow e)) = e
+entry_named _ = 0
+
+-- the list that a spot is in
+abbrev pub kind_at : Option Spot → Kind
+kind_at None = kinds.Strong
+kind_at (Some s) = s.kind
+
+-- the object at a spot
+abbrev pub object_at : Heap → Option Spot → Option Object
+object_at heap None = None
+object_at heap (Some s) = slice_get heap.objects s.place
+
+-- where the view takes a reference from
+abbrev pub source_at : View → Origin → Option Spot
+source_at v from = spot (origin (heap_of v) v.number from) (heap_of v)
+
+-- the one holder of this kind is left in the counts of an inline word
+abbrev pub is_last_in : Kind → Option Word → Bool
+is_last_in kinds.Strong (Some (Counts c)) = c.strong_extra == 0
+is_last_in kinds.Unowned (Some (Counts c)) = c.unowned == 1
+is_last_in _ _ = false
+
+-- the count in the word of a place is one of a single holder of this kind
+abbrev pub is_last : Kind → Place → ℕ → Bool
+is_last kind (Count s) w = is_last_in kind (unpacked w)
+is_last kind _ w = w == 1
+
+abbrev pub is_deiniting : Option Word → Bool
+is_deiniting (Some (Counts c)) = c.deiniting
+is_deiniting _ = false
+
+abbrev pub is_entry_place : Place → Bool
+is_entry_place (Link e) = true
+is_entry_place (Strong e) = true
+is_entry_place (Unowned e) = true
+is_entry_place (Weak e) = true
+is_entry_place _ = false
+
+-- the word of an entry's count of this list of the object is at its greatest
+abbrev pub is_full : HeapShape → Kind → Option Object → Place → ℕ → Bool
+is_full shape kind o pl w = is_entry_place pl && is_counted_at kind o pl && w == shape.caps.wide
+
+abbrev pub when : Bool → Act → Option Act
+when true a = Some a
+when false a = None
+
+-- A failed exchange of a search: at the place of the number `at`, from 0 to `new`, with no event of the thread since.
+abbrev pub is_try : ℕ → ℕ → ℕ → Mark → Bool
+is_try at new made m = is_same_step m.step && not (m.found == 0) && m.made == made
+  where
+    is_same_step : Step → Bool
+    is_same_step (Exchange place old n) = place == at && old == 0 && n == new
+    is_same_step _ = false
+
+-- the trail begins with tries at the places k - 1, k - 2 and so on down to 0
+abbrev pub searched : (ℕ → ℕ) → ℕ → ℕ → ℕ → List Mark → Bool
+searched at new made zero ms = true
+searched at new made (suc k) [] = false
+searched at new made (suc k) (m ∷ ms) = is_try (at k) new made m && searched at new made k ms
+
+-- What a load shows. A loaded count is of the source's object: an entry's greatest count refuses one more, and a strong count of 0, or
+-- a deiniting inline word, refuses a load of a reference.
+abbrev pub loaded_act : HeapShape → View → Place → ℕ → Intent → Option Act
+loaded_act shape v pl w (intents.Copy from) =
+    let at = source_at v from in when (is_full shape (kind_at at) (object_at (heap_of v) at) pl w) (acts.CountFull (kind_at at) from)
+loaded_act shape v pl w (intents.UnownedOf of) =
+    when (is_full shape kinds.Unowned (object_at (heap_of v) (spot (Hand v.number of) (heap_of v))) pl w) (acts.CountFull kinds.Unowned (origins.Hand of))
+loaded_act shape v pl w (intents.WeakOf of) =
+    when (is_full shape kinds.Weak (object_at (heap_of v) (spot (Hand v.number of) (heap_of v))) pl w) (acts.CountFull kinds.Weak (origins.Hand of))
+loaded_act shape v pl w (intents.Load of) = by_kind (kind_at at)
+  where
+    at : Option Spot
+    at = spot (Hand v.number of) (heap_of v)
+
+    is_here : Bool
+    is_here = is_counted_at kinds.Strong (object_at (heap_of v) at) pl
+
+    shows_end : Bool
+    shows_end = is_here && (if is_entry_place pl then w == 0 else is_deiniting (unpacked w))
+
+    refused : Act → Option Act
+    refused a = if shows_end then Some a else when (is_full shape kinds.Strong (object_at (heap_of v) at) pl w) (acts.CountFull kinds.Strong (origins.Hand of))
+
+    by_kind : Kind → Option Act
+    by_kind kinds.Strong = None
+    by_kind kinds.Unowned = refused (acts.Load of got.Dead)
+    by_kind kinds.Weak = refused (acts.Load of got.Nil)
+loaded_act shape v pl w (intents.Access cell) = when (number (extent_of shape) pl == number (extent_of shape) (cell_place cell) && w == 0) (acts.Look cell)
+loaded_act shape v pl w _ = None
+
+-- what an exchange does that finds what it expects; a hand that comes is the next one
+abbrev pub hit_act : View → Place → ℕ → ℕ → Intent → Option Act
+hit_act v pl old new intents.Look = None
+hit_act v pl old new (intents.New class) = Some (acts.New (next_hand v.number v.seen) class (slot_of pl))
+hit_act v pl old new (intents.Copy from) = Some (acts.Copy from (next_hand v.number v.seen))
+hit_act v pl old new (intents.UnownedOf of) = Some (acts.UnownedOf of (next_hand v.number v.seen))
+hit_act v pl old new (intents.WeakOf of) = Some (acts.WeakOf of (next_hand v.number v.seen))
+hit_act v pl old new (intents.Load of) = Some (acts.Load of (got.Hand (next_hand v.number v.seen)))
+hit_act v pl old new (intents.Drop hand) = Some (acts.Drop hand (is_last (kind_at (spot (Hand v.number hand) (heap_of v))) pl old))
+hit_act v pl old new (intents.Claim of) = Some (acts.Claim (entry_of pl))
+hit_act v pl old new (intents.Publish of why) = Some (acts.Side (slot_of pl) (entry_named (unpacked new)) why)
+hit_act v pl old new intents.Back = None
+hit_act v pl old new (intents.Swap cell put) = Some (acts.Swap cell put (if old == 0 then None else Some (next_hand v.number v.seen)))
+hit_act v pl old new (intents.Access cell) = None
+hit_act v pl old new (intents.Deinit slot) = Some (acts.Finish slot (is_last kinds.Unowned pl old))
+hit_act v pl old new intents.Vacate = None
+hit_act v pl old new intents.Gone = Some (acts.Gone (entry_of pl) (old == 1))
+
+-- the last failed exchange of a search
+abbrev pub missed_act : HeapShape → View → ℕ → ℕ → Intent → Option Act
+missed_act shape v place new (intents.New class) = at_last (shape.slots - 1)
+  where
+    at_last : ℕ → Option Act
+    at_last s = when (place == number (extent_of shape) (Count s) && searched (λ k. number (extent_of shape) (Count k)) new (made_in v.number v.seen) s v.trail) acts.Full
+missed_act shape v place new (intents.Claim of) = at_last (shape.entries - 1)
+  where
+    at_last : ℕ → Option Act
+    at_last e = when (place == number (extent_of shape) (Link e) && searched (λ k. number (extent_of shape) (Link k)) new (made_in v.number v.seen) e v.trail) acts.NoEntry
+missed_act shape v place new _ = None
+
+abbrev pub stored_act : View → Place → Intent → Option Act
+stored_act v pl intents.Back = Some (acts.Back (entry_of pl))
+stored_act v pl intents.Vacate = Some (acts.Vacate (slot_of pl))
+stored_act v (Field s f) (intents.Deinit slot) = Some (acts.Take slot f (next_hand v.number v.seen))
+stored_act v pl _ = None
+
+-- the act of a step with this intent that finds this word
+abbrev pub act_of : HeapShape → View → Step → Intent → ℕ → Option Act
+act_of shape v (Load place) intent found = loaded_act shape v (place_at (extent_of shape) place) found intent
+act_of shape v (Exchange place old new) intent found =
+    if found == old then hit_act v (place_at (extent_of shape) place) old new intent else missed_act shape v place new intent
+act_of shape v (Store place new) intent found = stored_act v (place_at (extent_of shape) place) intent
+
+-- the event of an act of thread p, where there is one
+abbrev pub event_list : ℕ → Option Act → History
+event_list p None = []
+event_list p (Some a) = record { thread = p; act = a } ∷ []
+
+-- what is stored elsewhere than at the place
+abbrev pub but_at : (Place → ℕ) → ℕ → List Stored → List Stored
+but_at at i [] = []
+but_at at i (k ∷ ks) = if at k.place == i then but_at at i ks else k ∷ but_at at i ks
+
+abbrev pub but_entry : (Place → ℕ) → ℕ → List Stored → List Stored
+but_entry at e ks = but_at at (at (Link e)) (but_at at (at (Strong e)) (but_at at (at (Unowned e)) (but_at at (at (Weak e)) ks)))
+
+-- the deinit that a next word leads back to
+abbrev pub parent_of : ℕ → Option Parent
+parent_of zero = None
+parent_of (suc n) = Some (record { slot = n / 16; field = n % 16 })
+
+-- the deinits, where the one of the slot goes on at a field
+abbrev pub goes_on : ℕ → ℕ → List Entered → List Entered
+goes_on s f [] = []
+goes_on s f (e ∷ es) = (if e.slot == s then record e { next_field = f } else e) ∷ goes_on s f es
+
+-- where that field was the next one, it goes on at the one after it
+abbrev pub goes_past : ℕ → ℕ → List Entered → List Entered
+goes_past s f [] = []
+goes_past s f (e ∷ es) = (if e.slot == s && e.next_field == f then record e { next_field = suc f } else e) ∷ goes_past s f es
+
+abbrev pub without_slot : ℕ → List Entered → List Entered
+without_slot s [] = []
+without_slot s (e ∷ es) = if e.slot == s then without_slot s es else e ∷ without_slot s es
+
+-- a deinit that finds a field nil goes past it
+abbrev pub working_loaded : Working → Place → ℕ → Intent → Working
+working_loaded w (Field s f) found (intents.Deinit slot) = if s == slot && found == 0 then record w { entered = goes_past s f w.entered } else w
+working_loaded w pl found intent = w
+
+abbrev pub working_hit : (Place → ℕ) → Working → Place → ℕ → ℕ → Intent → Working
+working_hit at w pl old new (intents.New class) = record w { owes = Some (slot_of pl) }
+working_hit at w pl old new (intents.Claim of) = record w { stored = record { place = pl; word = new } ∷ w.stored }
+working_hit at w pl old new (intents.Publish of why) = record w { stored = but_entry at (entry_named (unpacked new)) w.stored }
+working_hit at w pl old new (intents.Access cell) = record w { access = Some (record { cell = cell; value = old }) }
+working_hit at w pl old new (intents.Deinit slot) = record w { entered = without_slot slot w.entered }
+working_hit at w pl old new intent = w
+
+abbrev pub working_stored : (Place → ℕ) → Working → Place → ℕ → Intent → Working
+working_stored at w pl new (intents.New class) = record w { owes = None }
+working_stored at w pl new (intents.Publish of why) = record w { stored = record { place = pl; word = new } ∷ but_at at (at pl) w.stored }
+working_stored at w pl new intents.Back = record w { stored = but_entry at (entry_of pl) w.stored }
+working_stored at w pl new (intents.Access cell) = record w { access = None }
+working_stored at w (Next s) new (intents.Deinit slot) = record w { entered = record { slot = s; parent = parent_of new; next_field = 0 } ∷ w.entered }
+working_stored at w (Field s f) new (intents.Deinit slot) = record w { entered = goes_on s (suc f) w.entered }
+working_stored at w pl new intent = w
+
+-- what the view has under way after a step with this intent that finds this word
+abbrev pub working_after : HeapShape → View → Step → Intent → ℕ → Working
+working_after shape v (Load place) intent found = working_loaded v.working (place_at (extent_of shape) place) found intent
+working_after shape v (Exchange place old new) intent found =
+    if found == old then working_hit (number (extent_of shape)) v.working (place_at (extent_of shape) place) old new intent else v.working
+working_after shape v (Store place new) intent found = working_stored (number (extent_of shape)) v.working (place_at (extent_of shape) place) new intent

@@ -1,0 +1,83 @@
+-- The view after a step, and what the step tells.
+use Rattle.std.specs.Prelude.{ℕ, ◌≡◌, ◌≢◌, ◌<◌, true, [], ◌∷◌, ◌++◌, length, ⊤}
+use Rattle.atomic_table.specs.Table.{Me}
+use Rattle.arc_model.specs.Shapes.{HeapShape}
+use Rattle.arc_model.specs.Heaps.{Heap}
+use Rattle.arc_model.specs.History.{History, heap_after, share, IsLegal}
+use Rattle.arc_rule.specs.declared.step.Step.{Step}
+use Rattle.arc_rule.specs.declared.step.Step.TheVariants.{Load, Exchange, Store}
+use Rattle.arc_rule.specs.declared.step.Intent.{Intent}
+use Rattle.arc_rule.specs.declared.layout.Place.{Place}
+use Rattle.arc_rule.specs.declared.layout.Place.TheVariants.{Global, Isa, Field}
+use Rattle.arc_rule.specs.Places.{IsPlace, extent_of, number}
+use Rattle.arc_rule.specs.Shown.{Says}
+use Rattle.arc_rule.specs.Steps.{place_of}
+use Rattle.arc_view.specs.declared.view.Old.{Old}
+use Rattle.arc_view.specs.declared.view.Stored.{Stored}
+use Rattle.arc_view.specs.declared.view.Working.{Working}
+use Rattle.arc_view.specs.declared.view.View.{View}
+use Rattle.arc_view.specs.Views.{StartsWith, Each, within, made_in, private_words}
+use Rattle.arc_view.specs.Rule.{InShape, IsNew}
+use Rattle.arc_view.specs.Kinds.{act_of, event_list, working_after}
+
+-- a step that gives back the word that it found; a store gives back 0
+abbrev pub Reads : Step → Type 0
+Reads (Load place) = ⊤
+Reads (Exchange place old new) = ⊤
+Reads (Store place new) = ⊥
+
+abbrev pub given_back : Step → ℕ → ℕ
+given_back (Load place) found = found
+given_back (Exchange place old new) found = found
+given_back (Store place new) found = 0
+
+-- the view after a step that met the history h, whose own event made it `after`. Its mark has the length before the event
+abbrev pub moved : View → History → History → Step → ℕ → Working → View
+moved v h after st found working = record {
+  number = v.number;
+  role = v.role;
+  seen = after;
+  trail = record { step = st; found = found; length = length h; made = made_in v.number h } ∷ v.trail;
+  splits = v.splits;
+  taken = v.taken;
+  olds = [];
+  working = working;
+}
+
+-- what was seen before a join begins the history, and has all events of its threads
+abbrev pub Stands : History → Old → Type 0
+Stands h o = StartsWith h o.seen × ((p : ℕ) → within p o.of ≡ true → share h p ≡ share o.seen p)
+
+-- The heap doesn't settle the word yet: a cell is busy, or another pass has still to write the isa word of its new object.
+abbrev pub IsUnsettled : ℕ → Heap → Place → ℕ → Type 0
+IsUnsettled p heap (Global g) found = found ≡ 1
+IsUnsettled p heap (Field s f) found = found ≡ 1
+IsUnsettled p heap (Isa s) found = (q : ℕ) × (q ≢ p) × IsNew heap q s
+IsUnsettled p heap _ found = ⊥
+
+-- the word at a place is what the view has stored there and keeps private
+abbrev pub IsKeptAt : HeapShape → Place → ℕ → Stored → Type 0
+IsKeptAt shape pl found k = number (extent_of shape) k.place ≡ number (extent_of shape) pl → found ≡ k.word
+
+-- what a step of the view v shows of the word that it finds at a place, where h was the history before its own event
+pub record IsRead (shape : HeapShape) (v : View) (h : History) (pl : Place) (found : ℕ) : Type 0 where
+  pub says : (IsUnsettled v.number (heap_after h) pl found → ⊥) → Says shape (heap_after h) pl found
+  pub private : Each (IsKeptAt shape pl found) (private_words v.working)
+
+-- What a step tells: other threads' events came between, and then the step's own. What is seen is legal and in the shape. The word that is
+-- given back is one that the heap before the step's own event allows.
+pub record Told (shape : HeapShape) (intent : Intent) (st : Step) (v : View) (found : ℕ) (w : View) : Type 0 where
+  pub between : History
+  pub others : share between v.number ≡ []
+  pub gone : (p : ℕ) → within p v.taken ≡ true → (p ≢ v.number) × (share between p ≡ [])
+  pub legal : IsLegal shape w.seen
+  pub in_shape : InShape shape w.seen
+  pub after : w ≡ moved v (between ++ v.seen) (event_list v.number (act_of shape v st intent found) ++ (between ++ v.seen)) st found (working_after shape v st intent found)
+  pub read : (pl : Place) → Reads st → IsPlace (extent_of shape) pl → place_of st ≡ number (extent_of shape) pl → IsRead shape v (between ++ v.seen) pl found
+  pub olds : Each (Stands (between ++ v.seen)) v.olds
+  -- a number that the first pass hasn't given to any pass has no event
+  pub strange : v.number ≡ 0 → (p : ℕ) → v.splits < p → share (between ++ v.seen) p ≡ []
+
+-- the same for a seat, which holds no slot of the table
+abbrev pub Tells : {S : Type 0} → HeapShape → Intent → Step → Me S View → ℕ → Me S View → Type 0
+Tells shape intent st me found me' = (me'.1 ≡ me.1) × Told shape intent st me.0 (given_back st found) me'.0
