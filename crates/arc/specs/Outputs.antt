@@ -7,7 +7,7 @@ use Rattle.std.specs.Io.KnownBytes.{IsAtEnd}
 use Rattle.arc_script.specs.declared.script.Script.{Script}
 use Rattle.arc_script.specs.Grammar.{script_of}
 use Rattle.arc_script.specs.Canonical.{canonical}
-use Rattle.arc_script.specs.Storm.{storm_script}
+use Rattle.arc_storm.specs.Storm.{storm_script}
 use Rattle.arc_ops.specs.Served.{IsServed}
 use Rattle.arc_plain.specs.declared.replay.Replay.{Replay}
 use Rattle.arc_plain.specs.Replays.{IsReplay}

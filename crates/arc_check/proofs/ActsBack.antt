@@ -19,9 +19,9 @@ use Rattle.arc_script.specs.declared.script.VarDecl.{VarDecl}
 use Rattle.arc_script.specs.Valid.{name_at, class_names, var_names, AreClasses, AreVars}
 use Rattle.arc_script.specs.Lookups.{var_place, is_cell_word}
 use Rattle.arc_script.specs.Canonical.{kind_word}
-use Rattle.arc_script.proofs.Spelled.{IsInk, IsWord, word_from_test, name_word, decimal_word, marked_word, sign_word, body, words_of_body, plain_body}
-use Rattle.arc_script.proofs.FormsBack.{kind_back, class_at}
-use Rattle.arc_script.proofs.LinesSpelled.{IsLine}
+use Rattle.arc_script_laws.proofs.Spelled.{IsInk, IsWord, word_from_test, name_word, decimal_word, marked_word, sign_word, body, words_of_body, plain_body}
+use Rattle.arc_script_laws.proofs.FormsBack.{kind_back, class_at}
+use Rattle.arc_script_laws.proofs.LinesSpelled.{IsLine}
 use Rattle.arc_check.specs.declared.word.EventWord.{EventWord}
 use Rattle.arc_check.specs.declared.word.EventWord.TheVariants as word
 use Rattle.arc_check.specs.declared.line.EventLine.{EventLine}

@@ -23,10 +23,10 @@ use Rattle.arc_script.specs.HeadLines as form
 use Rattle.arc_script.specs.Grammar.{Front, Refusal, no_head, no_body, nothing, with_head, grouped, heading_form}
 use Rattle.arc_script.specs.HeadingText.{entered, entering, heads, may_end, headed_line, HeadEnd, head_from}
 use Rattle.arc_script.specs.Canonical.{kind_word, field_word, numbers_line, class_line, decl_line}
-use Rattle.arc_script.proofs.Spelled.{word_from_test, body, words_of_body, plain_body, number_back}
-use Rattle.arc_script.proofs.FormsBack.{fresh_at, name_here, decl_back, class_back}
-use Rattle.arc_script.proofs.LinesSpelled.{IsLine, numbers_spelled, class_spelled, decl_spelled}
-use Rattle.arc_script.proofs.Written.{texts, run_step, run_of}
+use Rattle.arc_script_laws.proofs.Spelled.{word_from_test, body, words_of_body, plain_body, number_back}
+use Rattle.arc_script_laws.proofs.FormsBack.{fresh_at, name_here, decl_back, class_back}
+use Rattle.arc_script_laws.proofs.LinesSpelled.{IsLine, numbers_spelled, class_spelled, decl_spelled}
+use Rattle.arc_script_laws.proofs.Written.{texts, run_step, run_of}
 
 -- ---- one line
 

@@ -17,9 +17,9 @@ use Rattle.arc_script.specs.Group.{run_names}
 use Rattle.arc_script.specs.Grammar.{nothing, shape_said}
 use Rattle.arc_script.specs.HeadingText.{head_from}
 use Rattle.arc_script.specs.Canonical.{numbers_line, class_line, decl_line, heading_lines}
-use Rattle.arc_script.proofs.Spelled.{word_from_test, body, lines_of_text, words_of_body, plain_body, number_back}
-use Rattle.arc_script.proofs.LinesSpelled.{IsLine, AreLines, lines_append, numbers_spelled, class_spelled, decl_spelled}
-use Rattle.arc_script.proofs.Written.{texts, run_step}
+use Rattle.arc_script_laws.proofs.Spelled.{word_from_test, body, lines_of_text, words_of_body, plain_body, number_back}
+use Rattle.arc_script_laws.proofs.LinesSpelled.{IsLine, AreLines, lines_append, numbers_spelled, class_spelled, decl_spelled}
+use Rattle.arc_script_laws.proofs.Written.{texts, run_step}
 use Rattle.arc_check.specs.declared.line.EventLine.{EventLine}
 use Rattle.arc_check.specs.declared.line.Opening.TheVariants as opening
 use Rattle.arc_check.specs.declared.line.Told.TheVariants as told

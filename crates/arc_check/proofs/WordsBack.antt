@@ -11,8 +11,8 @@ use Rattle.arc_text.specs.Words.{number_in}
 use Rattle.arc_model.specs.declared.event.Got.{Got}
 use Rattle.arc_model.specs.declared.event.Got.TheVariants as got
 use Rattle.arc_script.specs.Lookups.{is_at_sign}
-use Rattle.arc_script.proofs.Spelled.{number_back}
-use Rattle.arc_script.proofs.FormsBack.{is_mark, Without, before_mark, after_mark, no_marks, marks}
+use Rattle.arc_script_laws.proofs.Spelled.{number_back}
+use Rattle.arc_script_laws.proofs.FormsBack.{is_mark, Without, before_mark, after_mark, no_marks, marks}
 use Rattle.arc_check.specs.Scopes.{Naming, slot_in, entry_in, thread_in}
 use Rattle.arc_check.specs.EventForms.{hand_in, hand_or_nil, got_in, last_in}
 use Rattle.arc_check.specs.WrittenHistory.{last_word, got_word, hand_word, HandFits, HandOrNilFits, GotFits}

@@ -8,7 +8,8 @@ use crate::fault::CheckFault;
 use crate::line::{EventLine, Opening, Told, opening_line, starts, told_line};
 use crate::scope::Scope;
 use arc_model::Shape;
-use arc_script::{Heading, ReadFault, Reason, read_heading};
+use arc_script::{Heading, ReadFault, Reason};
+use arc_script_reader::read_heading;
 use arc_text::Lines;
 use std::alloc::{AllocError, Global};
 

@@ -5,7 +5,7 @@ use Rattle.std.specs.List.{AllByRecursion, list_all}
 use Rattle.std.specs.Fmt.{digit_glyph, digits_onto, digits, decimal}
 use Rattle.arc_text.specs.Words.{is_newline, is_blank, is_name}
 use Rattle.arc_script.proofs.Inverted.{both}
-use Rattle.arc_script.proofs.Spelled.{IsInk, name_word}
+use Rattle.arc_script_laws.proofs.Spelled.{IsInk, name_word}
 use Rattle.arc_check.specs.Behind.{GoesBefore}
 use Rattle.arc_check.proofs.OtherLines.{Unbroken, line_before, other_letter}
 

@@ -3,7 +3,7 @@ ghost use Rattle.std.specs.Prelude.{◌≤◌, length};
 use crate::replay::{Replay, replay_all};
 use arc_model::{Act, Event, ObjectName, Origin};
 use arc_ops::{Answer, Line, Stamped, is_served};
-use arc_script::read_script;
+use arc_script_reader::read_script;
 use std::alloc::Global;
 use std::process::Abort;
 

@@ -8,7 +8,8 @@ ghost use Rattle.arc_report.specs.History.{later_text, history};
 use crate::events::put_events;
 use arc_model::Memory;
 use arc_ops::Stamped;
-use arc_script::{Script, write_heading};
+use arc_script::Script;
+use arc_script_text::write_heading;
 use std::alloc::Global;
 
 fn later_lines(alloc: Global, script: &Script, events: &[Stamped]) -> Result<String, Memory>

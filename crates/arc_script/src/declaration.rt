@@ -8,7 +8,8 @@ use crate::script::{ClassDecl, VarDecl};
 use arc_text::{Name, is_name};
 use std::alloc::Global;
 
-/// The variable or global that three words declare, of which there are at most so many.
+/// The variable or global that three words declare, behind those that there are, of which there may be `limit`. Refused with the
+/// first that holds of `Spelling`, `Again`, `Unknown`, `Kind` and `TooMany`; Memory where there is none. This project's own.
 pub fn decl_of(
     alloc: Global,
     limit: usize,

@@ -8,7 +8,7 @@ use crate::script::{ClassDecl, FieldDecl, OpCell, VarDecl};
 use arc_model::{Kind, RefShape};
 use arc_text::{cut_at, is_name, marks_in};
 
-/// The kind that a word names.
+/// The kind that a word names: `strong`, `unowned` or `weak`.
 pub fn kind_of(word: &[u8]) -> Option<Kind>
     ensures { result ≡ kind_of word.now }
 {
@@ -34,7 +34,7 @@ pub fn same_kind(kind: Kind, other: Kind) -> bool
     }
 }
 
-/// The place of a class.
+/// The place of the class with this name, from 0.
 pub fn class_place(classes: &[ClassDecl], name: &[u8]) -> Option<u32>
     requires { length classes.now ≤ 64 }
     ensures { result ≡ class_place classes.now name.now }
@@ -66,7 +66,7 @@ fn field_place(fields: &[FieldDecl], name: &[u8]) -> Option<u32>
     }
 }
 
-/// What a variable or a global refers to.
+/// What the variable or global at a place, from 0, refers to: a strong reference to the first class where there is none.
 pub fn ref_at(vars: &[VarDecl], place: u32) -> RefShape
     ensures { result ≡ ref_at (var_refs vars.now) place }
 {
@@ -82,7 +82,7 @@ pub fn ref_at(vars: &[VarDecl], place: u32) -> RefShape
     }
 }
 
-/// The fields of a class.
+/// The fields of the class at a place, from 0: none where there is no such class.
 pub fn fields_at(classes: &[ClassDecl], place: u32) -> &[FieldDecl]
     ensures value { result.now ≡ fields_at classes.now place }
     ensures few { All (λ (c : ClassDecl). length c.fields ≤ 8) classes.now → length result.now ≤ 8 }

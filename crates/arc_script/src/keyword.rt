@@ -52,7 +52,7 @@ pub enum Place {
     Ended,
 }
 
-/// What a line that begins with this word is.
+/// What a line that begins with this word is: nothing where no line begins so.
 pub fn keyword_of(word: &[u8]) -> Option<Keyword>
     ensures { result ≡ keyword_of word.now }
 {

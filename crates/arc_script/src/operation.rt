@@ -106,11 +106,11 @@ fn pair_of(vars: &[VarDecl], word: PairWord, to: &[u8], of: &[u8]) -> Result<Op,
     Ok(pair_op(word, to, of))
 }
 
-/// A variable and a cell for references of one kind and class.
+/// A variable and a cell for references of one kind and class, each by its place, from 0.
 #[derive(Clone, Copy, Debug)]
-struct AtCell {
-    var: u32,
-    cell: OpCell,
+pub struct AtCell {
+    pub var: u32,
+    pub cell: OpCell,
 }
 
 fn at_cell(
@@ -184,7 +184,8 @@ fn set_of(
     }
 }
 
-/// The operation that a line says, or the least reason against it.
+/// The operation that a line says: its first word and the words behind it, read among these classes, globals and variables. Else
+/// the least reason against it. This project's own.
 pub fn op_of(
     classes: &[ClassDecl],
     globals: &[VarDecl],

@@ -2,10 +2,6 @@
 #![tactic(auto)]
 
 #[cfg(test)]
-mod limits;
-#[cfg(test)]
 mod lines;
-#[cfg(test)]
-mod storms;
 #[cfg(test)]
 mod texts;

@@ -1,9 +1,11 @@
 //! Whole texts.
 
+ghost use Rattle.arc_script.specs.Valid.{IsScript};
+
 use arc_model::ObjectName;
-use arc_script::{
-    Answer, Line, Name, ReadFault, read_heading, read_script, write_heading, write_script,
-};
+use arc_script::{Answer, Heading, Line, Name, ReadFault, Script};
+use arc_script_reader::{read_heading, read_script};
+use arc_script_text::{write_heading, write_script};
 use std::alloc::Global;
 use std::process::Abort;
 use std::test::Fail;
@@ -236,26 +238,40 @@ fn texts_are_refused_at_their_first_fault(rt: HostRuntime) {
     check_refused_rows(&rt, rt.alloc(), &REFUSED);
 }
 
-// the text is a script, whose canonical text is this, and so is that of its copy and of what is read from it
-fn check_read(rt: &impl Abort, alloc: Global, text: &str, canonical: &str) -> Result<(), Fail> {
-    assert!(rt; text.len() <= 67_108_864);
-    let Ok(script) = read_script(alloc, text.as_bytes()) else {
-        assert!(rt; false, "refused: {text:?}");
-        return Ok(());
-    };
-    let written = write_script(alloc, &script)?;
+// the canonical text of the script is this
+fn check_written(
+    rt: &impl Abort,
+    alloc: Global,
+    script: &Script,
+    canonical: &str,
+) -> Result<(), Fail>
+    requires { IsScript script.now }
+{
+    let written = write_script(alloc, script)?;
     assert_eq!(rt; written.as_slice(), canonical.as_bytes());
-    let copy = script.copy(alloc)?;
-    let again = write_script(alloc, &copy)?;
-    assert_eq!(rt; again.as_slice(), canonical.as_bytes());
-    assert!(rt; written.len() <= 67_108_864);
-    let Ok(script) = read_script(alloc, &written) else {
-        assert!(rt; false, "refused: {canonical:?}");
-        return Ok(());
-    };
-    let again = write_script(alloc, &script)?;
-    assert_eq!(rt; again.as_slice(), canonical.as_bytes());
     Ok(())
+}
+
+// the text is a script, whose canonical text is this, and so is that of its copy
+fn check_script(rt: &impl Abort, alloc: Global, text: &str, canonical: &str) -> Result<(), Fail> {
+    assert!(rt; text.len() <= 67_108_864);
+    match read_script(alloc, text.as_bytes()) {
+        Ok(script) => {
+            check_written(rt, alloc, &script, canonical)?;
+            let copy = script.copy(alloc)?;
+            check_written(rt, alloc, &copy, canonical)
+        }
+        Err(_) => {
+            assert!(rt; false, "refused: {text:?}");
+            Ok(())
+        }
+    }
+}
+
+// the same of the text and of what is written of it
+fn check_read(rt: &impl Abort, alloc: Global, text: &str, canonical: &str) -> Result<(), Fail> {
+    check_script(rt, alloc, text, canonical)?;
+    check_script(rt, alloc, canonical, canonical)
 }
 
 fn check_read_rows(rt: &impl Abort, alloc: Global, rows: &[(&str, &str)]) -> Result<(), Fail> {
@@ -270,6 +286,21 @@ fn scripts_have_one_canonical_text(rt: HostRuntime) -> Result<(), Fail> {
     check_read_rows(&rt, rt.alloc(), &READ)
 }
 
+// reads the heading at a byte, on the line with this number
+fn heading_at(
+    rt: &impl Abort,
+    alloc: Global,
+    text: &str,
+    at: usize,
+    line: u32,
+    caps: bool,
+) -> Result<Heading, ReadFault> {
+    assert!(rt; text.len() <= 67_108_864);
+    assert!(rt; at <= text.len());
+    assert!(rt; line as usize <= at + 1);
+    read_heading(alloc, text.as_bytes(), at, line, 1, caps)
+}
+
 fn check_heading(
     rt: &impl Abort,
     alloc: Global,
@@ -277,10 +308,7 @@ fn check_heading(
     why: u32,
 ) {
     let (text, at, line, caps, end, last) = row;
-    assert!(rt; text.len() <= 67_108_864);
-    assert!(rt; at <= text.len());
-    assert!(rt; line as usize <= at + 1);
-    match read_heading(alloc, text.as_bytes(), at, line, 1, caps) {
+    match heading_at(rt, alloc, text, at, line, caps) {
         Ok(heading) => {
             assert_eq!(rt; heading.end, end, "of {text:?}");
             assert_eq!(rt; heading.line, last, "of {text:?}");
@@ -325,26 +353,44 @@ fn a_heading_is_written_as_in_a_script(rt: HostRuntime) -> Result<(), Fail> {
     Ok(())
 }
 
+// words, and whether each is a name
+static WORDS: [(&str, bool); 7] = [
+    ("a", true),
+    ("Z_9", true),
+    ("", false),
+    ("9", false),
+    ("_a", false),
+    ("a-b", false),
+    ("\u{e4}", false),
+];
+
+// the name has the word's bytes, and is shown as the word
+fn check_name(rt: &impl Abort, alloc: Global, name: &Name, word: &str) -> Result<(), Fail> {
+    assert_eq!(rt; name.bytes(), word.as_bytes());
+    let shown = format!(in alloc; "{name}")?;
+    assert_eq!(rt; shown.as_str(), word);
+    Ok(())
+}
+
+fn check_word(rt: &impl Abort, alloc: Global, word: &str, is_name: bool) -> Result<(), Fail> {
+    let name = Name::new(Vec::from_slice(alloc, word.as_bytes())?);
+    assert_eq!(rt; name.is_some(), is_name, "of {word:?}");
+    match name {
+        Some(name) => check_name(rt, alloc, &name, word),
+        None => Ok(()),
+    }
+}
+
 #[test]
 fn names_are_spelled_so(rt: HostRuntime) -> Result<(), Fail> {
-    let alloc = rt.alloc();
-    for (word, is_name) in [
-        ("a", true),
-        ("Z_9", true),
-        ("", false),
-        ("9", false),
-        ("_a", false),
-        ("a-b", false),
-        ("\u{e4}", false),
-    ] {
-        let name = Name::new(Vec::from_slice(alloc, word.as_bytes())?);
-        assert_eq!(rt; name.is_some(), is_name, "of {word:?}");
-        if let Some(name) = name {
-            assert_eq!(rt; name.bytes(), word.as_bytes());
-            let shown = format!(in alloc; "{name}")?;
-            assert_eq!(rt; shown.as_str(), word);
-        }
+    for (word, is_name) in &WORDS {
+        check_word(&rt, rt.alloc(), word, *is_name)?;
     }
+    Ok(())
+}
+
+#[test]
+fn a_line_equals_itself(rt: HostRuntime) {
     let line = Line {
         operation: 3,
         answer: Answer::New(ObjectName {
@@ -354,5 +400,4 @@ fn names_are_spelled_so(rt: HostRuntime) -> Result<(), Fail> {
         }),
     };
     assert_eq!(rt; line, line);
-    Ok(())
 }

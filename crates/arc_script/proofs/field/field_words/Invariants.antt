@@ -1,7 +1,0 @@
-use Rattle.std.proofs.Common.{◌≡◌, map, take}
-use Rattle.arc_script.specs.HeadLines.{spelled_of}
-use Rattle.arc_script.specs.Fields.{seen}
-use Rattle.arc_script.proofs.field.field_words.Given as goal
-
-abbrev pub invariant-loop-word : goal.invariant-loop-word
-invariant-loop-word l = map seen l.fields.items ≡ map spelled_of (map (λ w. w.now) (take l.word-index l.words))

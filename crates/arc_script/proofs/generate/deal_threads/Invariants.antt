@@ -1,7 +1,0 @@
-use Rattle.std.proofs.Common.{◌≡◌, map}
-use Rattle.std.specs.List.{range_with_len}
-use Rattle.arc_script.specs.Storm.{storm_thread}
-use Rattle.arc_script.proofs.generate.deal_threads.Given as goal
-
-abbrev pub invariant-loop-i : goal.invariant-loop-i
-invariant-loop-i l = l.threads ≡ map (storm_thread l.operations) (range_with_len 0 l.i)

@@ -1,5 +1,0 @@
-use Rattle.arc_script.proofs.SaysLines.{line_says}
-use Rattle.arc_script.proofs.laws.accepted_line_says.Goals as goal
-
-pub returns : goal.returns
-returns c = line_says

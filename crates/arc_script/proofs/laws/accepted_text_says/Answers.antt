@@ -1,5 +1,0 @@
-use Rattle.arc_script.proofs.Told.{text_stands}
-use Rattle.arc_script.proofs.laws.accepted_text_says.Goals as goal
-
-pub returns : goal.returns
-returns c = text_stands

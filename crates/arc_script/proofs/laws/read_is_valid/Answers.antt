@@ -1,5 +1,0 @@
-use Rattle.arc_script.proofs.Told.{read_is_script}
-use Rattle.arc_script.proofs.laws.read_is_valid.Goals as goal
-
-pub returns : goal.returns
-returns c = read_is_script

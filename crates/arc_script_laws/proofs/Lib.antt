@@ -1,0 +1,10 @@
+pub mod Spelled
+pub mod FormsBack
+pub mod OpsBack
+pub mod LinesSpelled
+pub mod Written
+pub mod WrittenRead
+pub mod LineRefused
+pub mod FormsRefused
+pub mod TextRefused
+pub mod RunNames

@@ -1,0 +1,6 @@
+//! The canonical text of a script.
+#![tactic(auto)]
+
+mod write;
+
+pub use write::{write_heading, write_script};

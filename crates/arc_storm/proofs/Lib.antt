@@ -1,0 +1,3 @@
+pub mod Drawn
+pub mod Dealt
+pub mod StormValid

@@ -1,0 +1,9 @@
+//! Generated scripts.
+#![tactic(auto)]
+
+mod declare;
+mod generate;
+#[cfg(test)]
+mod tests;
+
+pub use generate::storm;
