@@ -1,1 +1,2 @@
 pub mod Cascades
+pub mod Swaps

@@ -1,6 +1,10 @@
-//! The deinit of an object as a machine: which steps it makes, which objects die in it.
+//! Cells and the deinit of an object as machines: which steps they make, which objects die.
 #![tactic(auto)]
 
 mod cascade;
+mod swap;
+#[cfg(test)]
+mod tests;
 
 pub use cascade::{Cascade, CascadeNext};
+pub use swap::{Swap, SwapAnswer};

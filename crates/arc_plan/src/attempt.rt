@@ -1,3 +1,4 @@
+//! Where an attempt on one word is, and what it does with the word that it loaded.
 /// Where an attempt on one word is. It loads the word, and where the word allows it exchanges it once.
 #[derive(Clone, Copy, Debug, PartialEq, Eq)]
 pub enum At {

@@ -1,7 +1,7 @@
 //! Plans on one inline word: an object is made, its strong and unowned references go up and down, its slot is given up.
 #![tactic(auto)]
 
-mod attempt;
+pub mod attempt;
 mod slots;
 mod strong;
 #[cfg(test)]
