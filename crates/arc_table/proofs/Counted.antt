@@ -4,6 +4,7 @@ use Rattle.std.specs.Prelude.{count_by}
 use Rattle.std.proofs.lemmas.List.Sums.{sum_by-cons}
 use Rattle.arc_model.specs.declared.event.Act.{Act}
 use Rattle.arc_model.specs.declared.event.Act.TheVariants as acts
+use Rattle.arc_model.specs.declared.event.CellName.TheVariants as cells
 use Rattle.arc_model.specs.declared.event.Event.{Event}
 use Rattle.arc_model.specs.Shapes.{HeapShape}
 use Rattle.arc_model.specs.History.{History, is_of, share}
@@ -114,9 +115,18 @@ news_act shape v (Exchange place old new) (intents.Load of) found built = absurd
 news_act shape v (Exchange place old new) (intents.Claim of) found built = absurd (built)
 news_act shape v (Exchange place old new) (intents.Publish of why) found built = absurd (built)
 news_act shape v (Exchange place old new) intents.Back found built = absurd (built)
-news_act shape v (Exchange place old new) (intents.Swap cell put) found built = absurd (built)
+news_act shape v (Exchange place old new) (intents.Swap (cells.Global g) put) found built = go (found == old)
+  where
+    go : (b : Bool) → news_if (cond b (hit_act v (place_at (extent_of shape) place) old new (intents.Swap (cells.Global g) put)) (missed_act shape v place new (intents.Swap (cells.Global g) put))) ≡ zero
+    go true = refl
+    go false = refl
+news_act shape v (Exchange place old new) (intents.Swap (cells.Field s f) put) found built = absurd (built)
 news_act shape v (Exchange place old new) (intents.Access cell) found built = absurd (built)
-news_act shape v (Exchange place old new) (intents.Deinit slot) found built = absurd (built)
+news_act shape v (Exchange place old new) (intents.Deinit slot) found built = go (found == old)
+  where
+    go : (b : Bool) → news_if (cond b (hit_act v (place_at (extent_of shape) place) old new (intents.Deinit slot)) (missed_act shape v place new (intents.Deinit slot))) ≡ zero
+    go true = refl
+    go false = refl
 news_act shape v (Exchange place old new) intents.Vacate found built = absurd (built)
 news_act shape v (Exchange place old new) intents.Gone found built = absurd (built)
 news_act shape v (Store place new) (intents.New class) found built = refl
@@ -132,7 +142,7 @@ news_act shape v (Store place new) intents.Back found built = absurd (built)
 news_act shape v (Store place new) (intents.Swap cell put) found built = absurd (built)
 news_act shape v (Store place new) (intents.Access cell) found built = absurd (built)
 news_act shape v (Store place new) (intents.Deinit slot) found built = absurd (built)
-news_act shape v (Store place new) intents.Vacate found built = absurd (built)
+news_act shape v (Store place new) intents.Vacate found built = refl
 news_act shape v (Store place new) intents.Gone found built = absurd (built)
 
 pub news_step : (shape : HeapShape) (intent : Intent) (st : Step) (v : View) (found : ℕ) (w : View) → IsAllowed shape v st intent → Told shape intent st v found w → news w.number w.seen ≡ cond (makes_object st intent found) 1 zero + news v.number v.seen

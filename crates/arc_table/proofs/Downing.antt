@@ -3,6 +3,10 @@ use Rattle.arc_model.specs.declared.event.Act.TheVariants as acts
 use Rattle.arc_table.proofs.Making.{grew_on}
 use Rattle.arc_table.proofs.Counted.{told_alone}
 use Rattle.arc_table.specs.Strangers.{SeesNoStranger}
+use Rattle.arc_table.specs.Tokens.{IsStrongOf, StandsAs}
+use Rattle.arc_table.specs.Causes.{ReadTwice, HasEntry}
+use Rattle.arc_table.specs.Attempts.{IsLoweredInline}
+use Rattle.arc_rule.specs.declared.step.Changed.{Changed}
 use Rattle.std.proofs.Common.{◌≡◌, ◌≢◌, inl, ℕ, ◌<◌, ◌==◌, false, cond, [], ◌∷◌, ◌++◌, length, Option, None, Some, refl, sym, ap, ◌∙◌, subst, arith, eq-eqb, ne_eqb}
 use Rattle.std.specs.Prelude.{slice_get}
 use Rattle.std.specs.Option.{unwrap_or}
@@ -54,7 +58,7 @@ use Rattle.arc_plan.specs.declared.strong.StrongDownAnswer.TheVariants as downs
 use Rattle.arc_plan.specs.Attempts.{Attempt, turned_at, exchanging, chosen, left_at}
 use Rattle.arc_plan.specs.Strong.{strong_down_row, strong_down_end, strong_down_takes, strong_down_turned, strong_down_answer}
 use Rattle.arc_table.specs.Runs.{MayRun, Ran}
-use Rattle.arc_table.proofs.Upping.{ShowsStrong, shows_strong}
+use Rattle.arc_table.proofs.Upping.{ShowsStrong, shows_strong, stands_as}
 use Rattle.arc_table.proofs.Upping.ShowsStrong.{counts, slow}
 use Rattle.arc_table.proofs.Growing.{acts_of, told_grew}
 use Rattle.arc_table.proofs.Invariant.{Keeps, may_run, has_run}
@@ -78,9 +82,10 @@ module _ (shape : HeapShape) (k s : ℕ) (v0 : View) (sized : IsSized shape) (lt
     pub hand : spot (Hand v.number k) (heap_of v) ≡ Some (record { place = i; kind = kinds.Strong })
     pub here : At (heap_of v) i o
     pub slot : o.slot ≡ Some s
+    pub is_class : o.class ≡ o0.class
 
   holding0 : Holding v0
-  holding0 = record { number = refl; working = refl; o = o0; hand = hand0; here = here0; slot = slot0 }
+  holding0 = record { number = refl; working = refl; o = o0; hand = hand0; here = here0; slot = slot0; is_class = refl }
 
   look_none : (v : View) (x : ℕ) → act_of shape v look drop x ≡ None
   look_none v x = ap (λ (q : Place). loaded_act shape v q x drop) (place_at-number (extent_of shape) (Count s) lt)
@@ -103,6 +108,7 @@ module _ (shape : HeapShape) (k s : ℕ) (v0 : View) (sized : IsSized shape) (lt
     pub trail : v.trail ≡ mark ∷ v0.trail
     pub step : mark.step ≡ look
     pub found : mark.found ≡ x
+    pub alone : SeesNoStranger v
 
   looked : (x : ℕ) (v : View) → Told shape drop look v0 x v → Looked x v
   looked x v t =
@@ -126,12 +132,14 @@ module _ (shape : HeapShape) (k s : ℕ) (v0 : View) (sized : IsSized shape) (lt
           hand = (λ j. spot (Hand (number_is j) k) (heap_after (seen j))) ∙ hand;
           here = ap (λ l. slice_get (heap_after l).objects i) seen ∙ held.here;
           slot = slot;
+          is_class = held.class;
         };
         shows = shows_strong shape h v0.number k i s x held.q sized legal within hand held.here slot says;
         mark = record { step = look; found = x; length = length h; made = made_in v0.number h };
         trail = ap (λ (u : View). u.trail) t.after;
         step = refl;
         found = refl;
+        alone = told_alone shape drop look v0 x v t;
       }
 
   -- the counts that were read
@@ -300,3 +308,68 @@ module _ (shape : HeapShape) (k s : ℕ) (v0 : View) (sized : IsSized shape) (lt
         ap (λ (u : View). u.working) t.told.after ∙ (ap (λ b. cond b v.working v.working) (eq-eqb seen seen refl) ∙ l.holding.working),
         told_alone shape drop st v seen w t.told,
       )
+
+  -- after a load alone
+  look_called : (x : ℕ) (w : View) → Looked x w → Called shape [] 1 v0 w
+  look_called x w l = record { grew = l.grew; legal = l.legal; in_shape = l.in_shape }
+
+  look_stands : (x : ℕ) (w : View) → Looked x w → StandsAs v0 k w k
+  look_stands x w l = let g = l.holding in stands_as v0 w k k s o0.class (i, o0, hand0, here0, slot0, refl) (i, g.o, g.hand, g.here, g.slot, g.is_class)
+
+  look_has : (x e : ℕ) (w : View) (l : Looked x w) → l.holding.o.entry ≡ Some e → HasEntry w k e
+  look_has x e w l entry = let g = l.holding in (i, g.o, g.hand, g.here, entry)
+
+  -- an exchange that found another word
+  read_twice : (c : Changed) (w : View) → Tried c.seen c.found w → c.found ≢ c.seen → ReadTwice count_at c v0 w
+  read_twice c w t differ =
+      let second : Mark = record { step = swap c.seen t.c; found = c.found; length = length (t.told.between ++ t.v.seen); made = made_in t.v.number (t.told.between ++ t.v.seen) } in record {
+        first = t.l.mark;
+        second = second;
+        before = [];
+        new = counts_word (strong_less t.c);
+        trail = ap (λ (u : View). u.trail) t.told.after ∙ ap (λ ms. second ∷ ms) t.l.trail;
+        loads = t.l.step;
+        seen = t.l.found;
+        exchanges = refl;
+        found = refl;
+        differ = λ e. differ (sym e);
+      }
+
+  has_missed : (c : Changed) (w : View) → Tried c.seen c.found w → c.found ≢ c.seen → Called shape [] 2 v0 w × (w.working ≡ v0.working)
+  has_missed c w t differ =
+      let v = t.v in
+      let st = swap c.seen t.c in
+      let miss = ne_eqb c.found c.seen differ in
+      let act_is : act_of shape v st drop c.found ≡ None =
+      ap (λ b. cond b (Some (acts.Drop k (is_last (kind_at (spot (Hand v.number k) (heap_of v))) (place_at (extent_of shape) count_at) c.seen))) None) miss in (
+        record {
+          grew = grew_on [] [] 1 1 v0 v w t.l.grew (subst (λ b. Grew (acts_of b) 1 v w) act_is (told_grew shape drop st v c.found w t.told));
+          legal = t.told.legal;
+          in_shape = t.told.in_shape;
+        },
+        ap (λ (u : View). u.working) t.told.after ∙ (ap (λ b. cond b v.working v.working) miss ∙ t.l.holding.working),
+      )
+
+  -- what each answer tells
+  pub lowered_inline : (a : StrongDownAnswer) (w : View) → Outcome a w → IsLoweredInline shape k s v0 w a × (w.working ≡ v0.working) × SeesNoStranger w
+  lowered_inline downs.More w (seen, t, some) =
+      let gone = has_let_go seen w t in
+      (subst (λ b. Called shape (acts.Drop k b ∷ []) 2 v0 w) (ne_eqb t.c.strong_extra 0 some) gone.0, gone.1, gone.2)
+  lowered_inline downs.Last w (seen, t, none) =
+      let gone = has_let_go seen w t in
+      (subst (λ b. Called shape (acts.Drop k b ∷ []) 2 v0 w) (eq-eqb t.c.strong_extra 0 none) gone.0, gone.1, gone.2)
+  lowered_inline (downs.Slow e) w (x, l, entry, within) = ((look_called x w l, look_stands x w l, look_has x e w l entry, within), l.holding.working, l.alone)
+  lowered_inline (downs.Again c) w (t, differ) =
+      let missed = has_missed c w t differ in
+      ((missed.0, read_twice c w t differ), missed.1, told_alone shape drop (swap c.seen t.c) t.v c.found w t.told)
+
+-- the same for a strong reference to an object in the slot
+pub may_lower : (shape : HeapShape) (k s : ℕ) (v : View) → IsSized shape → (s < shape.slots) × ((class : ℕ) × IsStrongOf v k s class) → v.working.owes ≡ None → v.working.access ≡ None
+    → MayRun strong_down_takes strong_down_turned strong_down_answer shape (intents.Drop k) (record { layout = extent_of shape; slot = s; at = ats.Start }) None v
+may_lower shape k s v sized (lt, (class, (i, o, hand, here, slot, is))) free no_access = may_down shape k s v sized lt free no_access i o hand here slot
+
+pub has_lowered : (shape : HeapShape) (k s : ℕ) (v : View) → IsSized shape → (s < shape.slots) × ((class : ℕ) × IsStrongOf v k s class) → v.working.owes ≡ None → v.working.access ≡ None → (a : StrongDownAnswer) (w : View)
+    → Ran strong_down_turned strong_down_answer shape (intents.Drop k) (record { layout = extent_of shape; slot = s; at = ats.Start }) None v a w
+    → IsLoweredInline shape k s v w a × (w.working ≡ v.working) × SeesNoStranger w
+has_lowered shape k s v sized (lt, (class, (i, o, hand, here, slot, is))) free no_access a w ran =
+    lowered_inline shape k s v sized lt free no_access i o hand here slot a w (has_dropped shape k s v sized lt free no_access i o hand here slot a w ran)

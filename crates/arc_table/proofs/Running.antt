@@ -1,14 +1,16 @@
 -- The loop of a plan on the shared heap.
-use Rattle.std.proofs.Common.{◌≡◌, ℕ, Option, Some, None, refl, sym, ◌∙◌, subst}
+use Rattle.std.proofs.Common.{◌≡◌, ℕ, [], ◌∷◌, ◌++◌, length, Option, Some, None, refl, sym, ap, ◌∙◌, subst, append_assoc}
 use Rattle.arc_model.specs.Shapes.{HeapShape}
 use Rattle.arc_rule.specs.declared.step.Step.{Step}
 use Rattle.arc_rule.specs.declared.step.Intent.{Intent}
 use Rattle.arc_rule.specs.declared.plan.Next.{Next}
 use Rattle.arc_rule.specs.declared.plan.Next.TheVariants as nexts
+use Rattle.arc_view.specs.declared.view.Mark.{Mark}
 use Rattle.arc_view.specs.declared.view.View.{View}
+use Rattle.arc_view.specs.Views.{made_in}
 use Rattle.arc_view.specs.Built.{IsAllowed}
 use Rattle.arc_view.specs.Steps.{Told}
-use Rattle.arc_table.specs.Runs.{MayRun, Ran}
+use Rattle.arc_table.specs.Runs.{MayRun, Ran, Walked}
 use Rattle.arc_table.specs.Runs.MayRun.{ends, steps_on}
 use Rattle.arc_table.specs.Runs.Ran.{ended, stepped}
 
@@ -50,3 +52,15 @@ module _ {P A : Type 0} (takes : P → Option ℕ → Type 0) (turned : P → Op
 
   pub comes_to : (start : P) (begun : View) (p : P) (last : Option ℕ) (v : View) (a : A) → IsUnderWay start begun p last v → answer p last ≡ nexts.Done a → Ran turned answer shape intent start None begun a v
   comes_to start begun p last v a u is = u.so_far a v (ended is refl)
+
+  -- the steps of a run
+  pub ran_walked : (p : P) (last : Option ℕ) (v : View) (a : A) (w : View) → Ran turned answer shape intent p last v a w → Walked v w
+  ran_walked p last v a w (ended is same) = record { marks = []; trail = ap (λ (x : View). x.trail) same }
+  ran_walked p last v a w (stepped s found u is told ran) =
+      let more = ran_walked (turned p last) (Some found) u a w ran in
+      let h = told.between ++ v.seen in
+      let m : Mark = record { step = s; found = found; length = length h; made = made_in v.number h } in
+      let one : u.trail ≡ m ∷ v.trail = ap (λ (x : View). x.trail) told.after in record {
+        marks = more.marks ++ m ∷ [];
+        trail = more.trail ∙ (ap (λ l. more.marks ++ l) one ∙ sym (append_assoc more.marks (m ∷ []) v.trail));
+      }

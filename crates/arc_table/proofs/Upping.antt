@@ -15,7 +15,7 @@ use Rattle.arc_model.specs.Shapes.{HeapShape}
 use Rattle.arc_model.specs.Heaps.{Hand, Strongs, Object, Heap}
 use Rattle.arc_model.specs.Holders.{is_empty}
 use Rattle.arc_model.specs.History.{History, heap_after, IsLegal}
-use Rattle.arc_model.specs.Lookup.{spot}
+use Rattle.arc_model.specs.Lookup.{Spot, spot}
 use Rattle.arc_model.specs.WellFormed.{IsWhole, tally}
 use Rattle.arc_model.specs.WellFormed.IsWhole.{live, deiniting, deinited, vacating, going, freed, dead}
 use Rattle.arc_model.proofs.Basics.{in-not_empty}
@@ -56,7 +56,10 @@ use Rattle.arc_view.specs.Steps.{Told}
 use Rattle.arc_view.specs.Calls.{Grew, Called}
 use Rattle.arc_model.proofs.Own.{own_gains}
 use Rattle.arc_table.specs.Strangers.{SeesNoStranger}
-use Rattle.arc_table.specs.Tokens.{IsStrongOf}
+use Rattle.arc_table.specs.Tokens.{IsStrongOf, StandsAs}
+use Rattle.arc_table.specs.Causes.{ReadTwice, LoadedAtCap, HasEntry}
+use Rattle.arc_table.specs.Attempts.{IsRaisedInline}
+use Rattle.arc_rule.specs.declared.step.Changed.{Changed}
 use Rattle.arc_table.proofs.Counted.{told_alone}
 use Rattle.arc_table.proofs.Making.{grew_on, next_none}
 use Rattle.arc_view.proofs.Held.{Held, held_stays, strong≢weak}
@@ -119,6 +122,23 @@ pub is_count_word : (shape : HeapShape) (o : Object) (w : ℕ) → ShowsStrong s
 is_count_word shape o w (counts c is word lives cap unowned none) = subst (IsCountWord shape.entries (λ c. c.strong_extra ≤ shape.caps.strong)) (sym is) (unowned, cap)
 is_count_word shape o w (slow e is entry lt) = subst (IsCountWord shape.entries (λ c. c.strong_extra ≤ shape.caps.strong)) (sym is) lt
 
+-- a hand is a strong one of a single object: its slot and class are settled
+pub strong_one : (v : View) (k s t class class' : ℕ) → IsStrongOf v k s class → IsStrongOf v k t class' → (s ≡ t) × (class ≡ class')
+strong_one v k s t class class' (i, o, hand, here, slot, is) (j, q, hand', here', slot', is') =
+    let place : i ≡ j = spot_inj i j (sym hand ∙ hand') in
+    let same : o ≡ q = some_inj (sym here ∙ (ap (slice_get (heap_of v).objects) place ∙ here')) in
+    (some_inj (sym slot ∙ (ap (λ (x : Object). x.slot) same ∙ slot')), sym is ∙ (ap (λ (x : Object). x.class) same ∙ is'))
+  where
+    some_inj : {X : Type 0} {a b : X} → Some a ≡ Some b → a ≡ b
+    some_inj e = cc
+
+    spot_inj : (a b : ℕ) → Path (Option Spot) (Some (record { place = a; kind = kinds.Strong })) (Some (record { place = b; kind = kinds.Strong })) → a ≡ b
+    spot_inj a b e = ap (λ (x : Spot). x.place) (some_inj e)
+
+-- so one strong reference tells how the hand stands
+pub stands_as : (v w : View) (k m s class : ℕ) → IsStrongOf v k s class → IsStrongOf w m s class → StandsAs v k w m
+stands_as v w k m s class had has t class' other = let same = strong_one v k s t class class' had other in subst (λ (x : ℕ × ℕ). IsStrongOf w m x.0 x.1) (λ j. (same.0 j, same.1 j)) has
+
 module _ (shape : HeapShape) (k s : ℕ) (v0 : View) (sized : IsSized shape) (lt : s < shape.slots) (free : v0.working.owes ≡ None) (i : ℕ) (o0 : Object)
     (hand0 : spot (Hand v0.number k) (heap_of v0) ≡ Some (record { place = i; kind = kinds.Strong })) (here0 : At (heap_of v0) i o0) (slot0 : o0.slot ≡ Some s) where
   abbrev count_at : ℕ
@@ -167,6 +187,7 @@ module _ (shape : HeapShape) (k s : ℕ) (v0 : View) (sized : IsSized shape) (lt
     pub trail : v.trail ≡ mark ∷ v0.trail
     pub step : mark.step ≡ look
     pub found : mark.found ≡ x
+    pub alone : SeesNoStranger v
 
   looked : (x : ℕ) (v : View) → Told shape copy look v0 x v → Looked x v
   looked x v t =
@@ -197,6 +218,7 @@ module _ (shape : HeapShape) (k s : ℕ) (v0 : View) (sized : IsSized shape) (lt
         trail = ap (λ (u : View). u.trail) t.after;
         step = refl;
         found = refl;
+        alone = told_alone shape copy look v0 x v t;
       }
 
   -- the counts that were read have room
@@ -369,3 +391,70 @@ module _ (shape : HeapShape) (k s : ℕ) (v0 : View) (sized : IsSized shape) (lt
         alone = told_alone shape copy st v seen w t.told;
         strong = subst (λ m. IsStrongOf w m s o0.class) next_is (i, q.q, came, ap (λ l. slice_get (heap_after l).objects i) seen_is ∙ q.here, q.slot (inl busy) ∙ (held.slot strong≢weak ∙ l.holding.slot), q.class ∙ (held.class ∙ l.holding.is_class));
       }
+
+  -- what the hand was
+  stood : IsStrongOf v0 k s o0.class
+  stood = (i, o0, hand0, here0, slot0, refl)
+
+  -- after a load alone
+  look_called : (x : ℕ) (w : View) → Looked x w → Called shape [] 1 v0 w
+  look_called x w l = record { grew = l.grew; legal = l.legal; in_shape = l.in_shape }
+
+  look_stands : (x : ℕ) (w : View) → Looked x w → StandsAs v0 k w k
+  look_stands x w l = let g = l.holding in stands_as v0 w k k s o0.class stood (i, g.o, g.hand, g.here, g.slot, g.is_class)
+
+  look_has : (x e : ℕ) (w : View) (l : Looked x w) → l.holding.o.entry ≡ Some e → HasEntry w k e
+  look_has x e w l entry = let g = l.holding in (i, g.o, g.hand, g.here, entry)
+
+  look_capped : (x : ℕ) (c : Inline) (w : View) → Looked x w → IsWordOf (Counts c) x → c.deiniting ≡ false → c.strong_extra ≡ shape.caps.strong → LoadedAtCap shape s v0 w
+  look_capped x c w l word lives full = record { word = x; counts = c; loaded = record { mark = l.mark; before = []; trail = l.trail; loads = l.step; found = l.found }; packs = word; live = lives; at_cap = full }
+
+  -- an exchange that found another word
+  read_twice : (c : Changed) (w : View) → Tried c.seen c.found w → c.found ≢ c.seen → ReadTwice count_at c v0 w
+  read_twice c w t differ =
+      let second : Mark = record { step = swap c.seen t.c; found = c.found; length = length (t.told.between ++ t.v.seen); made = made_in t.v.number (t.told.between ++ t.v.seen) } in record {
+        first = t.l.mark;
+        second = second;
+        before = [];
+        new = counts_word (strong_more t.c);
+        trail = ap (λ (u : View). u.trail) t.told.after ∙ ap (λ ms. second ∷ ms) t.l.trail;
+        loads = t.l.step;
+        seen = t.l.found;
+        exchanges = refl;
+        found = refl;
+        differ = λ e. differ (sym e);
+      }
+
+  has_missed : (c : Changed) (w : View) → Tried c.seen c.found w → c.found ≢ c.seen → Called shape [] 2 v0 w × (w.working ≡ v0.working)
+  has_missed c w t differ =
+      let v = t.v in
+      let st = swap c.seen t.c in
+      let miss = ne_eqb c.found c.seen differ in
+      let act_is : act_of shape v st copy c.found ≡ None = ap (λ b. cond b (Some (acts.Copy (origins.Hand k) (next_hand v.number v.seen))) None) miss in (
+        record {
+          grew = grew_on [] [] 1 1 v0 v w t.l.grew (subst (λ b. Grew (acts_of b) 1 v w) act_is (told_grew shape copy st v c.found w t.told));
+          legal = t.told.legal;
+          in_shape = t.told.in_shape;
+        },
+        ap (λ (u : View). u.working) t.told.after ∙ (ap (λ b. cond b v.working v.working) miss ∙ t.l.holding.working),
+      )
+
+  -- what each answer tells
+  pub raised_inline : (a : StrongUpAnswer) (w : View) → Outcome a w → IsRaisedInline shape k s v0 w a × (w.working ≡ v0.working) × SeesNoStranger w
+  raised_inline ups.Up w (seen, t) = let c = has_copied seen w t in ((c.called, stands_as v0 w k (next_hand v0.number v0.seen) s o0.class stood c.strong), c.working, c.alone)
+  raised_inline ups.Dead w none = absurd (none)
+  raised_inline ups.AtCap w (x, c, l, word, lives, full) = ((look_called x w l, look_capped x c w l word lives full), l.holding.working, l.alone)
+  raised_inline (ups.Slow e) w (x, l, entry, within) = ((look_called x w l, look_stands x w l, look_has x e w l entry, within), l.holding.working, l.alone)
+  raised_inline (ups.Again c) w (t, differ) =
+      let missed = has_missed c w t differ in
+      ((missed.0, read_twice c w t differ), missed.1, told_alone shape copy (swap c.seen t.c) t.v c.found w t.told)
+
+-- the same for a strong reference to an object in the slot
+pub may_raise : (shape : HeapShape) (k s : ℕ) (v : View) → IsSized shape → (s < shape.slots) × ((class : ℕ) × IsStrongOf v k s class) → v.working.owes ≡ None
+    → MayRun strong_up_takes strong_up_turned strong_up_answer shape (intents.Copy (origins.Hand k)) (record { layout = extent_of shape; slot = s; cap = shape.caps.strong; at = ats.Start }) None v
+may_raise shape k s v sized (lt, (class, (i, o, hand, here, slot, is))) free = may_up shape k s v sized lt free i o hand here slot
+
+pub has_raised : (shape : HeapShape) (k s : ℕ) (v : View) → IsSized shape → (s < shape.slots) × ((class : ℕ) × IsStrongOf v k s class) → v.working.owes ≡ None → (a : StrongUpAnswer) (w : View)
+    → Ran strong_up_turned strong_up_answer shape (intents.Copy (origins.Hand k)) (record { layout = extent_of shape; slot = s; cap = shape.caps.strong; at = ats.Start }) None v a w
+    → IsRaisedInline shape k s v w a × (w.working ≡ v.working) × SeesNoStranger w
+has_raised shape k s v sized (lt, (class, (i, o, hand, here, slot, is))) free a w ran = raised_inline shape k s v sized lt free i o hand here slot a w (has_upped shape k s v sized lt free i o hand here slot a w ran)

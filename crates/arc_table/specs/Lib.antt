@@ -2,4 +2,9 @@ pub mod Seats
 pub mod Runs
 pub mod Hands
 pub mod Strangers
+pub mod Causes
 pub mod Tokens
+pub mod Ends
+pub mod Attempts
+pub mod Cells
+pub mod Ending

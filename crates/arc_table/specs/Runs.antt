@@ -1,10 +1,11 @@
 -- What it means that a plan runs on the shared heap: other passes' steps may come between its own.
-use Rattle.std.specs.Prelude.{ℕ, ◌≡◌, Option, Some}
+use Rattle.std.specs.Prelude.{ℕ, ◌≡◌, List, ◌++◌, Option, Some}
 use Rattle.arc_model.specs.Shapes.{HeapShape}
 use Rattle.arc_rule.specs.declared.step.Step.{Step}
 use Rattle.arc_rule.specs.declared.step.Intent.{Intent}
 use Rattle.arc_rule.specs.declared.plan.Next.{Next}
 use Rattle.arc_rule.specs.declared.plan.Next.TheVariants as nexts
+use Rattle.arc_view.specs.declared.view.Mark.{Mark}
 use Rattle.arc_view.specs.declared.view.View.{View}
 use Rattle.arc_view.specs.Built.{IsAllowed}
 use Rattle.arc_view.specs.Steps.{Told}
@@ -21,3 +22,8 @@ pub data Ran {P A : Type 0} (turned : P → Option ℕ → P) (answer : P → Op
   ended : {p : P} {last : Option ℕ} {v w : View} {a : A} → answer p last ≡ nexts.Done a → w ≡ v → Ran turned answer shape intent p last v a w
   stepped : {p : P} {last : Option ℕ} {v w : View} {a : A} (s : Step) (found : ℕ) (u : View) → answer p last ≡ nexts.Step s → Told shape intent s v found u →
       Ran turned answer shape intent (turned p last) (Some found) u a w → Ran turned answer shape intent p last v a w
+
+-- The pass has made these steps since v, the newest first.
+pub record Walked (v w : View) : Type 0 where
+  pub marks : List Mark
+  pub trail : w.trail ≡ marks ++ v.trail

@@ -1,18 +1,21 @@
 -- What tokens stand for, and what attempts answer.
-use Rattle.std.specs.Prelude.{ℕ, ◌≡◌, ◌+◌, ◌-◌, ◌<◌, true, List, [], ◌∷◌, ◌++◌, Some, length}
+use Rattle.std.specs.Prelude.{ℕ, ◌≡◌, ◌≢◌, ◌+◌, ◌-◌, ◌<◌, true, false, List, [], ◌∷◌, ◌++◌, Option, None, Some, length}
 use Rattle.arc_model.specs.declared.event.ObjectName.{ObjectName}
 use Rattle.arc_view.specs.Rule.{news}
+use Rattle.arc_model.specs.declared.event.Act.{Act}
 use Rattle.arc_model.specs.declared.event.Act.TheVariants as acts
+use Rattle.arc_model.specs.declared.event.Origin.TheVariants as origins
 use Rattle.arc_model.specs.declared.shape.Kind.TheVariants.{Strong}
 use Rattle.arc_model.specs.Shapes.{HeapShape}
-use Rattle.arc_model.specs.Heaps.{Object}
+use Rattle.arc_model.specs.Heaps.{Hand, Deinit, Object}
 use Rattle.arc_model.specs.History.{next_hand}
+use Rattle.arc_model.specs.Lookup.{spot}
 use Rattle.arc_rule.specs.declared.layout.Place.TheVariants.{Count}
 use Rattle.arc_rule.specs.Places.{extent_of, number}
 use Rattle.arc_view.specs.declared.view.Mark.{Mark}
 use Rattle.arc_view.specs.declared.view.View.{View}
 use Rattle.arc_view.specs.Views.{made_in}
-use Rattle.arc_view.specs.Holding.{At, HasHand, heap_of}
+use Rattle.arc_view.specs.Holding.{At, HasHand, HasDuty, heap_of}
 use Rattle.arc_view.specs.Kinds.{searched}
 use Rattle.arc_view.specs.Calls.{Called}
 use Rattle.arc_plan.specs.declared.slots.NewObjectAnswer.{NewObjectAnswer}
@@ -20,6 +23,16 @@ use Rattle.arc_plan.specs.declared.slots.NewObjectAnswer.TheVariants.{Slot, NoSl
 use Rattle.arc_table.specs.declared.tokens.Strong.{Strong as Token}
 use Rattle.arc_table.specs.declared.tokens.Made.{Made}
 use Rattle.arc_table.specs.declared.tokens.Made.TheVariants as made
+use Rattle.arc_table.specs.declared.tokens.Dying.{Dying}
+use Rattle.arc_table.specs.declared.tokens.Up.{Up}
+use Rattle.arc_table.specs.declared.tokens.Up.TheVariants as ups
+use Rattle.arc_table.specs.declared.tokens.Release.{Release}
+use Rattle.arc_table.specs.declared.tokens.Release.TheVariants as releases
+use Rattle.arc_table.specs.declared.strong.Raised.{Raised}
+use Rattle.arc_table.specs.declared.strong.Raised.TheVariants as raised
+use Rattle.arc_table.specs.declared.strong.Lowered.{Lowered}
+use Rattle.arc_table.specs.declared.strong.Lowered.TheVariants as lowered
+use Rattle.arc_table.specs.Causes.{LoadedAtCap, LoadedFull, ChangedCount}
 
 -- the last hand that a pass got
 abbrev pub last_hand : View → ℕ
@@ -33,6 +46,10 @@ hand_of t = last_hand t.at.value.me.0
 abbrev pub IsStrongOf : View → ℕ → ℕ → ℕ → Type 0
 IsStrongOf v k s class = (i : ℕ) × (o : Object) × HasHand v k Strong i × At (heap_of v) i o × (o.slot ≡ Some s) × (o.class ≡ class)
 
+-- the pass didn't have the hand
+abbrev pub IsNewHand : View → ℕ → Type 0
+IsNewHand v k = spot (Hand v.number k) (heap_of v) ≡ None
+
 -- The steps of the call between the two views are an exchange at each slot, from the first to the last, and each found the slot taken.
 abbrev pub FoundTaken : HeapShape → View → View → Type 0
 FoundTaken shape v w = (ms : List Mark) × (w.trail ≡ ms ++ v.trail) × (length ms ≡ shape.slots) × (searched (λ s. number (extent_of shape) (Count s)) 2 (made_in v.number v.seen) shape.slots ms ≡ true)
@@ -44,13 +61,85 @@ IsCreated shape class v w NoSlot = Called shape (acts.Full ∷ []) (shape.slots 
 
 -- Ok: one object was made, and the token is the pass's new hand, strong, of the object in its slot. NoSlot: each slot was found taken.
 abbrev pub IsMade : HeapShape → ℕ → View → View → Made → Type 0
-IsMade shape class v w (made.Ok t) = Called shape (acts.New (hand_of t) class t.slot ∷ []) (shape.slots + 1) v w × (hand_of t ≡ next_hand v.number v.seen) × (t.slot < shape.slots) × IsStrongOf w (hand_of t) t.slot class
+IsMade shape class v w (made.Ok t) = Called shape (acts.New (hand_of t) class t.slot ∷ []) (shape.slots + 1) v w × (hand_of t ≡ next_hand v.number v.seen) × IsNewHand v (hand_of t) × (t.slot < shape.slots) × IsStrongOf w (hand_of t) t.slot class
 IsMade shape class v w made.NoSlot = Called shape (acts.Full ∷ []) (shape.slots + 1) v w × FoundTaken shape v w
 
 -- the name of the pass's next object, of any class
 abbrev pub IsNextName : View → ObjectName → Type 0
 IsNextName v name = (name.thread ≡ v.number) × (name.number ≡ news v.number v.seen + 1)
 
+-- what hand j was in v, hand k is in w: a strong reference to the same object in the same slot
+abbrev pub StandsAs : View → ℕ → View → ℕ → Type 0
+StandsAs v j w k = (s class : ℕ) → IsStrongOf v j s class → IsStrongOf w k s class
+
 -- each strong reference that the pass had it has still, to the same object in the same slot
 abbrev pub KeepsStrong : View → View → Type 0
-KeepsStrong v w = (k s class : ℕ) → IsStrongOf v k s class → IsStrongOf w k s class
+KeepsStrong v w = (k : ℕ) → StandsAs v k w k
+
+-- each but hand h
+abbrev pub KeepsStrongBut : ℕ → View → View → Type 0
+KeepsStrongBut h v w = (k : ℕ) → k ≢ h → StandsAs v k w k
+
+-- the view owes the deinit of the object in the slot, which is of the class
+abbrev pub IsDyingOf : View → ℕ → ℕ → Type 0
+IsDyingOf v s class = (i : ℕ) × (o : Object) × At (heap_of v) i o × HasDuty v Deinit i × (o.slot ≡ Some s) × (o.class ≡ class)
+
+-- each deinit that the pass owed it owes still, of the same object in the same slot
+abbrev pub KeepsDying : View → View → Type 0
+KeepsDying v w = (s class : ℕ) → IsDyingOf v s class → IsDyingOf w s class
+
+-- a token of the pass: a strong hand of an object in its slot
+abbrev pub IsHeld : HeapShape → View → Token → Type 0
+IsHeld shape v t = (t.slot < shape.slots) × ((class : ℕ) × IsStrongOf v (hand_of t) t.slot class)
+
+-- the duty of a pass: the deinit of an object in its slot
+abbrev pub IsOwed : HeapShape → View → Dying → Type 0
+IsOwed shape v d = (d.slot < shape.slots) × ((class : ℕ) × IsDyingOf v d.slot class)
+
+-- One more strong reference, copied from hand k of an object in slot s. Up: the copy is the pass's new hand, and is what hand k was. AtCap, CountFull:
+-- the count that was loaded in this call stands at its greatest. Again: the count has changed between two reads of this call.
+abbrev pub IsRaised : HeapShape → ℕ → ℕ → View → View → Raised → Type 0
+IsRaised shape k s v w raised.Up = Called shape (acts.Copy (origins.Hand k) (next_hand v.number v.seen) ∷ []) 3 v w × StandsAs v k w (next_hand v.number v.seen)
+IsRaised shape k s v w raised.AtCap = Called shape [] 3 v w × LoadedAtCap shape s v w
+IsRaised shape k s v w raised.CountFull = Called shape (acts.CountFull Strong (origins.Hand k) ∷ []) 3 v w × LoadedFull shape k v w
+IsRaised shape k s v w (raised.Again c) = Called shape [] 3 v w × ChangedCount shape k s c v w
+
+-- The same with the token: Ok is the pass's new hand, in the same slot.
+abbrev pub IsUp : HeapShape → Token → View → View → Up Token → Type 0
+IsUp shape of v w (ups.Ok t) = Called shape (acts.Copy (origins.Hand (hand_of of)) (hand_of t) ∷ []) 3 v w × (hand_of t ≡ next_hand v.number v.seen) × IsNewHand v (hand_of t) × (t.slot ≡ of.slot) × StandsAs v (hand_of of) w (hand_of t)
+IsUp shape of v w (ups.Again c) = Called shape [] 3 v w × ChangedCount shape (hand_of of) of.slot c v w
+IsUp shape of v w ups.AtCap = Called shape [] 3 v w × LoadedAtCap shape of.slot v w
+IsUp shape of v w ups.CountFull = Called shape (acts.CountFull Strong (origins.Hand (hand_of of)) ∷ []) 3 v w × LoadedFull shape (hand_of of) v w
+
+-- Hand k, of an object in slot s, is dropped. More: other strong references remain. Last: none, and the pass owes the deinit of what the hand was of.
+-- Again: nothing is dropped, and the count has changed between two reads of this call.
+abbrev pub IsLowered : HeapShape → ℕ → ℕ → View → View → Lowered → Type 0
+IsLowered shape k s v w lowered.More = Called shape (acts.Drop k false ∷ []) 3 v w
+IsLowered shape k s v w lowered.Last = Called shape (acts.Drop k true ∷ []) 3 v w
+IsLowered shape k s v w (lowered.Again c) = Called shape [] 3 v w × ChangedCount shape k s c v w
+
+-- The same with the tokens: Last gives the duty, Again gives the reference back.
+abbrev pub IsReleased : HeapShape → Token → View → View → Release → Type 0
+IsReleased shape held v w releases.More = Called shape (acts.Drop (hand_of held) false ∷ []) 3 v w
+IsReleased shape held v w (releases.Last d) = Called shape (acts.Drop (hand_of held) true ∷ []) 3 v w × (d.slot ≡ held.slot) × ((class : ℕ) → IsStrongOf v (hand_of held) held.slot class → IsDyingOf w d.slot class)
+IsReleased shape held v w (releases.Again t c) = (t ≡ held) × Called shape [] 3 v w × ChangedCount shape (hand_of held) held.slot c v w
+
+-- the act of the call
+abbrev pub made_act : ℕ → Made → Option Act
+made_act class (made.Ok t) = Some (acts.New (hand_of t) class t.slot)
+made_act class made.NoSlot = Some acts.Full
+
+abbrev pub up_act : Token → Up Token → Option Act
+up_act of (ups.Ok t) = Some (acts.Copy (origins.Hand (hand_of of)) (hand_of t))
+up_act of ups.CountFull = Some (acts.CountFull Strong (origins.Hand (hand_of of)))
+up_act of _ = None
+
+abbrev pub release_act : Token → Release → Option Act
+release_act held releases.More = Some (acts.Drop (hand_of held) false)
+release_act held (releases.Last d) = Some (acts.Drop (hand_of held) true)
+release_act held (releases.Again t c) = None
+
+-- the hand that the call gave up
+abbrev pub KeepsRest : Token → Release → View → View → Type 0
+KeepsRest held (releases.Again t c) v w = KeepsStrong v w
+KeepsRest held _ v w = KeepsStrongBut (hand_of held) v w

@@ -1,5 +1,5 @@
 //! The heap, and what a thread has of it.
-ghost use Rattle.std.specs.Prelude.{◌≡◌, ◌≤◌, [], IfOk};
+ghost use Rattle.std.specs.Prelude.{◌≡◌, ◌≤◌, [], IfOk, vec_len};
 ghost use Rattle.arc_rule.specs.Places.{extent_of, word_count};
 ghost use Rattle.arc_view.specs.declared.view.Role.TheVariants.{Pass as pass_role, Note as note_role};
 ghost use Rattle.arc_view.specs.Rule.{IsSized, news};
@@ -18,10 +18,14 @@ pub struct Heap {
     pub(crate) table: Table<(), View, Shape, Law, Global>,
     pub(crate) layout: Layout,
     pub(crate) shape: Shape,
+    /// What the table was filled from. `close` hands it out.
+    pub(crate) room: Vec<u64>,
     ghost keyed: { table.shared.key ≡ shape },
     ghost laid: { layout ≡ extent_of shape },
     ghost wide: { table.shared.table_id.words ≡ word_count (extent_of shape) },
+    ghost flat: { table.shared.table_id.slots ≡ 0 },
     ghost sized: { IsSized shape },
+    ghost roomy: { vec_len room ≡ word_count (extent_of shape) },
 }
 
 /// The seat of a pass.
@@ -55,6 +59,25 @@ pub struct Note {
     ghost copied: { seat.me.0.role ≡ note_role },
 }
 
+impl Pass {
+    ghost use Rattle.arc_view.specs.Rule.{news};
+    ghost use Rattle.arc_table.specs.Seats.{view_of};
+
+    /// The number of the pass, at most 64: the first pass has 0, and the passes that it splits off have 1, 2 and so on.
+    pub fn number(&self) -> u32
+        ensures { result ≡ (view_of self.now).number }
+    {
+        self.number
+    }
+
+    /// How many objects the pass has made, at most 100,000.
+    pub fn objects_made(&self) -> u32
+        ensures { result ≡ news (view_of self.now).number (view_of self.now).seen }
+    {
+        self.made
+    }
+}
+
 impl Heap {
     ghost use Rattle.arc_view.specs.Views.{first_view};
     ghost use Rattle.arc_table.specs.Seats.{heap_id, shape_of, pass_id, view_of};
@@ -72,6 +95,7 @@ impl Heap {
             table,
             layout,
             shape,
+            room: words,
         };
         let part = Part { seat };
         Ok((

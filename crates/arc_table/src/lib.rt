@@ -2,14 +2,22 @@
 #![tactic(auto)]
 
 mod asks;
+mod cells;
+mod close;
+mod ends;
 mod heap;
 mod objects;
 mod passes;
 mod runs;
 mod steps;
+mod strong;
 #[cfg(test)]
 mod tests;
+#[cfg(test)]
+mod threads;
 mod tokens;
 
+pub use close::{Closed, LastPass};
+pub use ends::{Finish, Freed, Vacated};
 pub use heap::{Heap, Note, Pass};
-pub use tokens::{Made, Strong};
+pub use tokens::{Any, Dying, Made, Release, Strong, Swapped, Up};

@@ -4,9 +4,11 @@ ghost use Rattle.arc_model.specs.declared.event.ObjectName.{ObjectName as Name};
 ghost use Rattle.arc_rule.specs.declared.step.Intent.TheVariants.{New};
 ghost use Rattle.arc_view.specs.Admission.{OwesNoName};
 ghost use Rattle.arc_view.specs.Rule.{news};
+ghost use Rattle.arc_table.specs.Ends.{KeepsFreed};
 ghost use Rattle.arc_table.specs.Seats.{heap_id, shape_of, part_id, part_view, pass_id, view_of};
 ghost use Rattle.arc_table.specs.Strangers.{SeesNoStranger};
-ghost use Rattle.arc_table.specs.Tokens.{IsNextName, IsCreated, IsMade, KeepsStrong};
+ghost use Rattle.arc_table.specs.Hands.{Moves};
+ghost use Rattle.arc_table.specs.Tokens.{IsNextName, IsCreated, IsMade, KeepsStrong, KeepsDying, made_act};
 
 use crate::asks::Asks;
 use crate::heap::{Heap, Part, Pass};
@@ -45,7 +47,10 @@ impl Heap {
         requires free { OwesNoName (view_of pass.old) }
         ensures same { pass_id pass.new ≡ pass_id pass.old }
         ensures made { IsMade (shape_of self.now) class (view_of pass.old) (view_of pass.new) result }
+        ensures moves { Moves (made_act class result) (view_of pass.old) (view_of pass.new) }
         ensures kept { KeepsStrong (view_of pass.old) (view_of pass.new) }
+        ensures dying { KeepsDying (view_of pass.old) (view_of pass.new) }
+        ensures freed { KeepsFreed (view_of pass.old) (view_of pass.new) }
         ensures working { (view_of pass.new).working ≡ (view_of pass.old).working }
     {
         let name = ObjectName {

@@ -1,11 +1,14 @@
 //! How passes are split off, noted, and taken in.
-ghost use Rattle.std.specs.Prelude.{◌≡◌, ◌<◌, []};
+ghost use Rattle.std.specs.Prelude.{◌≡◌, ◌<◌, [], None};
 ghost use Rattle.arc_view.specs.Admission.{OwesNoName};
 ghost use Rattle.arc_view.specs.Views.{StartsWith, spent_view};
 ghost use Rattle.arc_view.specs.Passes.{parted, newcomer, noted, glanced, met, joined, IsFirst, HoldsNothing};
 ghost use Rattle.arc_view.specs.Calls.{Grew, Called, Took};
+ghost use Rattle.arc_table.specs.Ends.{KeepsFreed};
 ghost use Rattle.arc_table.specs.Seats.{heap_id, shape_of, part_id, part_view, pass_id, view_of, note_id, seen_of};
+ghost use Rattle.arc_table.specs.Hands.{Moves};
 ghost use Rattle.arc_table.specs.Strangers.{SeesNoStranger};
+ghost use Rattle.arc_table.specs.Tokens.{KeepsStrong, KeepsDying};
 
 use crate::heap::{Heap, Note, Part, Pass};
 use arc_rule::Intent;
@@ -98,6 +101,10 @@ impl Heap {
         ensures same { pass_id pass.new ≡ pass_id pass.old }
         ensures called { Called (shape_of self.now) [] 2 (view_of pass.old) (view_of pass.new) }
         ensures met { StartsWith (view_of pass.new).seen (seen_of note) }
+        ensures moves { Moves None (view_of pass.old) (view_of pass.new) }
+        ensures kept { KeepsStrong (view_of pass.old) (view_of pass.new) }
+        ensures dying { KeepsDying (view_of pass.old) (view_of pass.new) }
+        ensures freed { KeepsFreed (view_of pass.old) (view_of pass.new) }
         ensures working { (view_of pass.new).working ≡ (view_of pass.old).working }
     {
         self.meet_part(&mut pass.part, note);
@@ -126,6 +133,10 @@ impl Heap {
         requires nothing { HoldsNothing (view_of taken) }
         ensures same { pass_id pass.new ≡ pass_id pass.old }
         ensures took { Took (shape_of self.now) (view_of pass.old) (view_of taken) (view_of pass.new) }
+        ensures moves { Moves None (view_of pass.old) (view_of pass.new) }
+        ensures kept { KeepsStrong (view_of pass.old) (view_of pass.new) }
+        ensures dying { KeepsDying (view_of pass.old) (view_of pass.new) }
+        ensures freed { KeepsFreed (view_of pass.old) (view_of pass.new) }
         ensures working { (view_of pass.new).working ≡ (view_of pass.old).working }
     {
         let Pass {

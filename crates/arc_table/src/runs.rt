@@ -2,7 +2,7 @@
 ghost use Rattle.std.specs.Prelude.{◌≡◌, Option, None};
 ghost use Rattle.arc_view.specs.Built.{IsAllowed};
 ghost use Rattle.arc_view.specs.Steps.{Told};
-ghost use Rattle.arc_table.specs.Runs.{MayRun, Ran};
+ghost use Rattle.arc_table.specs.Runs.{MayRun, Ran, Walked};
 ghost use Rattle.arc_table.specs.Seats.{heap_id, shape_of, part_id, part_view};
 
 use crate::asks::Asks;
@@ -33,6 +33,7 @@ impl Heap {
         requires asks { J.shape ≡ shape_of self.now }
         requires may { MayRun P.takes P.turned P.answer (shape_of self.now) J.intent plan None (part_view part.old) }
         ensures same { part_id part.new ≡ part_id part.old }
+        ensures walked { Walked (part_view part.old) (part_view part.new) }
         ensures ran { Ran P.turned P.answer (shape_of self.now) J.intent plan None (part_view part.old) result (part_view part.new) }
     {
         let mut plan = plan;

@@ -1,10 +1,20 @@
-ghost use Rattle.std.specs.Prelude.{◌≡◌, length, IfSome};
+ghost use Rattle.std.specs.Prelude.{◌≡◌, ◌+◌, ◌<◌, ◌≤◌, [], ◌∷◌, length, IfSome};
+ghost use Rattle.arc_model.specs.declared.shape.Kind.TheVariants.{Strong as strong_kind};
+ghost use Rattle.arc_view.specs.Admission.{OwesNoName};
+ghost use Rattle.arc_view.specs.Rule.{news};
 ghost use Rattle.arc_view.specs.Views.{first_view};
 ghost use Rattle.arc_table.specs.Seats.{heap_id, shape_of, pass_id, view_of};
+ghost use Rattle.arc_table.specs.declared.tokens.Made.TheVariants as created;
+ghost use Rattle.arc_table.specs.declared.tokens.Up.TheVariants as ups;
+ghost use Rattle.arc_table.specs.declared.tokens.Any.TheVariants as anys;
+ghost use Rattle.arc_table.specs.declared.tokens.Release.TheVariants as releases;
+ghost use Rattle.arc_table.specs.declared.ends.Finish.TheVariants as finishes;
+ghost use Rattle.arc_table.specs.declared.tokens.Swapped.TheVariants as swaps;
 
+use crate::ends::{Finish, Freed};
 use crate::heap::{Heap, Pass};
-use crate::tokens::{Made, Strong};
-use arc_model::{Caps, ClassShape, Shape};
+use crate::tokens::{Any, Dying, Made, Release, Strong, Swapped, Up};
+use arc_model::{Caps, ClassShape, Kind, RefShape, Shape};
 use arc_rule::{Intent, Step};
 use std::alloc::Global;
 
@@ -29,8 +39,8 @@ fn passes_meet(rt: HostRuntime) {
 }
 
 /// Two slots, one entry, and one class without fields.
-fn classed_heap(alloc: Global) -> Option<(Heap, Pass)>
-    ensures { IfSome result (λ r. (pass_id r.1 ≡ heap_id r.0) × (view_of r.1 ≡ first_view) × (length (shape_of r.0).classes ≡ 1)) }
+pub(crate) fn classed_heap(alloc: Global) -> Option<(Heap, Pass)>
+    ensures { IfSome result (λ r. (pass_id r.1 ≡ heap_id r.0) × (view_of r.1 ≡ first_view) × ((shape_of r.0).classes ≡ [] ∷ [])) }
 {
     let caps = Caps::new(5, 6, 7).ok()?;
     let mut classes = Vec::new(alloc);
@@ -53,4 +63,203 @@ fn first_object(rt: HostRuntime) {
         }
         Made::NoSlot => panic!(rt; "each slot was found taken"),
     }
+}
+
+/// The slot of a new object, whose reference is never given up.
+fn fill(heap: &Heap, pass: &mut Pass) -> Option<u32>
+    requires own { pass_id pass.old ≡ heap_id heap.now }
+    requires class { length (shape_of heap.now).classes ≡ 1 }
+    requires room { news (view_of pass.old).number (view_of pass.old).seen < 100000 }
+    requires free { OwesNoName (view_of pass.old) }
+    ensures same { pass_id pass.new ≡ pass_id pass.old }
+    ensures few { news (view_of pass.new).number (view_of pass.new).seen ≤ news (view_of pass.old).number (view_of pass.old).seen + 1 }
+    ensures working { (view_of pass.new).working ≡ (view_of pass.old).working }
+{
+    match heap.new_object(pass, 0) {
+        Made::Ok(token) => {
+            let Strong { slot, at: _ } = token;
+            Some(slot)
+        }
+        Made::NoSlot => None,
+    }
+}
+
+/// With ample memory a heap is made. Each slot is found free once, from the first to the last.
+#[test]
+fn slots_run_out(rt: HostRuntime) {
+    let (heap, mut first) = classed_heap(rt.alloc()).expect(&rt, "a heap");
+    assert_eq!(rt; fill(&heap, &mut first), Some(0));
+    assert_eq!(rt; fill(&heap, &mut first), Some(1));
+    assert_eq!(rt; fill(&heap, &mut first), None);
+}
+
+/// The reference to a new object.
+fn made(answer: Made) -> Option<Strong>
+    ensures { IfSome result (λ t. answer ≡ created.Ok t) }
+{
+    match answer {
+        Made::Ok(token) => Some(token),
+        Made::NoSlot => None,
+    }
+}
+
+/// The reference that a retain made.
+fn copied(answer: Up<Strong>) -> Option<Strong>
+    ensures { IfSome result (λ t. answer ≡ ups.Ok t) }
+{
+    match answer {
+        Up::Ok(token) => Some(token),
+        Up::Again(_) | Up::AtCap | Up::CountFull => None,
+    }
+}
+
+/// What a release came to: whether it was the last one's, or nothing for a count that changed.
+fn was_last(answer: Release) -> Option<bool> {
+    match answer {
+        Release::More => Some(false),
+        Release::Last(dying) => {
+            let Dying { slot: _ } = dying;
+            Some(true)
+        }
+        Release::Again(held, _) => {
+            let Strong { slot: _, at: _ } = held;
+            None
+        }
+    }
+}
+
+/// With ample memory a heap is made. The second of two releases is the last.
+#[test]
+fn object_dies(rt: HostRuntime) {
+    let (heap, mut first) = classed_heap(rt.alloc()).expect(&rt, "a heap");
+    let token = made(heap.new_object(&mut first, 0)).expect(&rt, "an object");
+    let copy = copied(heap.retain(&mut first, &token)).expect(&rt, "a reference");
+    assert_eq!(rt; was_last(heap.release(&mut first, copy)), Some(false));
+    assert_eq!(rt; was_last(heap.release(&mut first, token)), Some(true));
+}
+
+/// The words of a heap that is closed as it was made are all 0: one word and eleven a slot, four an entry.
+#[test]
+fn new_heap_closes_with_words_that_are_zero(rt: HostRuntime) {
+    let (heap, first) = small_heap(rt.alloc()).expect(&rt, "a heap");
+    let closed = heap.close(first);
+    assert_eq!(rt; closed.words.as_slice(), [0u64; 27].as_slice());
+    assert_eq!(rt; closed.shape.slots(), 2);
+}
+
+/// A heap of which a pass was split off is closed once the first pass took it in.
+#[test]
+fn heap_closes_after_a_join(rt: HostRuntime) {
+    let (heap, mut first) = small_heap(rt.alloc()).expect(&rt, "a heap");
+    let second = heap.split(&mut first);
+    heap.join(&mut first, second);
+    let closed = heap.close(first);
+    assert_eq!(rt; closed.words.as_slice(), [0u64; 27].as_slice());
+}
+
+/// Two slots, one entry, one class without fields, and a global for strong references to its objects.
+fn heap_with_global(alloc: Global) -> Option<(Heap, Pass)>
+    ensures { IfSome result (λ r. (pass_id r.1 ≡ heap_id r.0) × (view_of r.1 ≡ first_view) × (length (shape_of r.0).classes ≡ 1) × ((shape_of r.0).globals ≡ record { kind = strong_kind; class = 0 } ∷ [])) }
+{
+    let caps = Caps::new(5, 6, 7).ok()?;
+    let mut classes = Vec::new(alloc);
+    let class = ClassShape {
+        fields: Vec::new(alloc),
+    };
+    classes.push(class).ok()?;
+    let mut globals = Vec::new(alloc);
+    let global = RefShape {
+        kind: Kind::Strong,
+        class: 0,
+    };
+    globals.push(global).ok()?;
+    let shape = Shape::new(2, 1, caps, classes, globals).ok()?;
+    Heap::make(alloc, shape).ok()
+}
+
+/// A reference that is never given up: whether it is one.
+fn forgotten(reference: Any) -> bool {
+    match reference {
+        Any::Nil => false,
+        Any::Strong(token) => {
+            let Strong { slot: _, at: _ } = token;
+            true
+        }
+    }
+}
+
+/// The reference that came out of a global.
+fn came_out(answer: Swapped) -> Option<Strong>
+    ensures { IfSome result (λ t. answer ≡ swaps.Ok (anys.Strong t)) }
+{
+    match answer {
+        Swapped::Ok(Any::Strong(token)) => Some(token),
+        Swapped::Ok(Any::Nil) => None,
+        Swapped::Busy(put) | Swapped::Again(put, _) => {
+            forgotten(put);
+            None
+        }
+    }
+}
+
+/// Whether it was nil that came out of a global; nothing where no exchange was made.
+fn took_nil(answer: Swapped) -> Option<bool> {
+    match answer {
+        Swapped::Ok(got) => Some(!forgotten(got)),
+        Swapped::Busy(put) | Swapped::Again(put, _) => {
+            forgotten(put);
+            None
+        }
+    }
+}
+
+/// With ample memory a heap is made. What one pass puts into a global, which was nil, another takes out, and gives up.
+#[test]
+fn object_is_handed_over(rt: HostRuntime) {
+    let (heap, mut first) = heap_with_global(rt.alloc()).expect(&rt, "a heap");
+    let token = made(heap.new_object(&mut first, 0)).expect(&rt, "an object");
+    let mut second = heap.split(&mut first);
+    let before = heap.swap(&mut first, 0, Any::Strong(token));
+    assert_eq!(rt; took_nil(before), Some(true));
+    let got = came_out(heap.swap(&mut second, 0, Any::Nil)).expect(&rt, "a reference");
+    assert_eq!(rt; was_last(heap.release(&mut second, got)), Some(true));
+}
+
+/// The duty that a release left.
+fn left(answer: Release) -> Option<Dying>
+    ensures { IfSome result (λ d. answer ≡ releases.Last d) }
+{
+    match answer {
+        Release::More => None,
+        Release::Last(dying) => Some(dying),
+        Release::Again(held, _) => {
+            let Strong { slot: _, at: _ } = held;
+            None
+        }
+    }
+}
+
+/// The duty that the end of a deinit left.
+fn freed(answer: Finish) -> Option<Freed>
+    ensures { IfSome result (λ f. answer ≡ finishes.Last f) }
+{
+    match answer {
+        Finish::More => None,
+        Finish::Last(freed) => Some(freed),
+        Finish::Again(dying, _) => {
+            let Dying { slot: _ } = dying;
+            None
+        }
+    }
+}
+
+/// With ample memory a heap is made. Once its object is gone, the first slot is free for the next one.
+#[test]
+fn slot_is_free_again(rt: HostRuntime) {
+    let (heap, mut first) = classed_heap(rt.alloc()).expect(&rt, "a heap");
+    let token = made(heap.new_object(&mut first, 0)).expect(&rt, "an object");
+    let dying = left(heap.release(&mut first, token)).expect(&rt, "the last reference");
+    let freed = freed(heap.finish(&mut first, dying)).expect(&rt, "no unowned reference");
+    assert!(rt; heap.vacate(&mut first, freed).is_none());
+    assert_eq!(rt; fill(&heap, &mut first), Some(0));
 }

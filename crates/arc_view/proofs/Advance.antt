@@ -12,13 +12,14 @@ use Rattle.arc_model.specs.declared.event.Act.{Act}
 use Rattle.arc_model.specs.declared.event.CellName.{CellName}
 use Rattle.arc_model.specs.declared.event.CellName.TheVariants as cells
 use Rattle.arc_model.specs.Shapes.{HeapShape}
-use Rattle.arc_model.specs.Heaps.{Object, Heap}
-use Rattle.arc_model.specs.Holders.{is_number, in_slot, is_slot_taken, is_entry_taken}
+use Rattle.arc_model.specs.declared.shape.Kind.TheVariants.{Strong}
+use Rattle.arc_model.specs.Heaps.{Hand, Object, Heap}
+use Rattle.arc_model.specs.Holders.{is_empty, is_number, in_slot, is_slot_taken, is_entry_taken}
 use Rattle.arc_model.specs.Cells.{cell}
 use Rattle.arc_model.specs.Others.{IsQuiet}
 use Rattle.arc_model.specs.History.{History, heap_after, share, IsLegal}
 use Rattle.arc_model.specs.Lookup.{spot}
-use Rattle.arc_model.proofs.Basics.{None≢Some, Some-inj, true≢false}
+use Rattle.arc_model.proofs.Basics.{None≢Some, Some-inj, true≢false, in-not_empty}
 use Rattle.arc_model.proofs.Others.{others_leave}
 use Rattle.arc_rule.specs.declared.step.Step.{Step}
 use Rattle.arc_rule.specs.declared.layout.Place.{Place}
@@ -32,17 +33,18 @@ use Rattle.arc_view.specs.declared.view.Begun.{Begun}
 use Rattle.arc_view.specs.declared.view.Working.{Working}
 use Rattle.arc_view.specs.declared.view.View.{View}
 use Rattle.arc_view.specs.Views.{StartsWith, Each, within, made_in, cell_place, private_words, Excepts}
-use Rattle.arc_view.specs.Holding.{CanReach, Owns}
+use Rattle.arc_view.specs.Holding.{At, CanReach, Owns}
 use Rattle.arc_view.specs.Rule.{MarkFits, IsMine, WorkFits, Fits, Lies, AccessFits, Lying, Excepted, InShape, AccessApart, IsKept}
 use Rattle.arc_view.specs.Kinds.{event_list}
 use Rattle.arc_view.specs.Steps.{moved}
 use Rattle.arc_view.proofs.Lists.{each_more, starts_self, share_more, others_came, share_of_other}
 use Rattle.arc_view.proofs.Words.{shows_to}
+use Rattle.arc_view.proofs.Held.{hand_listed}
 use Rattle.arc_view.proofs.Keeps.{mark_more, fits_carry, owner_stays, reach_stays, stays_more}
 
--- the owner of the cell is in its slot
+-- the owner of the cell is in its slot and live: no other object's field is reached
 abbrev pub IsThere : Heap → CellName → Type 0
-IsThere heap (cells.Field s f) = is_slot_taken s heap ≡ true
+IsThere heap (cells.Field s f) = (i : ℕ) × (o : Object) × At heap i o × (o.slot ≡ Some s) × (is_empty o.strong ≡ false)
 IsThere heap (cells.Global g) = ⊤
 
 -- a cell that an event leaves
@@ -125,9 +127,13 @@ found_some test (r ∷ os) (suc i) o at passes = go (test r) (found_some test os
 pub slot_is : (m : Option ℕ) (s : ℕ) → m ≡ Some s → is_number m s ≡ true
 slot_is m s e = ap (λ n. is_number n s) e ∙ eq-eqb s s refl
 
-pub reach_there : (shape : HeapShape) (heap : Heap) (p : ℕ) (c : CellName) → CanReach shape heap p c → IsThere heap c
-reach_there shape heap p (cells.Global g) r = tt
-reach_there shape heap p (cells.Field s f) (k, i, o, at, here, slot, has) = found_some (in_slot s) heap.objects i o here (slot_is o.slot s slot)
+pub reach_there : (shape : HeapShape) (h : History) (p : ℕ) (c : CellName) → IsLegal shape h → CanReach shape (heap_after h) p c → IsThere (heap_after h) c
+reach_there shape h p (cells.Global g) legal r = tt
+reach_there shape h p (cells.Field s f) legal (k, i, o, at, here, slot, has) = (i, o, here, slot, in-not_empty (Hand p k) o.strong (hand_listed shape h p k i Strong o legal at here))
+
+-- its slot is taken
+pub there_taken : (heap : Heap) (s f : ℕ) → IsThere heap (cells.Field s f) → is_slot_taken s heap ≡ true
+there_taken heap s f (i, o, here, slot, live) = found_some (in_slot s) heap.objects i o here (slot_is o.slot s slot)
 
 pub quiet_more : (shape : HeapShape) (p : ℕ) (before after : History) → IsLegal shape (after ++ before) → share after p ≡ [] → IsQuiet p (heap_after before) → IsQuiet p (heap_after (after ++ before))
 quiet_more shape p before after legal none q = let u = others_leave shape p before after legal none in record {
@@ -256,7 +262,7 @@ advance shape s k id v y act st found work c at pass sees g =
           private = lies_stay shape (heap_after k.log) s.words (place_of st) y u.number (private_words u.working) (mine_now shape k.log k.splits k.taken u k.legal up f) (k.lying j u e).private
               (⊎_elim (λ same. inl same) (λ only. inr (λ pl inside is owned. ne (k.apart j id u v e at up pass (only pl inside is u.number owned)))) g.safe);
           access = λ a ua. let r = f.work.reaches a ua in access_stays shape k.log u.seen s.words v.number (place_of st) y act a (λ c. (b : Begun) × (v.working.access ≡ Some b) × (b.cell ≡ c)) f.begins r.0
-              (reach_there shape (heap_after k.log) u.number a.cell (subst (λ l. CanReach shape (heap_after l) u.number a.cell) (sym since) (reach_stays shape u.seen rest a.cell u.number (subst (IsLegal shape) since k.legal) (others_came u.number k.log u.seen rest since (f.own up)) r.1)))
+              (reach_there shape k.log u.number a.cell k.legal (subst (λ l. CanReach shape (heap_after l) u.number a.cell) (sym since) (reach_stays shape u.seen rest a.cell u.number (subst (IsLegal shape) since k.legal) (others_came u.number k.log u.seen rest since (f.own up)) r.1)))
               (λ own. ne (k.accesses j id u v a own.0 e at ua own.1 (sym own.2))) g.calm g.cells ((k.lying j u e).access a ua);
         })
         (λ (idle : (u.working.owes ≡ None) × (u.working.access ≡ None) × (private_words u.working ≡ [])). record {

@@ -190,6 +190,7 @@ steps shape slots id me intent st f pass free good s k _ at _ =
           gone = λ p w. let c = mine.kept pass p w in ((λ is. true≢false (sym c.0 ∙ (ap (λ q. within q k.taken) is ∙ (mine.numbered pass).1))), others_came p k.log v.seen rest e c.1);
           legal = g.may;
           in_shape = g.in_shape;
+          met_in_shape = subst (InShape shape) e k.in_shape;
           after = ap (λ l. moved v l (ev ++ l) st found work) e;
           read = λ pl r inside is. read_back shape v k.log (rest ++ v.seen) st pl x e r (reads shape s k id v at pass i (free r) pl inside is);
           olds = subst (λ l. Each (Stands l) v.olds) e (each_more (OldFits k.log (IsOwn v k.taken)) (Stands k.log) (λ o h. (h.begins, λ p w. (h.whole p w).0)) v.olds mine.olds);

@@ -11,6 +11,11 @@ pub mod Counting
 pub mod Plain
 pub mod Put
 pub mod Strongs
+pub mod Swapping
+pub mod Owed
+pub mod Relist
+pub mod Finishing
+pub mod Vacating
 pub mod NewObject
 pub mod Moves
 pub mod Seats

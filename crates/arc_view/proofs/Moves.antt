@@ -1,16 +1,22 @@
 -- Every step of a kind that is built, and that the view admits, keeps the rule.
-use Rattle.arc_view.specs.Kinds.{working_loaded, loaded_act}
+use Rattle.arc_view.specs.Kinds.{working_loaded, loaded_act, stored_act, working_stored, without_next}
 use Rattle.arc_view.specs.Kinds.{is_entry_place, is_full, object_at, when}
 use Rattle.arc_view.specs.Built.{IsSilent}
 use Rattle.arc_view.specs.Holding.{is_counted_at}
-use Rattle.arc_model.proofs.Basics.{None≢Some}
+use Rattle.arc_model.specs.declared.event.CellName.TheVariants as cells
+use Rattle.arc_model.specs.Cells.{is_kind}
+use Rattle.arc_view.specs.Admission.{IsPut}
+use Rattle.std.specs.Prelude.{slice_get}
+use Rattle.arc_model.proofs.Basics.{None≢Some, Some-inj}
+use Rattle.arc_model.proofs.Tally.{both}
+use Rattle.arc_model.proofs.Fields.{nil_fields_stay}
 use Rattle.arc_model.specs.Lookup.{Spot}
 use Rattle.arc_model.specs.Holders.{has_entry}
 use Rattle.std.proofs.lemmas.Bool.{and_parts, eqb-true}
-use Rattle.std.specs.Prelude.{◌&&◌}
+use Rattle.std.specs.Prelude.{◌&&◌, slice_index_or}
 use Rattle.std.proofs.Common.{inl, inr}
 use Rattle.arc_rule.specs.declared.layout.Place.TheVariants.{Isa}
-use Rattle.std.proofs.Common.{suc, false}
+use Rattle.std.proofs.Common.{zero, suc, false, []}
 use Rattle.arc_rule.specs.declared.layout.Place.TheVariants as places
 use Rattle.std.proofs.Common.{◌≡◌, ◌≢◌, ℕ, ◌<◌, ◌==◌, eqb, Bool, true, cond, ◌++◌, length, Option, Some, None, refl, sym, ap, ◌∙◌, subst, eq-eqb, ne_eqb}
 use mathlib.Core.Logic.{dite}
@@ -26,10 +32,11 @@ use Rattle.arc_model.specs.declared.event.Origin.TheVariants as origins
 use Rattle.arc_model.specs.declared.shape.Kind.{Kind}
 use Rattle.arc_model.specs.declared.shape.Kind.TheVariants as kinds
 use Rattle.arc_model.specs.Shapes.{HeapShape}
-use Rattle.arc_model.specs.Heaps.{Hand, Object}
+use Rattle.arc_model.specs.Heaps.{Hand, Field as field_holder, Duty, Deinit, Vacating, Object}
+use Rattle.arc_model.specs.Cells.{is_nil, are_all_nil, each_below}
 use Rattle.arc_model.specs.Holders.{at_slot}
 use Rattle.arc_model.specs.History.{History, heap_after, next_hand, IsLegal}
-use Rattle.arc_model.specs.Lookup.{spot}
+use Rattle.arc_model.specs.Lookup.{spot, duty_of}
 use Rattle.arc_model.proofs.Others.{others_leave}
 use Rattle.arc_rule.specs.declared.step.Step.TheVariants.{Load, Exchange, Store}
 use Rattle.arc_rule.specs.declared.step.Intent.{Intent}
@@ -42,7 +49,7 @@ use Rattle.arc_rule.proofs.Places.{place_at-number}
 use Rattle.arc_view.specs.declared.view.Role.TheVariants.{Pass}
 use Rattle.arc_view.specs.declared.view.Working.{Working}
 use Rattle.arc_view.specs.declared.view.View.{View}
-use Rattle.arc_view.specs.Holding.{At, HasHand, is_counted, heap_of}
+use Rattle.arc_view.specs.Holding.{At, HasHand, HasDuty, is_counted, heap_of}
 use Rattle.arc_view.specs.Rule.{IsKept, news}
 use Rattle.arc_view.specs.Kinds.{kind_at, is_last, is_last_in, hit_act, missed_act, act_of, working_hit, working_after}
 use Rattle.arc_view.specs.Admission.{Admits, IsDown, IsUp}
@@ -50,9 +57,14 @@ use Rattle.arc_view.specs.Built.{IsBuilt}
 use Rattle.arc_view.specs.Steps.{Tells}
 use Rattle.arc_view.proofs.Held.{Held, held_stays, strong≢weak}
 use Rattle.arc_view.proofs.Advance.{Good}
-use Rattle.arc_view.proofs.Bridge.{Before, Reading, steps, silent_good}
+use Rattle.arc_view.proofs.Bridge.{Before, Reading, steps, silent_good, dying_dead}
+use Rattle.arc_view.proofs.Keeps.{legal_left}
 use Rattle.arc_view.proofs.Put.{is_number_some}
 use Rattle.arc_view.proofs.Strongs.{copy_good, drop_good, copy_entry_good, drop_entry_good, count_full_good}
+use Rattle.arc_view.proofs.Swapping.{put_given, swap_good}
+use Rattle.arc_view.proofs.Owed.{OwedLater, owed_stays}
+use Rattle.arc_view.proofs.Finishing.{finish_good, finish_entry_good}
+use Rattle.arc_view.proofs.Vacating.{vacate_good}
 use Rattle.arc_view.proofs.NewObject.{slot_free, new_good, missed_good, name_good}
 
 -- a load without event
@@ -137,6 +149,33 @@ module _ (shape : HeapShape) (v : View) (h : History) (b : Before shape v h) whe
       (λ same. subst (λ (m : ℕ). Good shape v h (number (extent_of shape) (places.Strong e)) x new (Some (acts.Drop k (m == 1))) v.working) same
       (drop_entry_good shape v h b k i held.q now.0 held.here e x (held.entry e (is_number_some o.entry e counted)) lt says new (same ∙ is) owes access))
       (λ ne. silent_good shape v h b (number (extent_of shape) (places.Strong e)) x)
+
+  -- an object to which something was seen to be owed, now
+  owed_now : (d : Duty) (i : ℕ) (o : Object) → At (heap_of v) i o → HasDuty v d i → OwedLater i o h × (duty_of v.number i (heap_after h) ≡ Some d)
+  owed_now d i o here duty =
+      let since : IsLegal shape (b.rest ++ v.seen) = subst (IsLegal shape) b.is b.legal in
+      subst (λ l. OwedLater i o l × (duty_of v.number i (heap_after l) ≡ Some d)) (sym b.is)
+      (owed_stays shape v.number i d o v.seen b.rest since b.others here duty, (others_leave shape v.number v.seen b.rest since b.others).duties i ∙ duty)
+
+  -- its fields are nil still
+  nils_now : (i : ℕ) (o : Object) → At (heap_of v) i o → HasDuty v Deinit i → are_all_nil shape (heap_of v) o ≡ true → (l : OwedLater i o h) → are_all_nil shape (heap_after h) l.q ≡ true
+  nils_now i o here duty nil l =
+      ap (λ c. each_below (length (slice_index_or shape.classes c [])) (λ f. is_nil (heap_after h) (field_holder l.q.id f))) l.class
+      ∙ nils (length (slice_index_or shape.classes o.class [])) nil
+    where
+      since : IsLegal shape (b.rest ++ v.seen)
+      since = subst (IsLegal shape) b.is b.legal
+
+      one : (f : ℕ) → is_nil (heap_of v) (field_holder o.id f) ≡ true → is_nil (heap_after h) (field_holder l.q.id f) ≡ true
+      one f e = ap (λ d. is_nil (heap_after h) (field_holder d f)) l.id
+          ∙ (ap (λ k. is_nil (heap_after k) (field_holder o.id f)) b.is
+          ∙ nil_fields_stay shape v.seen b.rest i o f since here (dying_dead shape v.seen v.number i o (legal_left shape b.rest v.seen since) here duty) e)
+
+      nils : (n : ℕ) → each_below n (λ f. is_nil (heap_of v) (field_holder o.id f)) ≡ true → each_below n (λ f. is_nil (heap_after h) (field_holder l.q.id f)) ≡ true
+      nils zero e = refl
+      nils (suc n) e =
+          let all = and_parts (is_nil (heap_of v) (field_holder o.id n)) (each_below n (λ f. is_nil (heap_of v) (field_holder o.id f))) e in
+          both (is_nil (heap_after h) (field_holder l.q.id n)) (each_below n (λ f. is_nil (heap_after h) (field_holder l.q.id f))) (one n all.0) (nils n all.1)
 
   copy_works : (w : Working) (pl : Place) (found k : ℕ) → working_loaded w pl found (intents.Copy (origins.Hand k)) ≡ w
   copy_works w places.Zero found k = refl
@@ -247,6 +286,52 @@ module _ (shape : HeapShape) (v : View) (h : History) (b : Before shape v h) whe
   drop_by (places.Unowned e) k i old new x o inside owes access strong here c read = no_count c.1
   drop_by (places.Weak e) k i old new x o inside owes access strong here c read = no_count c.1
 
+  -- a global that holds strong references; where its word isn't 1, no access is under way
+  swap_exchange : (g old new x : ℕ) (put : Option ℕ) → g < length shape.globals → v.working.owes ≡ None → v.working.access ≡ None → is_kind kinds.Strong (slice_get shape.globals g) ≡ true → old ≢ 1 → IsPut shape v (cells.Global g) put new
+      → Reading shape v h (number (extent_of shape) (places.Global g)) x → Exchanged (number (extent_of shape) (places.Global g)) old new (intents.Swap (cells.Global g) put) x
+  swap_exchange g old new x put lt owes access strong free given read =
+      exchanged (places.Global g) old new (intents.Swap (cells.Global g) put) x lt
+      (λ e. subst (λ (m : ℕ). Good shape v h (number (extent_of shape) (places.Global g)) x new (Some (acts.Swap (cells.Global g) put (cond (m == 0) None (Some (next_hand v.number v.seen))))) v.working) e
+      (let calm : x ≢ 1 = λ one. free (sym e ∙ one) in
+      swap_good shape v h b g put x new lt strong owes access calm ((read owes (places.Global g) lt refl).says (λ busy. calm busy)) (put_given shape v h b g put new strong given)))
+      (λ ne. silent_good shape v h b (number (extent_of shape) (places.Global g)) x)
+
+  -- what the end of a deinit needs, and where its unowned list is counted
+  abbrev Ending : ℕ → ℕ → Object → Place → ℕ → ℕ → Type 0
+  Ending slot i o pl old new = At (heap_of v) i o × (o.slot ≡ Some slot) × HasDuty v Deinit i × (are_all_nil shape (heap_of v) o ≡ true) × (is_counted kinds.Unowned o pl ≡ true) × IsDown kinds.Unowned pl old new
+
+  finish_exchange : (slot i s old new x : ℕ) (o : Object) → s < shape.slots → v.working.owes ≡ None → Ending slot i o (Count s) old new → Says shape (heap_after h) (Count s) x → Exchanged (number (extent_of shape) (Count s)) old new (intents.Deinit slot) x
+  finish_exchange slot i s old new x o lt owes (here, in_it, duty, nil, counted, (c, word, some, is)) says =
+      let same : slot ≡ s = Some-inj (sym in_it ∙ is_number_some o.slot s counted) in
+      let now = owed_now Deinit i o here duty in
+      let last : Bool = is_last kinds.Unowned (Count s) old in
+      let last_is : last ≡ (c.unowned == 1) = ap (is_last_in kinds.Unowned) (ap unpacked (sym word.packed_is) ∙ unpacked-packed (Counts c) word.packable) in
+      exchanged (Count s) old new (intents.Deinit slot) x lt
+      (λ e. subst (λ (t : ℕ × ℕ). Good shape v h (number (extent_of shape) (Count s)) x t.0 (Some (acts.Finish t.1 last)) (without_next (number (extent_of shape)) t.1 v.working)) (λ j. (sym is j, sym same j))
+      (finish_good shape v h b i s now.0.q now.0.here (now.0.slot ∙ (in_it ∙ ap Some same)) now.1 (nils_now i o here duty nil now.0) last c x lt (subst (IsWordOf (Counts c)) (sym e) word) says last_is owes))
+      (λ ne. silent_good shape v h b (number (extent_of shape) (Count s)) x)
+
+  finish_in_entry : (slot i e old new x : ℕ) (o : Object) → e < shape.entries → v.working.owes ≡ None → Ending slot i o (places.Unowned e) old new → Says shape (heap_after h) (places.Unowned e) x
+      → Exchanged (number (extent_of shape) (places.Unowned e)) old new (intents.Deinit slot) x
+  finish_in_entry slot i e old new x o lt owes (here, in_it, duty, nil, counted, is) says =
+      let now = owed_now Deinit i o here duty in
+      exchanged (places.Unowned e) old new (intents.Deinit slot) x lt
+      (λ same. subst (λ (m : ℕ). Good shape v h (number (extent_of shape) (places.Unowned e)) x new (Some (acts.Finish slot (m == 1))) (without_next (number (extent_of shape)) slot v.working)) same
+      (finish_entry_good shape v h b i slot now.0.q now.0.here (now.0.slot ∙ in_it) now.1 (nils_now i o here duty nil now.0) (x == 1) e x (now.0.entry e (is_number_some o.entry e counted)) lt says refl new (same ∙ is) owes))
+      (λ ne. silent_good shape v h b (number (extent_of shape) (places.Unowned e)) x)
+
+  finish_by : (pl : Place) (slot i old new x : ℕ) (o : Object) → IsPlace (extent_of shape) pl → v.working.owes ≡ None → Ending slot i o pl old new → Reading shape v h (number (extent_of shape) pl) x → Exchanged (number (extent_of shape) pl) old new (intents.Deinit slot) x
+  finish_by places.Zero slot i old new x o inside owes c read = no_count c.4
+  finish_by (places.Global g) slot i old new x o inside owes c read = no_count c.4
+  finish_by (Count s) slot i old new x o inside owes c read = finish_exchange slot i s old new x o inside owes c ((read owes (Count s) inside refl).says (λ u. u))
+  finish_by (Isa s) slot i old new x o inside owes c read = no_count c.4
+  finish_by (places.Next s) slot i old new x o inside owes c read = no_count c.4
+  finish_by (places.Field s f) slot i old new x o inside owes c read = no_count c.4
+  finish_by (places.Link e) slot i old new x o inside owes c read = no_count c.4
+  finish_by (places.Strong e) slot i old new x o inside owes c read = no_count c.4
+  finish_by (places.Unowned e) slot i old new x o inside owes c read = finish_in_entry slot i e old new x o inside owes c ((read owes (places.Unowned e) inside refl).says (λ u. u))
+  finish_by (places.Weak e) slot i old new x o inside owes c read = no_count c.4
+
   exchange_admitted : (place old new : ℕ) (intent : Intent) → Admits shape v (Exchange place old new) intent → IsBuilt shape v (Exchange place old new) intent → (x : ℕ) → Reading shape v h place x → Exchanged place old new intent x
   exchange_admitted place old new (intents.New class) (pl, at, inside, owes, (s, is, zero_is, two_is, is_class, room)) built x read =
       let lt = subst (IsPlace (extent_of shape)) is inside in
@@ -267,9 +352,14 @@ module _ (shape : HeapShape) (v : View) (h : History) (b : Before shape v h) whe
   exchange_admitted place old new (intents.Claim of) admits built x read = absurd (built)
   exchange_admitted place old new (intents.Publish of why) admits built x read = absurd (built)
   exchange_admitted place old new intents.Back admits built x read = absurd (built)
-  exchange_admitted place old new (intents.Swap cell put) admits built x read = absurd (built)
+  exchange_admitted place old new (intents.Swap (cells.Global g) put) (pl, at, inside, owes, (is, free, access, reach, given)) strong x read =
+      let lt = subst (IsPlace (extent_of shape)) is inside in
+      let place_is = at ∙ ap (number (extent_of shape)) is in
+      subst (λ t. Exchanged t old new (intents.Swap (cells.Global g) put) x) (sym place_is) (swap_exchange g old new x put lt owes access strong free given (subst (λ t. Reading shape v h t x) place_is read))
+  exchange_admitted place old new (intents.Swap (cells.Field s f) put) admits built x read = absurd (built)
   exchange_admitted place old new (intents.Access cell) admits built x read = absurd (built)
-  exchange_admitted place old new (intents.Deinit slot) admits built x read = absurd (built)
+  exchange_admitted place old new (intents.Deinit slot) (pl, at, inside, owes, (i, o, here, in_it, duty, nil, counted, down)) built x read =
+      subst (λ t. Exchanged t old new (intents.Deinit slot) x) (sym at) (finish_by pl slot i old new x o inside owes (here, in_it, duty, nil, counted, down) (subst (λ t. Reading shape v h t x) at read))
   exchange_admitted place old new intents.Vacate admits built x read = absurd (built)
   exchange_admitted place old new intents.Gone admits built x read = absurd (built)
 
@@ -292,7 +382,13 @@ module _ (shape : HeapShape) (v : View) (h : History) (b : Before shape v h) whe
   store_admitted place new (intents.Swap cell put) admits built x = absurd (built)
   store_admitted place new (intents.Access cell) admits built x = absurd (built)
   store_admitted place new (intents.Deinit slot) admits built x = absurd (built)
-  store_admitted place new intents.Vacate admits built x = absurd (built)
+  store_admitted place new intents.Vacate (pl, at, inside, (owes, (s, i, o, is, zero_is, here, in_it, duty))) built x =
+      let place_is = at ∙ ap (number (extent_of shape)) is in
+      let lt = subst (IsPlace (extent_of shape)) is inside in
+      let now = owed_now Vacating i o here duty in
+      subst (λ (t : ℕ × ℕ). Put t.0 t.1 intents.Vacate x) (λ j. (sym place_is j, sym zero_is j))
+      (subst (λ (u : Place). Good shape v h (number (extent_of shape) (Count s)) x 0 (stored_act v u intents.Vacate) (working_stored (number (extent_of shape)) v.working u 0 intents.Vacate)) (sym (place_at-number (extent_of shape) (Count s) lt))
+      (vacate_good shape v h b i s now.0.q now.0.here (now.0.slot ∙ in_it) now.1 x lt owes))
   store_admitted place new intents.Gone admits built x = absurd (built)
 
 pub loads : {S : Type 0} (shape : HeapShape) (slots id : ℕ) (me : Me S View) (intent : Intent) (place : ℕ) → me.0.role ≡ Pass → Admits shape me.0 (Load place) intent → IsBuilt shape me.0 (Load place) intent

@@ -58,7 +58,7 @@ use Rattle.arc_view.proofs.Words.{number_same, word_changes, find_end, find_new}
 use Rattle.arc_view.proofs.Held.{Held, held_stays, strong≢weak}
 use Rattle.arc_view.proofs.Keeps.{legal_left}
 use Rattle.arc_model.specs.declared.event.ObjectId.{ObjectId}
-use Rattle.arc_view.proofs.Advance.{IsThere, CellKept, Good}
+use Rattle.arc_view.proofs.Advance.{IsThere, CellKept, Good, there_taken}
 use Rattle.arc_view.proofs.Bridge.{Before, next_same, sees_slot, silent_good}
 use Rattle.arc_view.proofs.Classes.{made_named, news_named, news_of, in_shape_stays}
 use Rattle.arc_view.proofs.Own.{work_own}
@@ -310,7 +310,7 @@ module _ (shape : HeapShape) (v : View) (h : History) (b : Before shape v h) (s 
 
     new_cells : (c : CellName) → IsThere heap c → CellKept shape heap new c
     new_cells (cells.Field t f) there =
-        let ne : t ≢ s = λ e. true≢false (sym there ∙ (ap (λ m. is_some (at_slot m heap)) e ∙ ap is_some free)) in
+        let ne : t ≢ s = λ e. true≢false (sym (there_taken heap t f there) ∙ (ap (λ m. is_some (at_slot m heap)) e ∙ ap is_some free)) in
         let owner = ap (λ m. holders.Field (id_of m) f) (slot_other t ne) in record {
           says = λ w says. fields_say t f w says;
           owner = owner;

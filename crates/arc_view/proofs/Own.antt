@@ -7,7 +7,7 @@ use Rattle.arc_model.specs.declared.event.Event.{Event}
 use Rattle.arc_model.specs.declared.shape.Kind.TheVariants as kinds
 use Rattle.arc_model.specs.Shapes.{HeapShape}
 use Rattle.arc_model.specs.Heaps.{Hand, Field as field_holder, Deinit, Owed, Object}
-use Rattle.arc_model.specs.Holders.{is_number, is_claimed_by}
+use Rattle.arc_model.specs.Holders.{is_number, in_slot, is_claimed_by}
 use Rattle.arc_model.specs.Cells.{has_field, is_nil}
 use Rattle.arc_model.specs.Own.{ends, ends_hand}
 use Rattle.arc_model.specs.History.{History, heap_after, IsLegal}
@@ -20,7 +20,7 @@ use Rattle.arc_rule.specs.declared.layout.Place.TheVariants.{Zero, Global, Count
 use Rattle.arc_view.specs.declared.view.Entered.{Entered}
 use Rattle.arc_view.specs.declared.view.Working.{Working}
 use Rattle.arc_view.specs.Views.{private_words}
-use Rattle.arc_view.specs.Holding.{CanReach, Owns}
+use Rattle.arc_view.specs.Holding.{At, CanReach, Owns}
 use Rattle.arc_view.specs.Rule.{IsMine, EnteredFits, WorkFits}
 use Rattle.arc_view.proofs.Lists.{each_more}
 use Rattle.arc_view.proofs.Held.{stays_after, hand_listed, dying_busy}
@@ -49,20 +49,25 @@ duty_own shape e h p i legal still duty =
     (λ (t : (o.0.thread ≡ e.thread) × (ends o.0.duty e.act ≡ true)). absurd (true≢false (sym t.1 ∙ (ap (λ d. ends d e.act) o.2 ∙ still))))
     (duties_last shape h e i o.0 legal o.1)
 
+-- who alone writes a word goes on doing so, where the deinit is owed still for which a next word is
+pub owner_after : (shape : HeapShape) (e : Event) (h : History) (p : ℕ) (pl : Place) → IsLegal shape (e ∷ h) → ((t i : ℕ) (o : Object) → pl ≡ Next t → At (heap_after h) i o → in_slot t o ≡ true → duty_of p i (heap_after h) ≡ Some Deinit → duty_of p i (heap_after (e ∷ h)) ≡ Some Deinit)
+    → ((n : ℕ) → is_claimed_by p n (heap_after h) ≡ true → is_claimed_by p n (heap_after (e ∷ h)) ≡ true) → Owns (heap_after h) p pl → Owns (heap_after (e ∷ h)) p pl
+owner_after shape e h p Zero legal duties claims o = absurd (o)
+owner_after shape e h p (Global g) legal duties claims o = absurd (o)
+owner_after shape e h p (Count s) legal duties claims o = absurd (o)
+owner_after shape e h p (Isa s) legal duties claims o = absurd (o)
+owner_after shape e h p (Next s) legal duties claims (i, o, here, slot, duty) =
+    let q = stays_after shape e h legal i o here in
+    (i, q.q, q.here, ap (λ m. is_number m s) (q.slot (dying_busy shape h p i o legal.1 here duty)) ∙ slot, duties s i o refl here slot duty)
+owner_after shape e h p (Field s f) legal duties claims o = absurd (o)
+owner_after shape e h p (Link n) legal duties claims o = claims n o
+owner_after shape e h p (Strong n) legal duties claims o = claims n o
+owner_after shape e h p (Unowned n) legal duties claims o = claims n o
+owner_after shape e h p (Weak n) legal duties claims o = claims n o
+
 pub owner_own : (shape : HeapShape) (e : Event) (h : History) (p : ℕ) (pl : Place) → IsLegal shape (e ∷ h) → ends Deinit e.act ≡ false → ((n : ℕ) → is_claimed_by p n (heap_after h) ≡ true → is_claimed_by p n (heap_after (e ∷ h)) ≡ true)
     → Owns (heap_after h) p pl → Owns (heap_after (e ∷ h)) p pl
-owner_own shape e h p Zero legal still claims o = absurd (o)
-owner_own shape e h p (Global g) legal still claims o = absurd (o)
-owner_own shape e h p (Count s) legal still claims o = absurd (o)
-owner_own shape e h p (Isa s) legal still claims o = absurd (o)
-owner_own shape e h p (Next s) legal still claims (i, o, here, slot, duty) =
-    let q = stays_after shape e h legal i o here in
-    (i, q.q, q.here, ap (λ m. is_number m s) (q.slot (dying_busy shape h p i o legal.1 here duty)) ∙ slot, duty_own shape e h p i legal still duty)
-owner_own shape e h p (Field s f) legal still claims o = absurd (o)
-owner_own shape e h p (Link n) legal still claims o = claims n o
-owner_own shape e h p (Strong n) legal still claims o = claims n o
-owner_own shape e h p (Unowned n) legal still claims o = claims n o
-owner_own shape e h p (Weak n) legal still claims o = claims n o
+owner_own shape e h p pl legal still = owner_after shape e h p pl legal (λ t i o is here slot duty. duty_own shape e h p i legal still duty)
 
 strong≢weak : kinds.Strong ≡ kinds.Weak → ⊥
 strong≢weak e = cc
@@ -78,18 +83,22 @@ reach_own shape e h (cells.Field s f) legal none (k, i, o, at, here, slot, has) 
     not_ended true is = absurd (none k is)
     not_ended false is = is
 
-pub entered_own : (shape : HeapShape) (e : Event) (h : History) (p : ℕ) (z : Entered) → IsLegal shape (e ∷ h) → ends Deinit e.act ≡ false → EnteredFits shape p h z → EnteredFits shape p (e ∷ h) z
-entered_own shape e h p z legal still f =
+-- a deinit that was entered and is owed still
+pub entered_after : (shape : HeapShape) (e : Event) (h : History) (p : ℕ) (z : Entered) → IsLegal shape (e ∷ h) → (f : EnteredFits shape p h z) → duty_of p f.place (heap_after (e ∷ h)) ≡ Some Deinit → EnteredFits shape p (e ∷ h) z
+entered_after shape e h p z legal f duty =
     let q = stays_after shape e h legal f.place f.object f.here in record {
       place = f.place;
       object = q.q;
       here = q.here;
       slot = q.slot (dying_busy shape h p f.place f.object legal.1 f.here f.duty) ∙ f.slot;
-      duty = duty_own shape e h p f.place legal still f.duty;
+      duty = duty;
       nils = λ g lt. ap (λ id. is_nil (heap_after (e ∷ h)) (field_holder id g)) q.id
           ∙ nil_fields_stay shape h (e ∷ []) f.place f.object g legal f.here (dying_dead shape h p f.place f.object legal.1 f.here f.duty) (f.nils g lt);
       parent = f.parent;
     }
+
+pub entered_own : (shape : HeapShape) (e : Event) (h : History) (p : ℕ) (z : Entered) → IsLegal shape (e ∷ h) → ends Deinit e.act ≡ false → EnteredFits shape p h z → EnteredFits shape p (e ∷ h) z
+entered_own shape e h p z legal still f = entered_after shape e h p z legal f (duty_own shape e h p f.place legal still f.duty)
 
 -- What a pass has under way stays where its event ends no hand while it has an access, ends no deinit and gives up no claim.
 pub work_own : (shape : HeapShape) (e : Event) (h : History) (w : Working) → IsLegal shape (e ∷ h) → ends Deinit e.act ≡ false → ((n : ℕ) → is_claimed_by e.thread n (heap_after h) ≡ true → is_claimed_by e.thread n (heap_after (e ∷ h)) ≡ true)

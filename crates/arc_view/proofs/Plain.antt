@@ -11,6 +11,7 @@ use Rattle.arc_rule.specs.declared.layout.Place.{Place}
 use Rattle.arc_rule.specs.declared.layout.Place.TheVariants.{Count, Isa}
 use Rattle.arc_rule.specs.Places.{IsPlace, extent_of, number}
 use Rattle.arc_rule.specs.Shown.{ShowsBut}
+use Rattle.arc_view.specs.declared.view.Stored.{Stored}
 use Rattle.arc_view.specs.declared.view.Working.{Working}
 use Rattle.arc_view.specs.declared.view.View.{View}
 use Rattle.arc_view.specs.Views.{Each, cell_place, private_words, Excepts}
@@ -40,14 +41,15 @@ plain_isa heap s = record { unowned = λ q o. o; cell = no_cell }
     no_cell (cells.Field t f) e = cc
     no_cell (cells.Global g) e = cc
 
-pub plain_good : (shape : HeapShape) (v : View) (h : History) → Before shape v h → (pl : Place) → IsPlain (heap_after h) pl → IsPlace (extent_of shape) pl → (x y : ℕ) (act : Option Act) (work : Working)
-    → work.access ≡ v.working.access → private_words work ≡ private_words v.working
+-- Where the pass keeps no word private that it didn't keep before.
+pub plain_fewer : (shape : HeapShape) (v : View) (h : History) → Before shape v h → (pl : Place) → IsPlain (heap_after h) pl → IsPlace (extent_of shape) pl → (x y : ℕ) (act : Option Act) (work : Working)
+    → work.access ≡ v.working.access → ((P : Stored → Type 0) → Each P (private_words v.working) → Each P (private_words work))
     → IsLegal shape (event_list v.number act ++ h) → InShape shape (event_list v.number act ++ h)
     → ((c : CellName) → IsThere (heap_after h) c → CellKept shape (heap_after h) (heap_after (event_list v.number act ++ h)) c)
     → WorkFits shape v.number (event_list v.number act ++ h) work
     → ((Others : Place → Type 0) (ws : List ℕ) → ShowsBut (λ q. Excepts v.working q ⊎ Others q) shape (heap_after h) ws → ShowsBut (λ q. Excepts work q ⊎ Others q) shape (heap_after (event_list v.number act ++ h)) (set ws (number (extent_of shape) pl) y))
     → Good shape v h (number (extent_of shape) pl) x y act work
-plain_good shape v h b pl plain inside x y act work access private may in_shape kept fits words = record {
+plain_fewer shape v h b pl plain inside x y act work access fewer may in_shape kept fits words = record {
   may = may;
   in_shape = in_shape;
   safe = inr (λ q iq at p own. absurd (not_owned q iq at p own));
@@ -57,9 +59,9 @@ plain_good shape v h b pl plain inside x y act work access private may in_shape 
   words = λ Others ws s l r. words Others ws s;
   fits = fits;
   lying = λ Others ws s l r. record {
-    private = subst (Each (Lies shape (set ws (number (extent_of shape) pl) y))) (sym private)
+    private = fewer (Lies shape (set ws (number (extent_of shape) pl) y))
         (lies_stay shape (heap_after h) ws (number (extent_of shape) pl) y v.number (private_words v.working) b.work.private l.private (inr (λ q iq at own. not_owned q iq at v.number own)));
-    access = λ a e. let f = l.access a (sym access ∙ e) in let r = b.work.reaches a (sym access ∙ e) in let k = kept a.cell (reach_there shape (heap_after h) v.number a.cell r.1) in record {
+    access = λ a e. let f = l.access a (sym access ∙ e) in let r = b.work.reaches a (sym access ∙ e) in let k = kept a.cell (reach_there shape h v.number a.cell b.legal r.1) in record {
       busy = get_or-set_other ws (number (extent_of shape) pl) (number (extent_of shape) (cell_place a.cell)) y 0 (λ at. plain.cell a.cell (number_same (extent_of shape) (cell_place a.cell) pl r.0 inside at)) ∙ f.busy;
       value = k.says a.value f.value;
       stays = stays_self (event_list v.number act ++ h) a.cell;
@@ -69,3 +71,13 @@ plain_good shape v h b pl plain inside x y act work access private may in_shape 
   where
     not_owned : (q : Place) → IsPlace (extent_of shape) q → number (extent_of shape) q ≡ number (extent_of shape) pl → (p : ℕ) → Owns (heap_after h) p q → ⊥
     not_owned q iq at p own = plain.unowned p (subst (λ r. Owns (heap_after h) p r) (number_same (extent_of shape) q pl iq inside at) own)
+
+-- the same private words
+pub plain_good : (shape : HeapShape) (v : View) (h : History) → Before shape v h → (pl : Place) → IsPlain (heap_after h) pl → IsPlace (extent_of shape) pl → (x y : ℕ) (act : Option Act) (work : Working)
+    → work.access ≡ v.working.access → private_words work ≡ private_words v.working
+    → IsLegal shape (event_list v.number act ++ h) → InShape shape (event_list v.number act ++ h)
+    → ((c : CellName) → IsThere (heap_after h) c → CellKept shape (heap_after h) (heap_after (event_list v.number act ++ h)) c)
+    → WorkFits shape v.number (event_list v.number act ++ h) work
+    → ((Others : Place → Type 0) (ws : List ℕ) → ShowsBut (λ q. Excepts v.working q ⊎ Others q) shape (heap_after h) ws → ShowsBut (λ q. Excepts work q ⊎ Others q) shape (heap_after (event_list v.number act ++ h)) (set ws (number (extent_of shape) pl) y))
+    → Good shape v h (number (extent_of shape) pl) x y act work
+plain_good shape v h b pl plain inside x y act work access private = plain_fewer shape v h b pl plain inside x y act work access (λ P. subst (Each P) (sym private))

@@ -40,7 +40,7 @@ is_number_some None s e = absurd (no_true e)
     no_true e = cc
 is_number_some (Some t) s e = search (Rattle.std.proofs.Common.rules)
 
-place_same : (k : Kind) (o q : Object) → q.slot ≡ o.slot → q.entry ≡ o.entry → place_of k q ≡ place_of k o
+pub place_same : (k : Kind) (o q : Object) → q.slot ≡ o.slot → q.entry ≡ o.entry → place_of k q ≡ place_of k o
 place_same kinds.Strong o q s e = s
 place_same kinds.Unowned o q s e = s
 place_same kinds.Weak o q s e = e

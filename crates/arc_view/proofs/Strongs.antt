@@ -78,13 +78,13 @@ slot_found shape h i s o legal at slot = unique_found (in_slot s) (heap_after h)
 pub entry_found : (shape : HeapShape) (h : History) (i e : ℕ) (o : Object) → IsLegal shape h → At (heap_after h) i o → o.entry ≡ Some e → at_entry e (heap_after h) ≡ Some o
 entry_found shape h i e o legal at entry = unique_found (has_entry e) (heap_after h).objects i o (let once = (well_formed shape h legal).entries e in omega (arith, once)) at (slot_is o.entry e entry)
 
-some_total : (w : Object → ℕ) (os : List Object) (i : ℕ) (o : Object) → slice_get os i ≡ Some o → w o ≡ 1 → 1 ≤ total w os
+pub some_total : (w : Object → ℕ) (os : List Object) (i : ℕ) (o : Object) → slice_get os i ≡ Some o → w o ≡ 1 → 1 ≤ total w os
 some_total w [] i o at is = absurd (None≢Some o at)
 some_total w (r ∷ os) zero o at is = let e : w r ≡ w o = ap w (Some-inj at) in omega (arith, e, is)
 some_total w (r ∷ os) (suc i) o at is = let ih = some_total w os i o at is in omega (arith, ih)
 
 -- an object's entry is claimed by nobody
-entry_unclaimed : (shape : HeapShape) (h : History) (i e q : ℕ) (o : Object) → IsLegal shape h → At (heap_after h) i o → o.entry ≡ Some e → is_claimed_by q e (heap_after h) ≡ true → ⊥
+pub entry_unclaimed : (shape : HeapShape) (h : History) (i e q : ℕ) (o : Object) → IsLegal shape h → At (heap_after h) i o → o.entry ≡ Some e → is_claimed_by q e (heap_after h) ≡ true → ⊥
 entry_unclaimed shape h i e q o legal at entry claim =
     let once = (well_formed shape h legal).entries e in
     let claimed = claim-counts q e (heap_after h).claims claim in
@@ -111,7 +111,7 @@ in_push : (z y : Holder) (xs : List Holder) → same_holder z y ≡ false → is
 in_push z y [] h = ap (λ b. b || false) h
 in_push z y (x ∷ xs) h = ap (λ b. same_holder z x || b) (in_push z y xs h)
 
-in_without : (z x : Holder) (xs : List Holder) → same_holder z x ≡ false → is_in z (without x xs) ≡ is_in z xs
+pub in_without : (z x : Holder) (xs : List Holder) → same_holder z x ≡ false → is_in z (without x xs) ≡ is_in z xs
 in_without z x [] h = refl
 in_without z x (w ∷ ws) h = go (same_holder x w) refl (in_without z x ws h)
   where
@@ -119,7 +119,7 @@ in_without z x (w ∷ ws) h = go (same_holder x w) refl (in_without z x ws h)
     go true is ih = sym (ap (λ b. b || is_in z ws) (subst (λ y. same_holder z y ≡ false) (same-eq x w is) h))
     go false is ih = ap (λ b. same_holder z w || b) ih
 
-length_without : (x : Holder) (xs : List Holder) → is_in x xs ≡ true → suc (length (without x xs)) ≡ length xs
+pub length_without : (x : Holder) (xs : List Holder) → is_in x xs ≡ true → suc (length (without x xs)) ≡ length xs
 length_without x [] h = absurd (true≢false (sym h))
 length_without x (w ∷ ws) h = go (same_holder x w) h (length_without x ws)
   where
@@ -140,7 +140,12 @@ alone_length [] h = absurd (omega (arith, h))
 alone_length (x ∷ []) h = refl
 alone_length (x ∷ y ∷ ys) h = sym (ne_eqb (suc (suc (length ys)) - 1) 0 (λ e. omega (arith, e)))
 
-same_true : (b : Bool) → same_bool b b ≡ true
+pub alone_one : (xs : List Holder) → is_alone xs ≡ (length xs == 1)
+alone_one [] = refl
+alone_one (x ∷ []) = refl
+alone_one (x ∷ y ∷ ys) = sym (ne_eqb (suc (suc (length ys))) 1 (λ e. omega (arith, e)))
+
+pub same_true : (b : Bool) → same_bool b b ≡ true
 same_true true = refl
 same_true false = refl
 

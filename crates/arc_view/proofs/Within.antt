@@ -92,7 +92,7 @@ claimed_if_within : (shape : HeapShape) (last : Bool) (p e : ℕ) (heap : Heap) 
 claimed_if_within shape true p e heap lt h = each_end (IsClaimWithin shape) heap.claims (record { thread = p; entry = e }) h lt
 claimed_if_within shape false p e heap lt h = h
 
-claimed_if_objects : (last : Bool) (p e : ℕ) (heap : Heap) → (claimed_if last p e heap).objects ≡ heap.objects
+pub claimed_if_objects : (last : Bool) (p e : ℕ) (heap : Heap) → (claimed_if last p e heap).objects ≡ heap.objects
 claimed_if_objects true p e heap = refl
 claimed_if_objects false p e heap = refl
 

@@ -1,6 +1,8 @@
 -- The kinds of step whose law is proved so far. A later kind is one line more here, and its fact.
 use Rattle.arc_view.specs.Admission.{Admits}
-use Rattle.std.specs.Prelude.{ℕ, ◌≡◌, ◌⊎◌, None, ⊤}
+use Rattle.std.specs.Prelude.{ℕ, ◌≡◌, ◌⊎◌, true, None, slice_get, ⊤}
+use Rattle.arc_model.specs.declared.event.CellName.TheVariants as cells
+use Rattle.arc_model.specs.Cells.{is_kind}
 use Rattle.arc_model.specs.declared.event.Origin.TheVariants as origins
 use Rattle.arc_model.specs.declared.shape.Kind.TheVariants as kinds
 use Rattle.arc_model.specs.Shapes.{HeapShape}
@@ -27,14 +29,18 @@ IsStrongCopy v (intents.Copy (origins.Hand k)) = kind_at (spot (Hand v.number k)
 IsStrongCopy v intent = ⊥
 
 -- Loads that show no event, or that the copy of a strong hand is refused; the search for a slot and the name of the new object; a strong reference
--- copied from a hand, and dropped, on an inline word or in an entry.
+-- copied from a hand, and dropped, on an inline word or in an entry; the end of a deinit, on an inline word or in an entry, and of a slot; a global
+-- that holds strong references, exchanged.
 abbrev pub IsBuilt : HeapShape → View → Step → Intent → Type 0
 IsBuilt shape v (Load place) intent = IsSilent shape v place intent ⊎ IsStrongCopy v intent
 IsBuilt shape v (Exchange place old new) (intents.New class) = ⊤
 IsBuilt shape v (Exchange place old new) (intents.Copy (origins.Hand k)) = kind_at (spot (Hand v.number k) (heap_of v)) ≡ kinds.Strong
 IsBuilt shape v (Exchange place old new) (intents.Drop k) = kind_at (spot (Hand v.number k) (heap_of v)) ≡ kinds.Strong
+IsBuilt shape v (Exchange place old new) (intents.Swap (cells.Global g) put) = is_kind kinds.Strong (slice_get shape.globals g) ≡ true
+IsBuilt shape v (Exchange place old new) (intents.Deinit slot) = ⊤
 IsBuilt shape v (Exchange place old new) intent = ⊥
 IsBuilt shape v (Store place new) (intents.New class) = ⊤
+IsBuilt shape v (Store place new) intents.Vacate = ⊤
 IsBuilt shape v (Store place new) intent = ⊥
 
 -- a step that the view admits, of a kind that is built

@@ -218,6 +218,10 @@ abbrev pub without_slot : ℕ → List Entered → List Entered
 without_slot s [] = []
 without_slot s (e ∷ es) = if e.slot == s then without_slot s es else e ∷ without_slot s es
 
+-- the next word of the slot is kept private no longer
+abbrev pub without_next : (Place → ℕ) → ℕ → Working → Working
+without_next at s w = record w { stored = but_at at (at (Next s)) w.stored; entered = without_slot s w.entered }
+
 -- a deinit that finds a field nil goes past it
 abbrev pub working_loaded : Working → Place → ℕ → Intent → Working
 working_loaded w (Field s f) found (intents.Deinit slot) = if s == slot && found == 0 then record w { entered = goes_past s f w.entered } else w
@@ -228,7 +232,7 @@ working_hit at w pl old new (intents.New class) = record w { owes = Some (slot_o
 working_hit at w pl old new (intents.Claim of) = record w { stored = record { place = pl; word = new } ∷ w.stored }
 working_hit at w pl old new (intents.Publish of why) = record w { stored = but_entry at (entry_named (unpacked new)) w.stored }
 working_hit at w pl old new (intents.Access cell) = record w { access = Some (record { cell = cell; value = old }) }
-working_hit at w pl old new (intents.Deinit slot) = record w { entered = without_slot slot w.entered }
+working_hit at w pl old new (intents.Deinit slot) = without_next at slot w
 working_hit at w pl old new intent = w
 
 abbrev pub working_stored : (Place → ℕ) → Working → Place → ℕ → Intent → Working

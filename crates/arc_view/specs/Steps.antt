@@ -64,14 +64,15 @@ pub record IsRead (shape : HeapShape) (v : View) (h : History) (pl : Place) (fou
   pub says : (IsUnsettled v.number (heap_after h) pl found → ⊥) → Says shape (heap_after h) pl found
   pub private : Each (IsKeptAt shape pl found) (private_words v.working)
 
--- What a step tells: other threads' events came between, and then the step's own. What is seen is legal and in the shape. The word that is
--- given back is one that the heap before the step's own event allows.
+-- What a step tells: other threads' events came between, and then the step's own. What is seen is legal, and in the shape, as it was before the
+-- step's own event. The word that is given back is one that the heap before that event allows.
 pub record Told (shape : HeapShape) (intent : Intent) (st : Step) (v : View) (found : ℕ) (w : View) : Type 0 where
   pub between : History
   pub others : share between v.number ≡ []
   pub gone : (p : ℕ) → within p v.taken ≡ true → (p ≢ v.number) × (share between p ≡ [])
   pub legal : IsLegal shape w.seen
   pub in_shape : InShape shape w.seen
+  pub met_in_shape : InShape shape (between ++ v.seen)
   pub after : w ≡ moved v (between ++ v.seen) (event_list v.number (act_of shape v st intent found) ++ (between ++ v.seen)) st found (working_after shape v st intent found)
   pub read : (pl : Place) → Reads st → IsPlace (extent_of shape) pl → place_of st ≡ number (extent_of shape) pl → IsRead shape v (between ++ v.seen) pl found
   pub olds : Each (Stands (between ++ v.seen)) v.olds

@@ -1,6 +1,10 @@
-use Rattle.std.proofs.Common.{◌∙◌}
-use Rattle.arc_table.specs.Seats.{view_of, part_view}
+use Rattle.std.proofs.Common.{[], ◌∙◌}
+use Rattle.arc_table.specs.Seats.{shape_of, view_of, part_view}
 use Rattle.arc_table.proofs.Counted.{news_none}
+use Rattle.arc_table.proofs.Moving.{moved_none}
+use Rattle.arc_table.proofs.Kept.{keeps_strong}
+use Rattle.arc_table.proofs.Deinits.{keeps_dying}
+use Rattle.arc_table.proofs.Vacatings.{keeps_freed_by}
 use Rattle.arc_table.proofs.heap.Heap.meet.Goals as goal
 
 pub invariant_of-pass : goal.invariant_of-pass
@@ -12,3 +16,15 @@ invariant_of-pass c =
       parted = g.splits ∙ p.parted;
       alone = c.meet_part.ensures.alone;
     }
+
+pub returns-clause-moves : goal.returns-clause-moves
+returns-clause-moves c = moved_none (shape_of c.args.self.now) 2 (view_of c.args.pass.now) (part_view c.meet_part.new.part) c.meet_part.ensures.called
+
+pub returns-clause-kept : goal.returns-clause-kept
+returns-clause-kept c = keeps_strong (shape_of c.args.self.now) [] 2 (view_of c.args.pass.now) (part_view c.meet_part.new.part) c.meet_part.ensures.called (λ k. tt)
+
+pub returns-clause-dying : goal.returns-clause-dying
+returns-clause-dying c = keeps_dying (shape_of c.args.self.now) [] 2 (view_of c.args.pass.now) (part_view c.meet_part.new.part) c.meet_part.ensures.called tt
+
+pub returns-clause-freed : goal.returns-clause-freed
+returns-clause-freed c = keeps_freed_by (shape_of c.args.self.now) [] 2 (view_of c.args.pass.now) (part_view c.meet_part.new.part) c.args.self.now.sized c.meet_part.ensures.called tt

@@ -1,6 +1,6 @@
-use Rattle.std.proofs.Common.{sym, refl, ◌∙◌, subst, Some}
+use Rattle.std.proofs.Common.{sym, refl, ◌∙◌, subst, None, Some}
 use Rattle.arc_table.specs.Seats.{shape_of, part_view}
-use Rattle.arc_table.proofs.Running.{IsUnderWay, may_start, may_take, may_step, goes_on, comes_to}
+use Rattle.arc_table.proofs.Running.{IsUnderWay, may_start, may_take, may_step, goes_on, comes_to, ran_walked}
 use Rattle.arc_table.proofs.heap.Heap.run_as.Goals as goal
 
 pub loop-step-init : goal.loop-step-init
@@ -27,3 +27,7 @@ returns-in-Done-clause-same g c = c.loop-step.invariant.1
 
 pub returns-in-Done-clause-ran : goal.returns-in-Done-clause-ran
 returns-in-Done-clause-ran g c = comes_to g.P.Plan.takes g.P.Plan.turned g.P.Plan.answer (shape_of c.args.self.now) g.J.Asks.intent c.args.plan (part_view c.args.part.now) c.loop-step.plan c.loop-step.last (part_view c.loop-step.part) c.in-Done.answer c.loop-step.invariant.0 (sym c.in-Done.ensures.answer)
+
+pub returns-in-Done-clause-walked : goal.returns-in-Done-clause-walked
+returns-in-Done-clause-walked g c = ran_walked g.P.Plan.takes g.P.Plan.turned g.P.Plan.answer (shape_of c.args.self.now) g.J.Asks.intent c.args.plan None (part_view c.args.part.now) c.in-Done.answer (part_view c.loop-step.part)
+    (comes_to g.P.Plan.takes g.P.Plan.turned g.P.Plan.answer (shape_of c.args.self.now) g.J.Asks.intent c.args.plan (part_view c.args.part.now) c.loop-step.plan c.loop-step.last (part_view c.loop-step.part) c.in-Done.answer c.loop-step.invariant.0 (sym c.in-Done.ensures.answer))

@@ -1,0 +1,61 @@
+use Rattle.std.proofs.Common.{true, false, [], ◌∷◌, refl, ◌∙◌}
+use Rattle.arc_model.specs.declared.event.Act.TheVariants.{Drop}
+use Rattle.arc_table.specs.Seats.{shape_of, view_of, part_view}
+use Rattle.arc_table.specs.Tokens.{hand_of}
+use Rattle.arc_table.proofs.Moving.{moved, moved_none}
+use Rattle.arc_table.proofs.Kept.{keeps_strong}
+use Rattle.arc_table.proofs.Deinits.{keeps_dying, dies}
+use Rattle.arc_table.proofs.StrongCalls.{lowered_same, keeps_but}
+use Rattle.arc_table.proofs.Vacatings.{keeps_freed_by}
+use Rattle.arc_table.proofs.heap.Heap.release.Goals as goal
+
+pub invariant_of-pass : goal.invariant_of-pass
+invariant_of-pass c =
+    let p = c.args.pass.now in
+    let same = lowered_same (shape_of c.args.self.now) (hand_of c.args.held) c.args.held.slot (view_of p) (part_view c.lower.new.part) c.lower.result c.lower.ensures.lowered in record {
+      numbered = (same.number ∙ p.numbered.0, p.numbered.1);
+      counted = same.made ∙ p.counted;
+      parted = same.splits ∙ p.parted;
+      alone = c.lower.ensures.alone;
+    }
+
+pub returns-in-More-clause-moves : goal.returns-in-More-clause-moves
+returns-in-More-clause-moves c = moved (shape_of c.args.self.now) (Drop (hand_of c.args.held) false) 3 (view_of c.args.pass.now) (part_view c.lower.new.part) c.in-More.ensures.lowered
+
+pub returns-in-More-clause-kept : goal.returns-in-More-clause-kept
+returns-in-More-clause-kept c = keeps_but (shape_of c.args.self.now) (hand_of c.args.held) 3 false (view_of c.args.pass.now) (part_view c.lower.new.part) c.in-More.ensures.lowered
+
+pub returns-in-More-clause-dying : goal.returns-in-More-clause-dying
+returns-in-More-clause-dying c = keeps_dying (shape_of c.args.self.now) (Drop (hand_of c.args.held) false ∷ []) 3 (view_of c.args.pass.now) (part_view c.lower.new.part) c.in-More.ensures.lowered (refl, tt)
+
+pub returns-in-More-clause-freed : goal.returns-in-More-clause-freed
+returns-in-More-clause-freed c = keeps_freed_by (shape_of c.args.self.now) (Drop (hand_of c.args.held) false ∷ []) 3 (view_of c.args.pass.now) (part_view c.lower.new.part) c.args.self.now.sized c.in-More.ensures.lowered (refl, tt)
+
+pub returns-in-Last-clause-released : goal.returns-in-Last-clause-released
+returns-in-Last-clause-released c =
+    let drop = c.in-Last.ensures.lowered in
+    (drop, refl, λ class strong. dies (shape_of c.args.self.now) (hand_of c.args.held) 3 (view_of c.args.pass.now) (part_view c.lower.new.part) c.args.held.slot class drop strong)
+
+pub returns-in-Last-clause-moves : goal.returns-in-Last-clause-moves
+returns-in-Last-clause-moves c = moved (shape_of c.args.self.now) (Drop (hand_of c.args.held) true) 3 (view_of c.args.pass.now) (part_view c.lower.new.part) c.in-Last.ensures.lowered
+
+pub returns-in-Last-clause-kept : goal.returns-in-Last-clause-kept
+returns-in-Last-clause-kept c = keeps_but (shape_of c.args.self.now) (hand_of c.args.held) 3 true (view_of c.args.pass.now) (part_view c.lower.new.part) c.in-Last.ensures.lowered
+
+pub returns-in-Last-clause-dying : goal.returns-in-Last-clause-dying
+returns-in-Last-clause-dying c = keeps_dying (shape_of c.args.self.now) (Drop (hand_of c.args.held) true ∷ []) 3 (view_of c.args.pass.now) (part_view c.lower.new.part) c.in-Last.ensures.lowered (refl, tt)
+
+pub returns-in-Last-clause-freed : goal.returns-in-Last-clause-freed
+returns-in-Last-clause-freed c = keeps_freed_by (shape_of c.args.self.now) (Drop (hand_of c.args.held) true ∷ []) 3 (view_of c.args.pass.now) (part_view c.lower.new.part) c.args.self.now.sized c.in-Last.ensures.lowered (refl, tt)
+
+pub returns-in-Again-clause-moves : goal.returns-in-Again-clause-moves
+returns-in-Again-clause-moves c = moved_none (shape_of c.args.self.now) 3 (view_of c.args.pass.now) (part_view c.lower.new.part) c.in-Again.ensures.lowered.0
+
+pub returns-in-Again-clause-kept : goal.returns-in-Again-clause-kept
+returns-in-Again-clause-kept c = keeps_strong (shape_of c.args.self.now) [] 3 (view_of c.args.pass.now) (part_view c.lower.new.part) c.in-Again.ensures.lowered.0 (λ k. tt)
+
+pub returns-in-Again-clause-dying : goal.returns-in-Again-clause-dying
+returns-in-Again-clause-dying c = keeps_dying (shape_of c.args.self.now) [] 3 (view_of c.args.pass.now) (part_view c.lower.new.part) c.in-Again.ensures.lowered.0 tt
+
+pub returns-in-Again-clause-freed : goal.returns-in-Again-clause-freed
+returns-in-Again-clause-freed c = keeps_freed_by (shape_of c.args.self.now) [] 3 (view_of c.args.pass.now) (part_view c.lower.new.part) c.args.self.now.sized c.in-Again.ensures.lowered.0 tt
