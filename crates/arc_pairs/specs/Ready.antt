@@ -1,0 +1,52 @@
+-- What a thread has between two calls.
+use Rattle.std.specs.Prelude.{ℕ, ◌≡◌, ◌≢◌, ◌<◌, ◌≤◌, [], ◌∷◌, ⊤}
+use Rattle.arc_model.specs.History.{IsLegal}
+use Rattle.arc_view.specs.declared.view.View.{View}
+use Rattle.arc_view.specs.Views.{idle}
+use Rattle.arc_table.specs.declared.heap.Heap.{Heap}
+use Rattle.arc_table.specs.declared.heap.Pass.{Pass}
+use Rattle.arc_table.specs.declared.tokens.Strong.{Strong as Token}
+use Rattle.arc_table.specs.declared.tokens.Dying.{Dying}
+use Rattle.arc_table.specs.declared.tokens.Any.{Any}
+use Rattle.arc_table.specs.declared.tokens.Any.TheVariants as anys
+use Rattle.arc_table.specs.Seats.{heap_id, shape_of, pass_id, view_of}
+use Rattle.arc_table.specs.Tokens.{hand_of, IsStrongOf, IsDyingOf}
+use Rattle.arc_table.specs.Cells.{HoldsStrong, IsNamed}
+
+-- the pass is one of the heap's, nothing is under way, and what it has seen is legal
+abbrev pub IsReady : Heap → Pass → Type 0
+IsReady heap pass = (pass_id pass ≡ heap_id heap) × ((view_of pass).working ≡ idle) × IsLegal (shape_of heap) (view_of pass).seen
+
+-- the heap has one class, whose objects have no fields
+abbrev pub IsPlain : Heap → Type 0
+IsPlain heap = (shape_of heap).classes ≡ [] ∷ []
+
+-- a strong reference of the pass to an object of class 0 in its slot
+abbrev pub IsOurs : Heap → Pass → Token → Type 0
+IsOurs heap pass t = (t.slot < (shape_of heap).slots) × IsStrongOf (view_of pass) (hand_of t) t.slot 0
+
+-- the pass owes the deinit of an object of class 0 in its slot
+abbrev pub IsOurDying : Heap → Pass → Dying → Type 0
+IsOurDying heap pass d = (d.slot < (shape_of heap).slots) × IsDyingOf (view_of pass) d.slot 0
+
+-- nil, or such a reference
+abbrev pub IsOurAny : Heap → Pass → Any → Type 0
+IsOurAny heap pass anys.Nil = ⊤
+IsOurAny heap pass (anys.Strong t) = IsOurs heap pass t
+
+-- nil, or none of the strong references that the view had
+abbrev pub IsApart : View → Any → Type 0
+IsApart v anys.Nil = ⊤
+IsApart v (anys.Strong t) = (k s class : ℕ) → IsStrongOf v k s class → k ≢ hand_of t
+
+-- the global is for strong references to objects of class 0
+abbrev pub IsForOurs : Heap → ℕ → Type 0
+IsForOurs heap g = HoldsStrong (shape_of heap) g × IsNamed (shape_of heap) g 0
+
+-- each of this many globals is
+abbrev pub AreForOurs : Heap → ℕ → Type 0
+AreForOurs heap n = (g : ℕ) → g < n → IsForOurs heap g
+
+-- a pass of the heap for one of this many threads, which its number says, from 1 on
+abbrev pub IsWorker : Heap → ℕ → Pass → Type 0
+IsWorker heap n pass = IsReady heap pass × (1 ≤ (view_of pass).number) × ((view_of pass).number ≤ n)
