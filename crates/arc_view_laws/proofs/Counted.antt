@@ -24,8 +24,8 @@ use Rattle.arc_view.specs.Calls.{Grew}
 use Rattle.arc_view.specs.Passes.{newcomer}
 use Rattle.arc_rule.specs.declared.step.Step.TheVariants.{Load, Exchange, Store}
 use Rattle.arc_rule.specs.declared.step.Intent.TheVariants as intents
-use Rattle.arc_table.specs.Strangers.{SeesNoStranger, makes_object}
-use Rattle.arc_table.proofs.Growing.{acts_of, told_grew}
+use Rattle.arc_view_laws.specs.Strangers.{SeesNoStranger, makes_object}
+use Rattle.arc_view_laws.proofs.Growing.{acts_of, told_grew}
 
 abbrev pub counted : (Act → Bool) → ℕ → History → ℕ
 counted f p h = count_by (λ e. is_of p e && f e.act) h
