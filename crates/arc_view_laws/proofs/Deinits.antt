@@ -20,9 +20,9 @@ use Rattle.arc_view.specs.Views.{Each}
 use Rattle.arc_view.specs.Holding.{At}
 use Rattle.arc_view.specs.Calls.{events_by, Called, Took}
 use Rattle.arc_view.proofs.Held.{hand_listed, stays_after, dying_busy}
-use Rattle.arc_table.specs.Tokens.{IsStrongOf, IsDyingOf, KeepsDying}
-use Rattle.arc_table.proofs.Moving.{Follows, called_follows, took_follows, cut, legal_tail}
-use Rattle.arc_table.proofs.Kept.{IsStrongAt, strong_on}
+use Rattle.arc_view_laws.specs.Having.{IsStrongOf, IsDyingOf, KeepsDying}
+use Rattle.arc_view_laws.proofs.Moving.{Follows, called_follows, took_follows, cut, legal_tail}
+use Rattle.arc_view_laws.proofs.Kept.{IsStrongAt, strong_on}
 
 -- p owes the deinit of object o, which is at place i
 pub record IsDyingAt (p i s class : ℕ) (heap : Heap) : Type 0 where

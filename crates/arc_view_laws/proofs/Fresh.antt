@@ -11,7 +11,7 @@ use Rattle.arc_model.proofs.Others.{spot-held, none-is, false-if}
 use Rattle.arc_view.specs.declared.view.View.{View}
 use Rattle.arc_view.specs.Calls.{Called}
 use Rattle.arc_view.proofs.Keeps.{legal_left}
-use Rattle.arc_table.specs.Tokens.{IsNewHand}
+use Rattle.arc_view_laws.specs.Having.{IsNewHand}
 
 pub fresh_hand : (shape : HeapShape) (xs : List Act) (n : ℕ) (v w : View) → Called shape xs n v w → IsNewHand v (next_hand v.number v.seen)
 fresh_hand shape xs n v w c =

@@ -24,9 +24,9 @@ use Rattle.arc_view.specs.Holding.{At}
 use Rattle.arc_view.specs.Rule.{IsSized}
 use Rattle.arc_view.specs.Calls.{events_by, Called, Took}
 use Rattle.arc_view.proofs.Owed.{not_left}
-use Rattle.arc_table.specs.Ends.{IsFreedOf, KeepsFreed, KeepsFreedBut}
-use Rattle.arc_table.proofs.Entries.{no_side_of, entry_kept}
-use Rattle.arc_table.proofs.Moving.{Follows, called_follows, took_follows}
+use Rattle.arc_view_laws.specs.Having.{IsFreedOf, KeepsFreed, KeepsFreedBut}
+use Rattle.arc_view_laws.proofs.Entries.{no_side_of, entry_kept}
+use Rattle.arc_view_laws.proofs.Moving.{Follows, called_follows, took_follows}
 
 -- p owes the vacating of object o, which is at place i
 pub record IsFreedAt (p i s : ℕ) (m : Option ℕ) (heap : Heap) : Type 0 where

@@ -1,6 +1,6 @@
 -- Strong references that a pass doesn't give up stay where they are.
-use Rattle.std.proofs.Common.{◌≡◌, ℕ, Bool, true, false, cond, List, [], ◌∷◌, ◌++◌, Some, inl, refl, sym, ap, ◌∙◌, subst}
-use Rattle.std.specs.Prelude.{is_some}
+use Rattle.std.proofs.Common.{◌≡◌, ℕ, Bool, true, false, cond, List, [], ◌∷◌, ◌++◌, Option, Some, inl, refl, sym, ap, ◌∙◌, subst}
+use Rattle.std.specs.Prelude.{slice_get, is_some}
 use Rattle.std.proofs.lemmas.Bool.{eqb-true}
 use Rattle.arc_model.proofs.Basics.{in-not_empty}
 use Rattle.arc_model.specs.declared.event.Act.{Act}
@@ -9,16 +9,16 @@ use Rattle.arc_model.specs.declared.shape.Kind.TheVariants.{Strong}
 use Rattle.arc_model.specs.Shapes.{HeapShape}
 use Rattle.arc_model.specs.Heaps.{Hand, Object, Heap}
 use Rattle.arc_model.specs.History.{History, heap_after, is_of, share, IsLegal}
-use Rattle.arc_model.specs.Lookup.{spot}
+use Rattle.arc_model.specs.Lookup.{Spot, spot}
 use Rattle.arc_model.specs.Own.{ends_hand}
 use Rattle.arc_model.proofs.Others.{others_leave, own_leave}
 use Rattle.arc_view.specs.declared.view.View.{View}
 use Rattle.arc_view.specs.Views.{Each}
-use Rattle.arc_view.specs.Holding.{At}
+use Rattle.arc_view.specs.Holding.{At, heap_of}
 use Rattle.arc_view.specs.Calls.{events_by, Called, Took}
 use Rattle.arc_view.proofs.Held.{hand_listed, stays_after}
-use Rattle.arc_table.specs.Tokens.{KeepsStrong, StandsAs}
-use Rattle.arc_table.proofs.Moving.{Follows, called_follows, took_follows}
+use Rattle.arc_view_laws.specs.Having.{IsStrongOf, KeepsStrong, StandsAs}
+use Rattle.arc_view_laws.proofs.Moving.{Follows, called_follows, took_follows}
 
 -- hand k of p stands in the strong list of object o, which is at place i
 pub record IsStrongAt (p k i s class : ℕ) (heap : Heap) : Type 0 where
@@ -72,3 +72,20 @@ keeps_strong shape xs n v w c each k = stands shape xs n v w k c (each k)
 -- so does a pass that takes in another
 pub took_strong : (shape : HeapShape) (v u w : View) → Took shape v u w → KeepsStrong v w
 took_strong shape v u w t k = follows_stands shape [] v w k (took_follows shape v u w t) tt
+
+-- a hand is a strong one of a single object: its slot and class are settled
+pub strong_one : (v : View) (k s t class class' : ℕ) → IsStrongOf v k s class → IsStrongOf v k t class' → (s ≡ t) × (class ≡ class')
+strong_one v k s t class class' (i, o, hand, here, slot, is) (j, q, hand', here', slot', is') =
+    let place : i ≡ j = spot_inj i j (sym hand ∙ hand') in
+    let same : o ≡ q = some_inj (sym here ∙ (ap (slice_get (heap_of v).objects) place ∙ here')) in
+    (some_inj (sym slot ∙ (ap (λ (x : Object). x.slot) same ∙ slot')), sym is ∙ (ap (λ (x : Object). x.class) same ∙ is'))
+  where
+    some_inj : {X : Type 0} {a b : X} → Some a ≡ Some b → a ≡ b
+    some_inj e = cc
+
+    spot_inj : (a b : ℕ) → Path (Option Spot) (Some (record { place = a; kind = Strong })) (Some (record { place = b; kind = Strong })) → a ≡ b
+    spot_inj a b e = ap (λ (x : Spot). x.place) (some_inj e)
+
+-- so one strong reference tells how the hand stands
+pub stands_as : (v w : View) (k m s class : ℕ) → IsStrongOf v k s class → IsStrongOf w m s class → StandsAs v k w m
+stands_as v w k m s class had has t class' other = let same = strong_one v k s t class class' had other in subst (λ (x : ℕ × ℕ). IsStrongOf w m x.0 x.1) (λ j. (same.0 j, same.1 j)) has

@@ -16,8 +16,8 @@ use Rattle.arc_view.specs.declared.view.View.{View}
 use Rattle.arc_view.specs.Holding.{heap_of}
 use Rattle.arc_view.specs.Calls.{events_by, Called, Took}
 use Rattle.arc_view.proofs.Lists.{share-append, others_came}
-use Rattle.arc_table.specs.Hands.{Moves}
-use Rattle.arc_table.proofs.Hands.{own_hands}
+use Rattle.arc_view_laws.specs.Hands.{Moves}
+use Rattle.arc_view_laws.proofs.Hands.{own_hands}
 
 -- the view w goes on from v, and these are the events of its pass since
 pub record Follows (shape : HeapShape) (v w : View) (own : History) : Type 0 where

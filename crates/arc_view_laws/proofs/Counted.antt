@@ -12,8 +12,10 @@ use Rattle.arc_rule.specs.declared.step.Step.{Step}
 use Rattle.arc_rule.specs.declared.step.Intent.{Intent}
 use Rattle.arc_view.specs.declared.view.View.{View}
 use Rattle.arc_view.specs.Rule.{is_new, news}
-use Rattle.arc_view.specs.Kinds.{act_of, event_list, hit_act, missed_act, when, kind_at, source_at}
+use Rattle.arc_view.specs.Kinds.{act_of, event_list, hit_act, missed_act, stored_act, when, kind_at, source_at}
 use Rattle.arc_view.specs.Built.{IsBuilt, IsAllowed}
+use Rattle.arc_rule.specs.declared.layout.Place.{Place}
+use Rattle.arc_rule.specs.declared.layout.Place.TheVariants as places
 use Rattle.arc_rule.specs.Places.{extent_of, place_at}
 use Rattle.arc_model.specs.declared.event.Origin.TheVariants as origins
 use Rattle.arc_view.specs.Steps.{Told}
@@ -22,8 +24,8 @@ use Rattle.arc_view.specs.Calls.{Grew}
 use Rattle.arc_view.specs.Passes.{newcomer}
 use Rattle.arc_rule.specs.declared.step.Step.TheVariants.{Load, Exchange, Store}
 use Rattle.arc_rule.specs.declared.step.Intent.TheVariants as intents
-use Rattle.arc_table.specs.Strangers.{SeesNoStranger, makes_object}
-use Rattle.arc_table.proofs.Growing.{acts_of, told_grew}
+use Rattle.arc_view_laws.specs.Strangers.{SeesNoStranger, makes_object}
+use Rattle.arc_view_laws.proofs.Growing.{acts_of, told_grew}
 
 abbrev pub counted : (Act → Bool) → ℕ → History → ℕ
 counted f p h = count_by (λ e. is_of p e && f e.act) h
@@ -141,7 +143,19 @@ news_act shape v (Store place new) (intents.Publish of why) found built = absurd
 news_act shape v (Store place new) intents.Back found built = absurd (built)
 news_act shape v (Store place new) (intents.Swap cell put) found built = absurd (built)
 news_act shape v (Store place new) (intents.Access cell) found built = absurd (built)
-news_act shape v (Store place new) (intents.Deinit slot) found built = absurd (built)
+news_act shape v (Store place new) (intents.Deinit slot) found built = go (place_at (extent_of shape) place)
+  where
+    go : (pl : Place) → news_if (stored_act v pl (intents.Deinit slot)) ≡ zero
+    go places.Zero = refl
+    go (places.Global g) = refl
+    go (places.Count s) = refl
+    go (places.Isa s) = refl
+    go (places.Next s) = refl
+    go (places.Field s f) = refl
+    go (places.Link e) = refl
+    go (places.Strong e) = refl
+    go (places.Unowned e) = refl
+    go (places.Weak e) = refl
 news_act shape v (Store place new) intents.Vacate found built = refl
 news_act shape v (Store place new) intents.Gone found built = absurd (built)
 
