@@ -45,11 +45,11 @@ ObjectsFit m os = AllByRecursion (λ (o : Object). o.class < m) os
 
 first-fits : (m : ℕ) (test : Object → Bool) (f : Object → Object) (os : List Object) → ((o : Object) → (f o).class ≡ o.class) → ObjectsFit m os → ObjectsFit m (at_first test f os)
 first-fits m test f [] same fit = tt
-first-fits m test f (o ∷ os) same fit = go (test o)
+first-fits m test f (o ∷ os) same fit = go (test o) (first-fits m test f os same fit.1)
   where
-    go : (b : Bool) → ObjectsFit m (cond b (f o ∷ os) (o ∷ at_first test f os))
-    go true = (subst (λ c. c < m) (sym (same o)) fit.0, fit.1)
-    go false = (fit.0, first-fits m test f os same fit.1)
+    go : (b : Bool) → ObjectsFit m (at_first test f os) → ObjectsFit m (cond b (f o ∷ os) (o ∷ at_first test f os))
+    go true ih = (subst (λ c. c < m) (sym (same o)) fit.0, fit.1)
+    go false ih = (fit.0, ih)
 
 end-fits : (m : ℕ) (os : List Object) (o : Object) → ObjectsFit m os → o.class < m → ObjectsFit m (os ++ o ∷ [])
 end-fits m [] o fit one = (one, tt)
@@ -57,11 +57,11 @@ end-fits m (q ∷ os) o fit one = (fit.0, end-fits m os o fit.1 one)
 
 found-fits : (m : ℕ) (test : Object → Bool) (os : List Object) (o : Object) → ObjectsFit m os → find test os ≡ Some o → o.class < m
 found-fits m test [] o fit found = absurd (None≢Some o found)
-found-fits m test (q ∷ os) o fit found = go (test q) found
+found-fits m test (q ∷ os) o fit found = go (test q) found (found-fits m test os o fit.1)
   where
-    go : (b : Bool) → cond b (Some q) (find test os) ≡ Some o → o.class < m
-    go true e = subst (λ (r : Object). r.class < m) (Some-inj e) fit.0
-    go false e = found-fits m test os o fit.1 e
+    go : (b : Bool) → cond b (Some q) (find test os) ≡ Some o → (find test os ≡ Some o → o.class < m) → o.class < m
+    go true e ih = subst (λ (r : Object). r.class < m) (Some-inj e) fit.0
+    go false e ih = ih e
 
 list-class : (k : Kind) (f : List Holder → List Holder) (o : Object) → (with_list k f o).class ≡ o.class
 list-class Strong f o = refl

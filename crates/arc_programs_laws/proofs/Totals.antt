@@ -36,14 +36,14 @@ counted-line a ns = sum_by-cons (λ (l : Line). cond (tells_deinit l) 1 0) (reco
 deinits-lines : (ns : List Note) → deinit_lines (lines_of ns) ≡ length (deinits_of ns)
 deinits-lines [] = refl
 deinits-lines (Did a ∷ ns) = deinits-lines ns
-deinits-lines (Says (answers.New name) ∷ ns) = counted-line (answers.New name) ns ∙ deinits-lines ns
-deinits-lines (Says answers.Full ∷ ns) = counted-line answers.Full ns ∙ deinits-lines ns
-deinits-lines (Says (answers.Got name) ∷ ns) = counted-line (answers.Got name) ns ∙ deinits-lines ns
-deinits-lines (Says answers.Ok ∷ ns) = counted-line answers.Ok ns ∙ deinits-lines ns
-deinits-lines (Says answers.Nil ∷ ns) = counted-line answers.Nil ns ∙ deinits-lines ns
-deinits-lines (Says answers.Dead ∷ ns) = counted-line answers.Dead ns ∙ deinits-lines ns
-deinits-lines (Says answers.NoEntry ∷ ns) = counted-line answers.NoEntry ns ∙ deinits-lines ns
-deinits-lines (Says answers.CountFull ∷ ns) = counted-line answers.CountFull ns ∙ deinits-lines ns
+deinits-lines (Says (answers.New name) ∷ ns) = let a = counted-line (answers.New name) ns in let ih = deinits-lines ns in omega arith
+deinits-lines (Says answers.Full ∷ ns) = let a = counted-line answers.Full ns in let ih = deinits-lines ns in omega arith
+deinits-lines (Says (answers.Got name) ∷ ns) = let a = counted-line (answers.Got name) ns in let ih = deinits-lines ns in omega arith
+deinits-lines (Says answers.Ok ∷ ns) = let a = counted-line answers.Ok ns in let ih = deinits-lines ns in omega arith
+deinits-lines (Says answers.Nil ∷ ns) = let a = counted-line answers.Nil ns in let ih = deinits-lines ns in omega arith
+deinits-lines (Says answers.Dead ∷ ns) = let a = counted-line answers.Dead ns in let ih = deinits-lines ns in omega arith
+deinits-lines (Says answers.NoEntry ∷ ns) = let a = counted-line answers.NoEntry ns in let ih = deinits-lines ns in omega arith
+deinits-lines (Says answers.CountFull ∷ ns) = let a = counted-line answers.CountFull ns in let ih = deinits-lines ns in omega arith
 deinits-lines (Says (answers.Deinit name) ∷ ns) = let a = counted-line (answers.Deinit name) ns in let ih = deinits-lines ns in omega arith
 deinits-lines (Operation k ∷ ns) = deinits-lines ns
 deinits-lines (Name s name ∷ ns) = deinits-lines ns
