@@ -20,7 +20,6 @@ use Rattle.arc_model.specs.SpellingGains.IsReady.{start, noted as ready_noted, c
 use Rattle.arc_model.specs.SpellingGains.IsSettled.{unclaimed, published as stays_published, given_back}
 use Rattle.arc_model.specs.SpellingGains.IsRefused.{no_entry}
 use Rattle.arc_model.proofs.Tally.{no}
-use Rattle.arc_script.specs.declared.answer.Line.{Line}
 use Rattle.arc_programs.specs.Variables.{Held}
 use Rattle.arc_programs.specs.Programs.{makes, made_of, IsDropped}
 use Rattle.arc_programs.specs.Programs.IsDropped.{nothing, dropped}

@@ -1,5 +1,5 @@
 -- Each object is of a class of the script, and so is each that a line names.
-use Rattle.std.proofs.Common.{◌≡◌, ℕ, ◌≤◌, ◌<◌, Bool, true, false, cond, List, [], ◌∷◌, ◌++◌, Option, Some, None, refl, sym, ap, ◌∙◌, subst}
+use Rattle.std.proofs.Common.{◌≡◌, ℕ, ◌≤◌, ◌<◌, Bool, true, false, cond, List, [], ◌∷◌, ◌++◌, Option, Some, None, refl, sym, ◌∙◌, subst}
 use Rattle.std.specs.Prelude.{All, find, length, map, option_map, reverse}
 use Rattle.std.specs.List.{AllByRecursion}
 use Rattle.std.proofs.lemmas.List.Elements.{All-from_recursion}
@@ -25,8 +25,6 @@ use Rattle.arc_model.specs.SpellingTies.{Causes, Ties, Holds, name_of}
 use Rattle.arc_model.specs.SpellingTies.Ties.{start, own, other, noted}
 use Rattle.arc_model.proofs.Basics.{None≢Some, Some-inj}
 use Rattle.arc_model.proofs.SpellTies.{share_is}
-use Rattle.arc_script.specs.declared.answer.Line.{Line}
-use Rattle.arc_script.specs.declared.script.Script.{Script}
 use Rattle.arc_programs.specs.ProgramsLines.{lines_of}
 use Rattle.arc_programs.specs.ProgramsTied.{hands_in}
 use Rattle.arc_programs_laws.specs.Names.{LineFits, ClassFits, EventsNameClasses, LinesNameClasses}

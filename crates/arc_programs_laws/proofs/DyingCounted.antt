@@ -1,6 +1,6 @@
 -- The event that empties an object's strong list makes its thread owe the deinit, and what ends a deinit pays it.
-use Rattle.std.proofs.Common.{◌≡◌, ℕ, zero, suc, ◌+◌, ◌≤◌, Bool, true, false, cond, eqb, List, [], ◌∷◌, ◌++◌, Option, Some, None, refl, sym, ap, ◌∙◌, arith}
-use Rattle.std.specs.Prelude.{find, slice_get, ◌&&◌}
+use Rattle.std.proofs.Common.{◌≡◌, ℕ, zero, suc, ◌+◌, Bool, true, false, cond, List, [], ◌∷◌, Option, Some, None, refl, sym, ap, ◌∙◌, arith}
+use Rattle.std.specs.Prelude.{slice_get, ◌&&◌}
 use Rattle.std.proofs.lemmas.Bool.{and_parts, eq-eqb}
 use Rattle.arc_model.specs.declared.event.Act.{Act}
 use Rattle.arc_model.specs.declared.event.Act.TheVariants as acts
@@ -13,7 +13,7 @@ use Rattle.arc_model.specs.Shapes.{HeapShape}
 use Rattle.arc_model.specs.Cells.{cell, origin, are_all_nil}
 use Rattle.arc_model.specs.Effects.{effect, made, ended_if, loaded, given_up, becomes, put_in, taken_out, finished, left_slot, vacated, gone, entry_to, entry_left, claimed_if, owing_none}
 use Rattle.arc_model.specs.Heaps.{Holder, Hand, Strongs, Duty, Deinit, Vacating, Gone, Owed, Object, Heap}
-use Rattle.arc_model.specs.Holders.{is_in, is_alone, gains, without, renamed, with_last, lists, with_list, list_of, list_with, holds, kind_in, in_slot, has_entry, held_by, at_slot, at_entry, at_first, owes_to, is_by, is_duty, same_duty, same_holder}
+use Rattle.arc_model.specs.Holders.{is_in, is_alone, gains, without, renamed, with_last, lists, with_list, list_of, list_with, holds, kind_in, in_slot, has_entry, held_by, at_slot, at_entry, at_first, owes_to, is_by, is_duty, same_duty}
 use Rattle.arc_model.specs.History.{History, heap_after, next_hand, sight, IsLegal}
 use Rattle.arc_model.specs.Lookup.{duty_in, owed_by}
 use Rattle.arc_model.specs.Needs.{needs, passes, same_bool}

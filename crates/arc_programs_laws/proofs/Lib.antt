@@ -6,3 +6,4 @@ pub mod Additions
 pub mod Works
 pub mod ClassesNamed
 pub mod Totals
+pub mod PhasesKept

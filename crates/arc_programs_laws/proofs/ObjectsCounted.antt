@@ -1,12 +1,11 @@
 -- No more deinits end than objects are made: each takes Strongs off an object, which has it once, from the start.
-use Rattle.std.proofs.Common.{◌≡◌, ℕ, suc, ◌+◌, ◌≤◌, Bool, true, false, cond, List, [], ◌∷◌, ◌++◌, Option, Some, None, refl, sym, ap, ◌∙◌, arith}
+use Rattle.std.proofs.Common.{◌≡◌, ℕ, suc, ◌+◌, ◌≤◌, Bool, true, false, cond, List, [], ◌∷◌, ◌++◌, Option, Some, None, refl, ap, arith}
 use Rattle.std.specs.Prelude.{find, ◌&&◌}
-use Rattle.std.proofs.lemmas.Bool.{and_parts, eq-eqb}
+use Rattle.std.proofs.lemmas.Bool.{and_parts}
 use Rattle.arc_model.specs.declared.event.Act.{Act}
 use Rattle.arc_model.specs.declared.event.Act.TheVariants as acts
 use Rattle.arc_model.specs.declared.event.CellName.{CellName}
 use Rattle.arc_model.specs.declared.event.CellName.TheVariants as cells
-use Rattle.arc_model.specs.declared.event.Event.{Event}
 use Rattle.arc_model.specs.declared.event.Got.{Got}
 use Rattle.arc_model.specs.declared.event.Got.TheVariants as got
 use Rattle.arc_model.specs.declared.shape.Kind.{Kind}
@@ -20,7 +19,7 @@ use Rattle.arc_model.specs.History.{History, heap_after, next_hand, sight, IsLeg
 use Rattle.arc_model.specs.Needs.{needs}
 use Rattle.arc_model.specs.Spelling.{Note, one_more_if}
 use Rattle.arc_model.specs.WellFormed.{more, tally, held, total}
-use Rattle.arc_model.proofs.Basics.{true≢false, met, at_found}
+use Rattle.arc_model.proofs.Basics.{met, at_found}
 use Rattle.arc_model.proofs.Tally.{tally-push, tally-without}
 use Rattle.arc_model.proofs.Turns.{put-found, total-append, total-put}
 use Rattle.arc_model.proofs.Stages.{dying-facts}

@@ -9,8 +9,6 @@ use Rattle.std.proofs.lemmas.Option.{slice_get_within, get_or_from_slice_get}
 use Rattle.arc_model.specs.declared.answer.Answer.{Answer}
 use Rattle.arc_model.specs.declared.answer.Answer.TheVariants as answers
 use Rattle.arc_model.specs.declared.event.ObjectName.{ObjectName}
-use Rattle.arc_model.specs.declared.event.Act.TheVariants as acts
-use Rattle.arc_model.specs.declared.event.CellName.TheVariants as cells
 use Rattle.arc_model.specs.Shapes.{HeapShape}
 use Rattle.arc_model.specs.Spelling.{Note, one_more_if, deinits_of}
 use Rattle.arc_model.specs.Spelling.Note.{Did, Line as Says, Operation, Name, Entry, NeedsEntry, Nil, Refers}
@@ -36,7 +34,7 @@ use Rattle.arc_programs.proofs.ProgramsTold.{programs_numbered, end_sections_tol
 use Rattle.arc_quiet.proofs.ProgramsCounted.{all-flat, all-at}
 use Rattle.arc_programs_laws.specs.Names.{AnswerFits}
 use Rattle.arc_programs_laws.specs.Room.{is_new, phases_in, operations_of}
-use Rattle.arc_programs_laws.proofs.Additions.{Adds, none as none_added, did, fact, begun, ActsFit, NamesFit, LinesFit, NamesLines, adds-made, adds-acts, adds-names, Tells, same, over, then-begun, drop-tells, dropped-tells, gain-tells, refused-tells, read-fits}
+use Rattle.arc_programs_laws.proofs.Additions.{none as none_added, did, fact, ActsFit, NamesFit, LinesFit, NamesLines, adds-made, adds-acts, adds-names, Tells, same, over, then-begun, drop-tells, dropped-tells, gain-tells, refused-tells, read-fits}
 use Rattle.arc_programs_laws.proofs.ObjectsCounted.{finishes_of}
 
 -- ---- operations
