@@ -7,3 +7,4 @@ pub mod Works
 pub mod ClassesNamed
 pub mod Totals
 pub mod PhasesKept
+pub mod PhasesWorked

@@ -5,6 +5,7 @@
 ghost use Rattle.arc_programs_laws.specs.Claims.{ClaimsEnd};
 ghost use Rattle.arc_programs_laws.specs.Deinits.{DeinitLinesAreEmptied, LastDropsEmpty};
 ghost use Rattle.arc_programs_laws.specs.Names.{EventsNameClasses, LinesNameClasses};
+ghost use Rattle.arc_programs_laws.specs.Phases.{PhasesAreTold};
 ghost use Rattle.arc_programs_laws.specs.Room.{EveryLineFindsRoom};
 
 /// An event empties the strong list of an object where it drops the last strong reference to it, and nowhere else. Source: RefCount.h.
@@ -32,4 +33,9 @@ pub fn every_line_finds_room()
 pub fn lines_name_classes()
     ensures events { EventsNameClasses }
     ensures lines { LinesNameClasses }
+{}
+
+/// Of two histories that have the whole of one script the phases may follow in one and not in the other. This project's own.
+pub fn phases_are_told()
+    ensures { PhasesAreTold }
 {}
