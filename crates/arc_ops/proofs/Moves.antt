@@ -20,11 +20,11 @@ use Rattle.arc_cells.specs.declared.cascade.At.TheVariants as at
 use Rattle.arc_cells.specs.Cascades.{CascadeState, cascade_turned, turned_at, finish_turned, vacated}
 use Rattle.arc_ops.specs.Kept.{Kept}
 use Rattle.arc_ops.specs.declared.stepper.Doing.TheVariants.{Ended}
-use Rattle.arc_ops.specs.Thread.{Thread, put, replaced, made_on, IsStepper, IsTryingSlot, MadeBefore, MakingGoesOn}
+use Rattle.arc_ops.specs.Thread.{Thread, put, replaced, made_on, IsStepper, IsTryingSlot, FewBefore, MadeBefore, MakingGoesOn}
 
 -- an idle stepper at a later operation
-pub moved : (t : Thread) → IsStepper t → t.doing ≡ Ended → (i : ℕ) (kept : Kept) → t.made ≤ i + 1 → i ≤ length t.program → IsStepper (record t { index = i; kept = kept })
-moved t s idle i kept made within = record {
+pub moved : (t : Thread) → IsStepper t → t.doing ≡ Ended → (i : ℕ) (kept : Kept) → t.hands ≤ i + 1 → t.made ≤ i + 1 → i ≤ length t.program → IsStepper (record t { index = i; kept = kept })
+moved t s idle i kept hands made within = record {
   layout = s.layout;
   without_fields = s.without_fields;
   slots = s.slots;
@@ -32,17 +32,20 @@ moved t s idle i kept made within = record {
   thread = s.thread;
   vars_fit = s.vars_fit;
   classes_fit = s.classes_fit;
+  whole = s.whole;
   few = s.few;
   held = s.held;
+  phase = s.phase;
   index = within;
+  hands = hands;
   made = made;
   under_way = rw idle tt;
   in_operation = rw idle tt;
 }
 
 -- an idle stepper that has made an object
-pub made_one : (t : Thread) → IsStepper t → t.doing ≡ Ended → t.made ≤ t.index → (hands : ℕ) (event : Option Act) → IsStepper (record t { hands = hands; made = t.made + 1; event = event })
-made_one t s idle few hands event = record {
+pub made_one : (t : Thread) → IsStepper t → t.doing ≡ Ended → FewBefore t → (event : Option Act) → IsStepper (record t { hands = t.hands + 1; made = t.made + 1; event = event })
+made_one t s idle few event = record {
   layout = s.layout;
   without_fields = s.without_fields;
   slots = s.slots;
@@ -50,10 +53,34 @@ made_one t s idle few hands event = record {
   thread = s.thread;
   vars_fit = s.vars_fit;
   classes_fit = s.classes_fit;
+  whole = s.whole;
   few = s.few;
   held = s.held;
+  phase = s.phase;
   index = s.index;
-  made = omega arith;
+  hands = let f = few.0 in omega arith;
+  made = let f = few.1 in omega arith;
+  under_way = rw idle tt;
+  in_operation = rw idle tt;
+}
+
+-- an idle stepper that has a reference more
+pub took_one : (t : Thread) → IsStepper t → t.doing ≡ Ended → FewBefore t → (event : Option Act) → IsStepper (record t { hands = t.hands + 1; event = event })
+took_one t s idle few event = record {
+  layout = s.layout;
+  without_fields = s.without_fields;
+  slots = s.slots;
+  strong_cap = s.strong_cap;
+  thread = s.thread;
+  vars_fit = s.vars_fit;
+  classes_fit = s.classes_fit;
+  whole = s.whole;
+  few = s.few;
+  held = s.held;
+  phase = s.phase;
+  index = s.index;
+  hands = let f = few.0 in omega arith;
+  made = s.made;
   under_way = rw idle tt;
   in_operation = rw idle tt;
 }
