@@ -15,7 +15,7 @@ use Rattle.arc_model.specs.declared.shape.Kind.{Kind}
 use Rattle.arc_model.specs.declared.shape.Kind.TheVariants.{Strong, Unowned, Weak}
 use Rattle.arc_model.specs.Shapes.{HeapShape}
 use Rattle.arc_model.specs.Cells.{cell, origin}
-use Rattle.arc_model.specs.Effects.{effect, made, ended_if, loaded, given_up, becomes, put_in, taken_out, finished, left_slot, vacated, gone, entry_to, entry_left, claimed_if, owing_none}
+use Rattle.arc_model.specs.Effects.{effect, made, ended_if, loaded, given_up, becomes, put_in, taken_out, finished, left_slot, vacated, gone, entry_left, claimed_if, owing_none}
 use Rattle.arc_model.specs.Heaps.{Holder, Hand, Strongs, Unowneds, Object, Heap}
 use Rattle.arc_model.specs.Holders.{gains, without, renamed, with_last, lists, with_list, holds, kind_in, in_slot, has_entry, held_by, at_slot, at_first}
 use Rattle.arc_model.specs.History.{History, heap_after, share}
@@ -24,6 +24,7 @@ use Rattle.arc_model.specs.Spelling.Note.{Did, Line as Says, Operation, Name, En
 use Rattle.arc_model.specs.SpellingTies.{Causes, Ties, Holds, name_of}
 use Rattle.arc_model.specs.SpellingTies.Ties.{start, own, other, noted}
 use Rattle.arc_model.proofs.Basics.{None≢Some, Some-inj}
+use Rattle.arc_model.proofs.Builds.{entry_to-objects}
 use Rattle.arc_model.proofs.SpellTies.{share_is}
 use Rattle.arc_programs.specs.ProgramsLines.{lines_of}
 use Rattle.arc_programs.specs.ProgramsTied.{hands_in}
@@ -79,10 +80,6 @@ left-class : (p : ℕ) (e : Option ℕ) (o : Object) → (left_slot p e (owing_n
 left-class p None o = refl
 left-class p (Some e) o = refl
 
-entry-objects : (p : ℕ) (e : Option ℕ) (heap : Heap) → (entry_to p e heap).objects ≡ heap.objects
-entry-objects p None heap = refl
-entry-objects p (Some e) heap = refl
-
 claimed-objects : (b : Bool) (p e : ℕ) (heap : Heap) → (claimed_if b p e heap).objects ≡ heap.objects
 claimed-objects true p e heap = refl
 claimed-objects false p e heap = refl
@@ -113,7 +110,7 @@ effect-fits m p (acts.WeakOf h k) heap fits fit = first-fits m (holds (Hand p h)
 effect-fits m p (acts.Load h g) heap fits fit = loaded-fits m p h g heap fit
 effect-fits m p (acts.Drop h last) heap fits fit =
     let new : Heap = record heap { objects = at_first (holds (Hand p h)) (given_up p (Hand p h) last) heap.objects } in
-    subst (ObjectsFit m) (sym (entry-objects p (entry_left (Hand p h) last (held_by (Hand p h) heap)) new)) (first-fits m (holds (Hand p h)) (given_up p (Hand p h) last) heap.objects (given-class p (Hand p h) last) fit)
+    subst (ObjectsFit m) (sym (entry_to-objects p (entry_left (Hand p h) last (held_by (Hand p h) heap)) new)) (first-fits m (holds (Hand p h)) (given_up p (Hand p h) last) heap.objects (given-class p (Hand p h) last) fit)
 effect-fits m p (acts.CountFull k from) heap fits fit = fit
 effect-fits m p (acts.Claim e) heap fits fit = fit
 effect-fits m p acts.NoEntry heap fits fit = fit

@@ -5,14 +5,14 @@ use Rattle.arc_model.specs.declared.event.Act.{Act}
 use Rattle.arc_model.specs.declared.event.Act.TheVariants as acts
 use Rattle.arc_model.specs.declared.shape.Kind.TheVariants.{Strong, Unowned, Weak}
 use Rattle.arc_model.specs.Shapes.{HeapShape}
-use Rattle.arc_model.specs.Effects.{effect, ended_if, given_up, entry_to, entry_left}
+use Rattle.arc_model.specs.Effects.{effect, ended_if, given_up, entry_left}
 use Rattle.arc_model.specs.Heaps.{Holder, Hand, Object, Heap}
 use Rattle.arc_model.specs.Holders.{is_in, is_alone, is_empty, without, with_list, list_of, list_with, holds, held_by, at_first}
 use Rattle.arc_model.specs.History.{History, heap_after, sight, IsLegal}
 use Rattle.arc_model.specs.Laws.{strong_in, strong_list, Empties}
 use Rattle.arc_model.specs.Needs.{first_failing, needs, passes, same_bool}
 use Rattle.arc_model.proofs.Basics.{met, at_found, in-not_empty, alone-without, empty-is}
-use Rattle.arc_model.proofs.Builds.{some-is}
+use Rattle.arc_model.proofs.Builds.{some-is, entry_to-objects}
 use Rattle.arc_model.proofs.Ends.{ends_once}
 use Rattle.arc_model.proofs.Others.{lookup_after}
 use Rattle.arc_model.proofs.Tally.{no, clash}
@@ -33,10 +33,6 @@ drop-of p _ heap d = no d
 at-middle : (before after : List Object) (o : Object) → slice_get (before ++ o ∷ after) (length before) ≡ Some o
 at-middle [] after o = refl
 at-middle (b ∷ before) after o = at-middle before after o
-
-entry-objects : (p : ℕ) (m : Option ℕ) (heap : Heap) → (entry_to p m heap).objects ≡ heap.objects
-entry-objects p None heap = refl
-entry-objects p (Some e) heap = refl
 
 -- the one strong holder goes
 emptied-list : (p k : ℕ) (o : Object) → is_in (Hand p k) o.strong ≡ true → is_alone (list_with (Hand p k) o) ≡ true → (given_up p (Hand p k) true o).strong ≡ []
@@ -62,7 +58,7 @@ empties shape p k h legal strong =
     let was : slice_get heap.objects i ≡ Some r.0 = ap (λ os. slice_get os i) put.old ∙ at-middle put.before put.after r.0 in
     let new : Heap = record heap { objects = after } in
     let is : slice_get (effect p (acts.Drop k true) heap).objects i ≡ Some (given_up p x true r.0) =
-    ap (λ os. slice_get os i) (entry-objects p (entry_left x true (held_by x heap)) new ∙ put.new) ∙ at-middle put.before put.after (given_up p x true r.0) in
+    ap (λ os. slice_get os i) (entry_to-objects p (entry_left x true (held_by x heap)) new ∙ put.new) ∙ at-middle put.before put.after (given_up p x true r.0) in
     (i, (λ none. clash (is_empty r.0.strong) (ap is_empty (sym (ap strong_in was) ∙ none)) (in-not_empty x r.0.strong held), ap strong_in is ∙ emptied-list p k r.0 held alone))
 
 -- ---- and nothing else does
