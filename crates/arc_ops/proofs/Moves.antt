@@ -1,6 +1,7 @@
 -- What holds of each stepper goes on to hold.
-use Rattle.std.proofs.Common.{◌≡◌, ℕ, ◌+◌, ◌≤◌, ◌<◌, Bool, true, false, cond, eqb, ltb, length, Option, None, refl, ap, ◌∙◌, arith}
+use Rattle.std.proofs.Common.{◌≡◌, ℕ, ◌+◌, ◌≤◌, ◌<◌, Bool, true, false, cond, eqb, ltb, List, length, Option, None, refl, ap, ◌∙◌, arith}
 use Rattle.std.proofs.lemmas.Bool.{ltb-true}
+use Rattle.std.specs.Prelude.{All}
 use Rattle.std.specs.Option.{unwrap_or}
 use Rattle.arc_model.specs.declared.event.Act.{Act}
 use Rattle.arc_model.specs.declared.event.ObjectName.{ObjectName}
@@ -19,26 +20,28 @@ use Rattle.arc_cells.specs.declared.cascade.At.{At}
 use Rattle.arc_cells.specs.declared.cascade.At.TheVariants as at
 use Rattle.arc_cells.specs.Cascades.{CascadeState, cascade_turned, turned_at, finish_turned, vacated}
 use Rattle.arc_ops.specs.Kept.{Kept}
+use Rattle.arc_ops.specs.declared.stepper.Held.{Held}
 use Rattle.arc_ops.specs.declared.stepper.Doing.TheVariants.{Ended}
-use Rattle.arc_ops.specs.Thread.{Thread, put, replaced, made_on, IsStepper, IsTryingSlot, FewBefore, MadeBefore, MakingGoesOn}
+use Rattle.arc_ops.specs.Thread.{Thread, put, replaced, made_on, IsStepper, HeldFits, IsTryingSlot, FewBefore, MadeBefore, MakingGoesOn}
 
--- an idle stepper at a later operation
-pub moved : (t : Thread) → IsStepper t → t.doing ≡ Ended → (i : ℕ) (kept : Kept) → t.hands ≤ i + 1 → t.made ≤ i + 1 → i ≤ length t.program → IsStepper (record t { index = i; kept = kept })
-moved t s idle i kept hands made within = record {
+-- an idle stepper at a later operation, behind operations that moved references
+pub moved : (t : Thread) → IsStepper t → t.doing ≡ Ended → (i : ℕ) (vars : List (Option Held)) (kept : Kept) → t.index ≤ i → i ≤ length t.program → length vars ≡ length t.vars →
+    (All (HeldFits t.layout.slots) t.vars → All (HeldFits t.layout.slots) vars) → IsStepper (record t { index = i; vars = vars; kept = kept })
+moved t s idle i vars kept from within count held = record {
   layout = s.layout;
   without_fields = s.without_fields;
   slots = s.slots;
   strong_cap = s.strong_cap;
   thread = s.thread;
-  vars_fit = s.vars_fit;
+  vars_fit = rw count s.vars_fit;
   classes_fit = s.classes_fit;
   whole = s.whole;
   few = s.few;
-  held = s.held;
+  held = held s.held;
   phase = s.phase;
   index = within;
-  hands = hands;
-  made = made;
+  hands = let h = s.hands in omega arith;
+  made = let m = s.made in omega arith;
   under_way = rw idle tt;
   in_operation = rw idle tt;
 }

@@ -19,7 +19,9 @@ pub(crate) fn first_asking(
     requires fit { All (VarsFit (length vars.old.items)) program.now }
     requires few { length program.now ≤ 100000 }
     requires end { end ≤ length program.now }
+    requires index { index ≤ length program.now }
     ensures from { index ≤ result }
+    ensures within { result ≤ length program.now }
     ensures count { length vars.new.items ≡ length vars.old.items }
     ensures held { (slots : ℕ) → All (HeldFits slots) vars.old.items → All (HeldFits slots) vars.new.items }
     ensures asks { result < end → AsksAt program.now vars.new.items result }

@@ -57,16 +57,22 @@ fn have_no_fields(classes: &[ClassShape]) -> bool
     classes.iter().all(|class| class.fields.is_empty())
 }
 
+fn are_greatest(caps: Caps) -> bool
+    ensures { IsTrue result ↔ ((caps.strong ≡ 1073741823) × (caps.unowned ≡ 2147483647) × (caps.wide ≡ 4294967295)) }
+{
+    caps.strong() == 1_073_741_823 && caps.unowned() == 2_147_483_647 && caps.wide() == u32::MAX
+}
+
 /// Whether the script is one of those that are served so far: threads with strong variables and the operations `new`, `copy`, `move`
 /// and `drop`, in any phases and by any schedule; classes without fields, no globals and the greatest caps.
 pub fn is_served(script: &Script) -> bool
     ensures { IsTrue result ↔ IsServed script.now }
 {
-    let shape = &script.shape;
-    let caps = shape.caps();
-    let greatest = caps.strong() == 1_073_741_823
-        && caps.unowned() == 2_147_483_647
-        && caps.wide() == u32::MAX;
-    let plain = have_no_fields(shape.classes()) && script.globals.is_empty();
-    greatest && plain && are_served_threads(script.threads.as_slice())
+    if !are_greatest(script.shape.caps()) {
+        return false;
+    }
+    if !have_no_fields(script.shape.classes()) {
+        return false;
+    }
+    script.globals.is_empty() && are_served_threads(script.threads.as_slice())
 }

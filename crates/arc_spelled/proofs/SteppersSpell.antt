@@ -1,5 +1,5 @@
 -- A thread's stepper begins with no note, and its notes spell the thread's program where it has ended.
-use Rattle.std.proofs.Common.{◌≡◌, ℕ, zero, suc, ◌-◌, ◌<◌, ◌≤◌, Bool, true, false, cond, eqb, List, [], ◌∷◌, ◌++◌, length, replicate, take, Option, Some, None, refl, sym, ap, subst, ◌∙◌, arith}
+use Rattle.std.proofs.Common.{◌≡◌, ℕ, zero, suc, ◌-◌, ◌<◌, ◌≤◌, Bool, true, false, cond, eqb, List, [], ◌∷◌, ◌++◌, length, replicate, take, Option, Some, None, refl, ap, subst, ◌∙◌, arith}
 use Rattle.std.proofs.Math.Seq.{take-nil}
 use Rattle.std.proofs.lemmas.Bool.{eqb-true}
 use Rattle.std.proofs.lemmas.List.{take_all}
@@ -47,13 +47,13 @@ use Rattle.arc_spelled.proofs.StepperKeeps.{stepper_goes_on}
 
 -- ---- what a script's thread works on is served
 
+both-served : (front back : List Op) → AllByRecursion IsServedOp front → AllByRecursion IsServedOp back → AllByRecursion IsServedOp (front ++ back)
+both-served [] back f b = b
+both-served (o ∷ front) back f b = (f.0, both-served front back f.1 b)
+
 phases-served : (phases : List (List Op)) → AllByRecursion (All IsServedOp) phases → AllByRecursion IsServedOp (flat_map (λ ops. ops) phases)
 phases-served [] h = tt
-phases-served (ops ∷ rest) h = both ops (recursion_from_All IsServedOp ops h.0)
-  where
-    both : (front : List Op) → AllByRecursion IsServedOp front → AllByRecursion IsServedOp (front ++ flat_map (λ ops. ops) rest)
-    both [] f = phases-served rest h.1
-    both (o ∷ front) f = (f.0, both front f.1)
+phases-served (ops ∷ rest) h = both-served ops (flat_map (λ ops. ops) rest) (recursion_from_All IsServedOp ops h.0) (phases-served rest h.1)
 
 thread-served : (ts : List ThreadDecl) (i : ℕ) → AllByRecursion IsServedThread ts → AllByRecursion IsServedOp (flat_map (λ ops. ops) (phases_in (slice_get ts i)))
 thread-served [] i h = tt

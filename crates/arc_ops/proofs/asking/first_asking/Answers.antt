@@ -6,6 +6,7 @@ use Rattle.arc_ops.proofs.asking.first_asking.Goals as goal
 pub loop-at-preserved : goal.loop-at-preserved
 loop-at-preserved c = record {
   from = let from = c.loop-at.invariant.from in omega arith;
+  within = let below = c.loop-at-test.true in let most = c.requires.end in omega arith;
   count = c.do_at_once-answer.ensures.count ∙ c.loop-at.invariant.count;
   held = λ slots fits. c.do_at_once-answer.ensures.held slots (c.loop-at.invariant.held slots fits);
   same = λ t program_is end_is.
