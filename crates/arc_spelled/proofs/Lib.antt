@@ -1,4 +1,0 @@
-pub mod CascadeKeeps
-pub mod StepperSteps
-pub mod StepperKeeps
-pub mod SteppersSpell

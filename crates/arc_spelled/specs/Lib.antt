@@ -1,4 +1,0 @@
-pub mod Shown
-pub mod CascadeStands
-pub mod StepperStands
-pub mod Spelled
