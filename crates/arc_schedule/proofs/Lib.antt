@@ -1,6 +1,7 @@
 pub mod Stands
 pub mod Begins
-pub mod Keeps
 pub mod Tells
+pub mod Keeps
+pub mod Calm
 pub mod Runs
 pub mod Worked
