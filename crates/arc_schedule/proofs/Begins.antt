@@ -31,7 +31,7 @@ use Rattle.arc_schedule.specs.Operations.{State, Holding, Variables, strong_to, 
 use Rattle.arc_schedule.specs.Operations.Drops.{nothing as drops_nothing}
 use Rattle.arc_schedule.specs.Operations.Does.{copies_nil, moves as does_move, moves_nil, drops as does_drop}
 use Rattle.arc_schedule.specs.Operations as operations
-use Rattle.arc_schedule.specs.Threads.{point_of, OpsDone, PhasesDone, ScopeEnds}
+use Rattle.arc_schedule.specs.Threads.{point_of, OpsDone, ScopeEnds}
 use Rattle.arc_schedule.specs.Threads.OpsDone.{none as ops_none, one as ops_one}
 use Rattle.arc_schedule.specs.Threads.PhasesDone.{one as phases_one}
 use Rattle.arc_schedule.specs.Threads.ScopeEnds.{none as scope_none, one as scope_one}

@@ -9,7 +9,6 @@ use Rattle.arc_rule.proofs.Places.{place_at-number}
 use Rattle.arc_rule.specs.Extents.{Extent}
 use Rattle.arc_rule.specs.Isa.{isa_word_of}
 use Rattle.arc_rule.specs.Places.{number, place_at, extent_of}
-use Rattle.arc_rule.specs.declared.layout.Place.{Place}
 use Rattle.arc_rule.specs.declared.layout.Place.TheVariants.{Count, Isa, Next as NextPlace}
 use Rattle.arc_rule.specs.declared.plan.Next.TheVariants as nexts
 use Rattle.arc_rule.specs.declared.step.Changed.{Changed}

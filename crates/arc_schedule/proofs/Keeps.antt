@@ -44,7 +44,6 @@ use Rattle.arc_cells.specs.declared.cascade.At.{At as CascadeAt}
 use Rattle.arc_cells.specs.declared.cascade.At.TheVariants as at
 use Rattle.arc_cells.specs.declared.cascade.CascadeNext.{CascadeNext}
 use Rattle.arc_cells.specs.Cascades.{HasNoFields, CascadeState, IsInline, IsInlineAt, IsInlineAnswer, cascade_turned, cascade_answer, cascade_takes, finish_from, vacate_from, finish_turned, finish_says, vacated, vacate_says, turned_at as cascade_turned_at, answer_at as cascade_answer_at, takes_at as cascade_takes_at}
-use Rattle.arc_script.specs.declared.script.Op.{Op}
 use Rattle.arc_script.specs.declared.script.Op.TheVariants as op
 use Rattle.arc_ops.specs.declared.stepper.Held.{Held}
 use Rattle.arc_ops.specs.declared.stepper.Doing.{Doing}
@@ -56,12 +55,12 @@ use Rattle.arc_schedule.specs.Made.{Point, Made, made_at}
 use Rattle.arc_schedule.specs.Plans.{Plan, Reaches, Gives, new_object, strong_up, strong_down, finish, vacate, making_tells, told_by, up_told, down_told, finish_told, vacate_told}
 use Rattle.arc_schedule.specs.Plans.Reaches.{starts as reaches_start, makes as reaches_next}
 use Rattle.arc_schedule.specs.Plans.Starts.{first as starts_first}
-use Rattle.arc_schedule.specs.Operations.{State, Variables, next_name, Drops, loads, FieldsDone}
+use Rattle.arc_schedule.specs.Operations.{Variables, next_name, loads, FieldsDone}
 use Rattle.arc_schedule.specs.Operations.FieldsDone.{entered}
 use Rattle.arc_schedule.specs.Operations.IsCascade.{more as cascade_more, last as cascade_last}
 use Rattle.arc_schedule.specs.Operations.Drops.{more as drops_more, last as drops_last}
 use Rattle.arc_schedule.specs.Operations.Does.{makes as does_make, full as does_full, copies as does_copy}
-use Rattle.arc_schedule.proofs.Stands.{Gave, waits, begun-from, some-is, given, gives, starts-again, Waits, Task, Job, start_of, state_of, AreDone, here, MadeUpTo, IsMaking, IsCopying, IsDropping, AllDone, IsFinishing, IsVacating, CascadeUpTo, IsDying, step_in, UpTo, WorksAt, AreIn, IsIn, Stands}
+use Rattle.arc_schedule.proofs.Stands.{Gave, waits, begun-from, some-is, given, gives, starts-again, Waits, Task, Job, state_of, here, MadeUpTo, IsMaking, IsCopying, IsDropping, AllDone, IsFinishing, IsVacating, CascadeUpTo, IsDying, step_in, UpTo, WorksAt, AreIn, IsIn, Stands}
 use Rattle.arc_schedule.proofs.Begins.{value-ref, put-ref, over-done, op-done, drop-asks, rest-is, begins, goes-on, replaces}
 use Rattle.arc_schedule.proofs.Tells.{idle, makes-tells, copies-tells, drops-tells, finish-tells, vacates-tells}
 

@@ -3,5 +3,7 @@ pub mod Begins
 pub mod Tells
 pub mod Keeps
 pub mod Calm
+pub mod Ahead
+pub mod Follows
 pub mod Runs
 pub mod Worked

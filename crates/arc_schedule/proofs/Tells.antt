@@ -1,5 +1,5 @@
 -- The event that a stepper tells is that of the plan under way and of the word that its step found.
-use Rattle.std.proofs.Common.{◌≡◌, ℕ, ◌+◌, Bool, true, false, cond, eqb, ltb, List, [], ◌∷◌, take, drop, length, Option, Some, None, refl, sym, ap, ◌∙◌}
+use Rattle.std.proofs.Common.{◌≡◌, ℕ, ◌+◌, Bool, true, false, cond, eqb, ltb, List, [], ◌∷◌, take, drop, length, Option, Some, None, refl}
 use Rattle.std.specs.Prelude.{position}
 use Rattle.arc_model.specs.declared.answer.Answer.TheVariants as answers
 use Rattle.arc_model.specs.declared.event.ObjectName.{ObjectName}
