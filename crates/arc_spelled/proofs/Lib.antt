@@ -1,0 +1,4 @@
+pub mod CascadeKeeps
+pub mod StepperSteps
+pub mod StepperKeeps
+pub mod SteppersSpell

@@ -1,0 +1,562 @@
+-- The steps of a stepper over its notes: an operation begins, a reference is dropped, the scope ends.
+use Rattle.std.proofs.Common.{◌≡◌, ◌≢◌, ℕ, zero, suc, ◌+◌, ◌<◌, ◌≤◌, Bool, true, false, not, cond, ltb, List, [], ◌∷◌, ◌++◌, length, take, drop, set, get_or, Option, Some, None, ◌⊎◌, inl, inr, refl, sym, ap, subst, ◌∙◌, arith, add-one}
+use Rattle.std.proofs.lemmas.Bool.{ltb-true, ltb-false, lt-ltb, cases_lt}
+use Rattle.std.proofs.Math.ListN.{get_or-map}
+use Rattle.std.proofs.lemmas.List.{map-set, set-get_or, length-set, length-append, length-map, length-take, length-take-le, take_all, take-append-le, reverse-append, get_or-set_same, get_or-set_other, drop_all}
+use Rattle.std.proofs.lemmas.List.Elements.{All-get_or}
+use Rattle.std.proofs.lemmas.List.Quantifiers.{position-Some}
+use Rattle.std.proofs.lemmas.List.Sums.{prefix_len_passes}
+use Rattle.std.proofs.lemmas.Option.{slice_get_within, get_or_from_slice_get}
+use Rattle.std.specs.Prelude.{slice_get, position, flat_map}
+use Rattle.std.specs.List.{prefix_len}
+use Rattle.arc_model.specs.declared.answer.Answer.{Answer}
+use Rattle.arc_model.specs.declared.answer.Answer.TheVariants as answers
+use Rattle.arc_model.specs.declared.event.Act.{Act}
+use Rattle.arc_model.specs.declared.shape.Kind.TheVariants.{Strong}
+use Rattle.arc_model.specs.Spelling.{Note, acts_of, IsDrop}
+use Rattle.arc_model.specs.Spelling.Note.{Line, Operation}
+use Rattle.arc_rule.specs.Extents.{Extent}
+use Rattle.arc_rule.specs.declared.step.Step.{Step}
+use Rattle.arc_script.specs.declared.answer.Line.{Line as Told}
+use Rattle.arc_script.specs.declared.script.Op.{Op}
+use Rattle.arc_script.specs.declared.script.Op.TheVariants as op
+use Rattle.arc_programs.specs.Variables.{Variables, put as put_var}
+use Rattle.arc_programs.specs.Variables as programs
+use Rattle.arc_programs.specs.Programs.{IsFromNil, IsAnswered, ScopeEnds}
+use Rattle.arc_programs.specs.Programs.IsFromNil.{copy as copy_from_nil, move as move_from_nil}
+use Rattle.arc_programs.specs.Programs.IsAnswered.{from_nil as takes_nil, moved as moves_held}
+use Rattle.arc_programs.specs.Programs.ScopeEnds.{begins as scope_starts, dropped as var_dropped}
+use Rattle.arc_programs.specs.ProgramsLines.{lines_of, number_of, told}
+use Rattle.arc_programs.proofs.ProgramsSteps.{IsNext, answers_last, drops_last, drop_of, drop_of_nil, scope_goes_on}
+use Rattle.arc_ops.specs.declared.stepper.Held.{Held}
+use Rattle.arc_ops.specs.declared.stepper.Doing.TheVariants.{Ready, Ended}
+use Rattle.arc_ops.specs.declared.stepper.Move.TheVariants as moves
+use Rattle.arc_ops.specs.Kept.{Kept, with_line}
+use Rattle.arc_ops.specs.Programs.{ops_in_first}
+use Rattle.arc_ops.proofs.Counts.{first_few, first_all}
+use Rattle.arc_ops.specs.Served.{IsServedOp}
+use Rattle.arc_ops.specs.Thread.{Thread, value, is_held, put, set_var, skipped, drop_begun, begun_nil, begun_copy, moved, begun_move, begun_drop, phase_over, begun_at, begun, scope_drop, scope_at, scope_begun, next_op, replaced_old, replaced}
+use Rattle.arc_ops.specs.Thread as thread
+use Rattle.arc_spelled.specs.Shown.{ReadsName, FindsNoEntry, Says, Adds, with_act, with_event}
+use Rattle.arc_spelled.specs.Shown.ReadsName.{nothing as read_nothing, name as read_name}
+use Rattle.arc_spelled.specs.Shown.FindsNoEntry.{nothing as found_nothing, no_entry}
+use Rattle.arc_spelled.specs.Shown.Says.{nothing, line, operation}
+use Rattle.arc_spelled.specs.StepperStands.{Work, IsServedWork, strong_held, held_in, variables, AreDone, IsInScope, IsOverIf, IsOver, DropEnds, WorksOn, first_lines, IsCounted, number_at, IsOfPhaseIf, IsOfPhase, StandsFor}
+
+-- ---- variables
+
+pub value-held : (vars : List (Option Held)) (v : ℕ) (o : Option Held) → value vars v ≡ o → programs.value (variables vars) v ≡ held_in o
+value-held vars v o e = get_or-map held_in vars v None ∙ ap held_in e
+
+pub put-held : (vars : List (Option Held)) (v : ℕ) (new : Option Held) → variables (set vars v new) ≡ put_var (variables vars) v (held_in new)
+put-held vars v new = map-set held_in vars v new
+
+-- a variable that is nil stays as it is
+put-nil : (vars : Variables) (v : ℕ) → programs.value vars v ≡ None → put_var vars v None ≡ vars
+put-nil vars v e = ap (λ (o : Option programs.Held). set vars v o) (sym e) ∙ set-get_or vars v None
+
+none-held : (vars : List (Option Held)) → position is_held vars ≡ None → (v : ℕ) → v < length vars → value vars v ≡ None
+none-held vars e v within = go (ltb (prefix_len (λ x. not (is_held x)) vars) (length vars)) refl e
+  where
+    past : length vars ≤ prefix_len (λ x. not (is_held x)) vars → value vars v ≡ None
+    past most = nil (value vars v) (prefix_len_passes (λ x. not (is_held x)) vars v None (omega arith))
+      where
+        nil : (o : Option Held) → not (is_held o) ≡ true → o ≡ None
+        nil None t = refl
+        nil (Some h) t = absurd (cc)
+
+    go : (b : Bool) → ltb (prefix_len (λ x. not (is_held x)) vars) (length vars) ≡ b → cond b (Some (prefix_len (λ x. not (is_held x)) vars)) None ≡ None → value vars v ≡ None
+    go true f e = absurd (cc)
+    go false f e = past (ltb-false (prefix_len (λ x. not (is_held x)) vars) (length vars) f)
+
+not-held : (o : Option Held) → is_held o ≡ false → o ≡ None
+not-held None e = refl
+not-held (Some h) e = absurd (cc)
+
+-- ---- lines
+
+keep-line : (room : ℕ) (xs : List Told) (x : Told) → cond (ltb (length (take room xs)) room) (take room xs ++ x ∷ []) (take room xs) ≡ take room (xs ++ x ∷ [])
+keep-line room xs x = go (cases_lt (length xs) room)
+  where
+    go : (length xs < room) ⊎ (room ≤ length xs) → cond (ltb (length (take room xs)) room) (take room xs ++ x ∷ []) (take room xs) ≡ take room (xs ++ x ∷ [])
+    go (inl below) =
+        let all : take room xs ≡ xs = take_all room xs (omega arith) in
+        let more : take room (xs ++ x ∷ []) ≡ xs ++ x ∷ [] = take_all room (xs ++ x ∷ []) (omega (arith, length-append xs (x ∷ []))) in
+        rw (all, more, lt-ltb (length xs) room below) refl
+    go (inr full) =
+        let same : take room (xs ++ x ∷ []) ≡ take room xs = take-append-le room xs (x ∷ []) full in
+        let long : length (take room xs) ≡ room = length-take-le room xs full in
+        rw (same, long) (at (ltb room room) refl)
+      where
+        at : (b : Bool) → ltb room room ≡ b → cond b (take room xs ++ x ∷ []) (take room xs) ≡ take room xs
+        at true e = let below = ltb-true room room e in absurd (omega arith)
+        at false e = refl
+
+line-kept : (room n : ℕ) (a : Answer) (now : List Note) → n ≡ number_of now → with_line (record { operation = n; answer = a }) (first_lines room now) ≡ first_lines room (Line a ∷ now)
+line-kept room n a now e =
+    let kept_as : List Told → Kept = λ (ls : List Told). record { lines = ls; room = room } in
+    let x : Told = record { operation = number_of now; answer = a } in
+    rw e (ap kept_as (keep-line room (told now) x ∙ ap (λ (ls : List Told). take room ls) (sym (reverse-append (x ∷ []) (lines_of now)))))
+
+pub counted-line : (w : Work) (hands made : ℕ) (kept : Kept) (n : ℕ) (a : Answer) (now : List Note) → n ≡ number_of now → IsCounted w hands made kept now →
+    IsCounted w hands made (with_line (record { operation = n; answer = a }) kept) (Line a ∷ now)
+counted-line w hands made kept n a now e c = record {
+  hands_are = c.hands_are;
+  made_is = c.made_is;
+  lines_are = ap (λ (k : Kept). with_line (record { operation = n; answer = a }) k) c.lines_are ∙ line-kept w.room n a now e;
+}
+
+pub counted-operation : (w : Work) (hands made : ℕ) (kept : Kept) (n : ℕ) (now : List Note) → IsCounted w hands made kept now → IsCounted w hands made kept (Operation n ∷ now)
+counted-operation w hands made kept n now c = record { hands_are = c.hands_are; made_is = c.made_is; lines_are = c.lines_are }
+
+-- the line of an operation that is done at once
+skipped-line : (w : Work) (t : Thread) (a : Answer) (now : List Note) → IsCounted w t.hands t.made t.kept (Operation (t.index + 1) ∷ now) →
+    IsCounted w t.hands t.made (with_line (record { operation = t.index + 1; answer = a }) t.kept) (Line a ∷ Operation (t.index + 1) ∷ now)
+skipped-line w t a now c = counted-line w t.hands t.made t.kept (t.index + 1) a (Operation (t.index + 1) ∷ now) refl c
+
+-- the number that the stepper gives a line is that of the notes
+pub number-here : (w : Work) (t : Thread) (now : List Note) → WorksOn w t.layout t.shape t.thread t.phases t.program → number_of now ≡ number_at w t.index → thread.number_of t ≡ number_of now
+number-here w t now works e = ap (λ (p : List Op). cond (ltb t.index (length p)) (t.index + 1) 0) works.program_is ∙ sym e
+
+-- ---- notes that are added
+
+pub says-on : {a b c : List Note} → Says a b → Says b c → Says a c
+says-on s nothing = s
+says-on s (line r) = line (says-on s r)
+says-on s (operation r) = operation (says-on s r)
+
+acts-said : {b ns : List Note} → Says b ns → acts_of ns ≡ acts_of b
+acts-said nothing = refl
+acts-said (line r) = acts-said r
+acts-said (operation r) = acts-said r
+
+acts-with : (e : Option Act) (ns : List Note) → acts_of (with_act e ns) ≡ with_event e (acts_of ns)
+acts-with None ns = refl
+acts-with (Some a) ns = refl
+
+acts-read : {layout : Extent} {asked : Option Step} {last : Option ℕ} {b ns : List Note} → ReadsName layout asked last b ns → acts_of ns ≡ acts_of b
+acts-read read_nothing = refl
+acts-read (read_name a l) = refl
+
+acts-found : {layout : Extent} {asked : Option Step} {last : Option ℕ} {e : Option Act} {b ns : List Note} → FindsNoEntry layout asked last e b ns → acts_of ns ≡ acts_of b
+acts-found found_nothing = refl
+acts-found (no_entry a l w c) = refl
+
+-- the event that is told is the newest of the events
+pub acts-added : {layout : Extent} {asked : Option Step} {last : Option ℕ} {b ns : List Note} (e : Option Act) → Adds layout asked last e b ns → acts_of ns ≡ with_event e (acts_of b)
+acts-added e a =
+    acts-said a.says ∙ acts-found a.shows.finds ∙ acts-with e a.shows.read ∙ ap (λ (acts : List Act). with_event e acts) (acts-read a.shows.reads)
+
+-- a stepper that has come to its place, behind lines and beginnings of operations
+pub record Comes (w : Work) (t : Thread) (e : Option Act) (now : List Note) : Type 0 where
+  pub after : List Note
+  pub says : Says now after
+  pub event : t.event ≡ e
+  pub stands : StandsFor w t after
+
+pub comes-after : (w : Work) (t : Thread) (e : Option Act) (b now : List Note) → Says b now → Comes w t e now → Comes w t e b
+comes-after w t e b now s c = record { after = c.after; says = says-on s c.says; event = c.event; stands = c.stands }
+
+-- ---- operations
+
+pub number-within : (w : Work) (i : ℕ) → i < length w.program → number_at w i ≡ i + 1
+number-within w i within = rw (lt-ltb i (length w.program) within) refl
+
+pub over-done : (w : Work) (i : ℕ) (vars : List (Option Held)) (now : List Note) → i < length w.program → AreDone w (i + 1) vars now → IsOver w i vars now
+over-done w i vars now within d = rw (lt-ltb i (length w.program) within) d
+
+served-at : (w : Work) (i : ℕ) (o : Op) → IsServedWork w → slice_get w.program i ≡ Some o → IsServedOp o
+served-at w i o served there = subst IsServedOp (get_or_from_slice_get w.program i o o there) (All-get_or IsServedOp w.program i o (slice_get_within w.program i o there) served.ops)
+
+get-drop_suc : {X : Type 0} (xs rest : List X) (i : ℕ) (x : X) → x ∷ rest ≡ drop i xs → (slice_get xs i ≡ Some x) × (rest ≡ drop (suc i) xs)
+get-drop_suc [] rest zero x e = absurd (cc)
+get-drop_suc [] rest (suc i) x e = absurd (cc)
+get-drop_suc (y ∷ xs) rest zero x e = (cc, cc)
+get-drop_suc (y ∷ xs) rest (suc i) x e = get-drop_suc xs rest i x e
+
+get-drop : {X : Type 0} (xs rest : List X) (i : ℕ) (x : X) → x ∷ rest ≡ drop i xs → (slice_get xs i ≡ Some x) × (rest ≡ drop (i + 1) xs)
+get-drop xs rest i x e = rw add-one (get-drop_suc xs rest i x e)
+
+nothing-left : {X : Type 0} (xs : List X) (i : ℕ) → [] ≡ drop i xs → length xs ≤ i
+nothing-left [] i e = omega arith
+nothing-left (y ∷ xs) zero e = absurd (cc)
+nothing-left (y ∷ xs) (suc i) e = let h = nothing-left xs i e in omega arith
+
+-- a drop begins
+pub drop-asks : (w : Work) (t : Thread) (held : Held) (now : List Note) → WorksOn w t.layout t.shape t.thread t.phases t.program → IsCounted w t.hands t.made t.kept now → number_of now ≡ number_at w t.index →
+    IsOfPhase w t.phase t.index → DropEnds w t.index held t.vars now → StandsFor w (drop_begun held t) now
+drop-asks w t held now works counts number phase ends = record { works = works; in_phase = phase; counts = counts; number = number; asks = tt; up_to = ends }
+
+-- ---- the end of the scope
+
+scopes : (w : Work) (t : Thread) (now : List Note) → WorksOn w t.layout t.shape t.thread t.phases t.program → IsCounted w t.hands t.made t.kept now → ltb t.index (length w.program) ≡ false → number_of now ≡ 0 →
+    length w.phases ≤ t.phase + 1 → IsInScope w t.vars now → Comes w (scope_begun t) t.event now
+scopes w t now works counts past number last s = go (position is_held t.vars) refl
+  where
+    number_is : number_of now ≡ number_at w t.index
+    number_is = rw past number
+
+    held : (v : ℕ) (h : Held) → value t.vars v ≡ Some h → v < length t.vars → ((u : ℕ) → u < v → is_held (value t.vars u) ≡ false) → Comes w (drop_begun h (set_var v None t)) t.event now
+    held v h e within before = record { after = now; says = nothing; event = refl; stands = drop-asks w (set_var v None t) h now works counts number_is (rw past last) (λ after x. rw past (over after x)) }
+      where
+        above : s.below ≤ v
+        above = at (cases_lt v s.below)
+          where
+            at : (v < s.below) ⊎ (s.below ≤ v) → s.below ≤ v
+            at (inl below) = let n = s.nils v below in absurd (cc)
+            at (inr most) = most
+
+        others : (u : ℕ) → u < v → value t.vars u ≡ None
+        others u below = not-held (value t.vars u) (before u below)
+
+        nils : (u : ℕ) → u < v + 1 → value (set t.vars v None) u ≡ None
+        nils u below = at (cases_lt u v)
+          where
+            at : (u < v) ⊎ (v ≤ u) → value (set t.vars v None) u ≡ None
+            at (inl lower) = let differ : u ≢ v = λ e. (let same : u ≡ v = e in omega arith) in get_or-set_other t.vars v u None None differ ∙ others u lower
+            at (inr upper) = let same : u ≡ v = omega arith in rw same (get_or-set_same t.vars v None None within)
+
+        over : (after : List Note) → IsDrop w.shape Strong h.place h.hand now after → IsInScope w (set t.vars v None) after
+        over after x =
+            let many : length (set t.vars v None) ≡ length t.vars = length-set t.vars v None in
+            let all : length (variables t.vars) ≡ length t.vars = length-map t.vars held_in in
+            let within_held : v < length (variables t.vars) = omega arith in
+            let here : ScopeEnds w.shape s.first v (variables t.vars) s.worked now = scope_goes_on s.ends v above (omega arith) (λ u from below. value-held t.vars u None (others u below)) in
+            record {
+              first = s.first;
+              worked = s.worked;
+              ops = s.ops;
+              same_count = s.same_count ∙ sym many;
+              below = v + 1;
+              within = omega arith;
+              ends = var_dropped here within_held (value-held t.vars v (Some h) e) refl (put-held t.vars v None) x;
+              nils = nils;
+            }
+
+    go : (o : Option ℕ) → position is_held t.vars ≡ o → Comes w (scope_at o t) t.event now
+    go None e =
+        let all : length (variables t.vars) ≡ length t.vars = length-map t.vars held_in in
+        record {
+          after = now;
+          says = nothing;
+          event = refl;
+          stands = record {
+            works = works;
+            in_phase = tt;
+            counts = counts;
+            number = tt;
+            asks = refl;
+            up_to = record {
+              vars = s.first;
+              worked = s.worked;
+              ops = s.ops;
+              left = variables t.vars;
+              scope = rw s.same_count (scope_goes_on s.ends (length t.vars) s.within (omega arith) (λ u from below. value-held t.vars u None (none-held t.vars e u below)));
+            };
+          };
+        }
+    go (Some v) e = at (value t.vars v) refl found.1
+      where
+        found : (v < length t.vars) × (is_held (get_or t.vars v None) ≡ true) × ((k : ℕ) → k < v → is_held (get_or t.vars k None) ≡ false)
+        found = position-Some is_held t.vars v None e
+
+        at : (o : Option Held) → value t.vars v ≡ o → is_held o ≡ true → Comes w (scope_drop v o t) t.event now
+        at None f g = absurd (cc)
+        at (Some h) f g = held v h f found.0 found.2
+
+-- ---- the operations of a phase
+
+get-take : {X : Type 0} (n : ℕ) (xs : List X) (i : ℕ) (x : X) → slice_get (take n xs) i ≡ Some x → (slice_get xs i ≡ Some x) × (i < n)
+get-take zero xs i x e = absurd (cc)
+get-take (suc n) [] i x e = absurd (cc)
+get-take (suc n) (y ∷ xs) zero x e = (e, omega arith)
+get-take (suc n) (y ∷ xs) (suc i) x e = let h = get-take n xs i x e in (h.0, omega arith)
+
+-- the operation at this place of the phase that is under way, and the rest of the phase behind it
+record IsHere (w : Work) (t : Thread) (o : Op) (rest : List Op) : Type 0 where
+  there : slice_get w.program t.index ≡ Some o
+  within : t.index < length w.program
+  in_phase : IsOfPhase w t.phase t.index
+  before_end : t.index + 1 ≤ ops_in_first (t.phase + 1) w.phases
+  behind : rest ≡ drop (t.index + 1) (take (ops_in_first (t.phase + 1) w.phases) w.program)
+
+is-here : (w : Work) (t : Thread) (o : Op) (rest : List Op) → o ∷ rest ≡ drop t.index (take (ops_in_first (t.phase + 1) w.phases) w.program) → IsHere w t o rest
+is-here w t o rest r =
+    let g = get-drop (take (ops_in_first (t.phase + 1) w.phases) w.program) rest t.index o r in
+    let here = get-take (ops_in_first (t.phase + 1) w.phases) w.program t.index o g.0 in
+    let below = slice_get_within w.program t.index o here.0 in
+    record { there = here.0; within = below; in_phase = rw (lt-ltb t.index (length w.program) below) here.1; before_end = let h = here.1 in omega arith; behind = g.1 }
+
+-- the operations of the phase are done: it waits for the next phase, or the scope ends
+ends-phase : (w : Work) → IsServedWork w → (t : Thread) (now : List Note) → WorksOn w t.layout t.shape t.thread t.phases t.program → IsCounted w t.hands t.made t.kept now →
+    [] ≡ drop t.index (take (ops_in_first (t.phase + 1) w.phases) w.program) → t.index ≤ ops_in_first (t.phase + 1) w.phases → AreDone w t.index t.vars now → Comes w (phase_over t) t.event now
+ends-phase w served t now works counts r before d = subst P (sym works.phases_is) (go (ltb (t.phase + 1) (length w.phases)) refl)
+  where
+    P : List (List Op) → Type 0
+    P phases = Comes w (cond (ltb (t.phase + 1) (length phases)) (record t { doing = Ready; asked = moves.PhaseEnd; phase = t.phase + 1 }) (scope_begun t)) t.event now
+
+    total : length w.program ≡ length (flat_map (λ ops. ops) w.phases)
+    total = ap length served.whole
+
+    at_end : t.index ≡ ops_in_first (t.phase + 1) w.phases
+    at_end =
+        let most = nothing-left (take (ops_in_first (t.phase + 1) w.phases) w.program) t.index r in
+        let few = first_few (t.phase + 1) w.phases in
+        let all = total in
+        let long : length (take (ops_in_first (t.phase + 1) w.phases) w.program) ≡ ops_in_first (t.phase + 1) w.phases = length-take-le (ops_in_first (t.phase + 1) w.phases) w.program (omega arith) in
+        omega arith
+
+    ending : length w.phases ≤ t.phase + 1 → Comes w (scope_begun t) t.event now
+    ending last = comes-after w (scope_begun t) t.event now (Operation 0 ∷ now) (operation nothing)
+        (scopes w t (Operation 0 ∷ now) works (counted-operation w t.hands t.made t.kept 0 now counts) (past (ltb t.index (length w.program)) refl) refl last (record {
+          first = variables t.vars;
+          worked = now;
+          ops = rw (← over) d;
+          same_count = length-map t.vars held_in;
+          below = 0;
+          within = omega arith;
+          ends = scope_starts;
+          nils = λ v below. absurd (omega arith);
+        }))
+      where
+        over : t.index ≡ length w.program
+        over = at_end ∙ first_all (t.phase + 1) w.phases last ∙ sym total
+
+        past : (b : Bool) → ltb t.index (length w.program) ≡ b → ltb t.index (length w.program) ≡ false
+        past true e = let below = ltb-true t.index (length w.program) e in let same = over in absurd (omega arith)
+        past false e = e
+
+    go : (b : Bool) → ltb (t.phase + 1) (length w.phases) ≡ b → Comes w (cond b (record t { doing = Ready; asked = moves.PhaseEnd; phase = t.phase + 1 }) (scope_begun t)) t.event now
+    go true e = record {
+      after = now;
+      says = nothing;
+      event = refl;
+      stands = record { works = works; in_phase = at_end; counts = counts; number = tt; asks = refl; up_to = d };
+    }
+    go false e = ending (ltb-false (t.phase + 1) (length w.phases) e)
+
+-- an operation that is next, with what every operation needs
+record Opens (w : Work) (t : Thread) (now : List Note) (o : Op) : Type 0 where
+  next : IsNext w.shape w.thread w.came w.program w.count t.index o (variables t.vars) now
+  number : number_of (Operation (t.index + 1) ∷ now) ≡ number_at w t.index
+  opened : IsCounted w t.hands t.made t.kept (Operation (t.index + 1) ∷ now)
+
+opens : (w : Work) (t : Thread) (now : List Note) (o : Op) (rest : List Op) → IsHere w t o rest → IsCounted w t.hands t.made t.kept now → AreDone w t.index t.vars now → Opens w t now o
+opens w t now o rest here counts d = record {
+  next = record { done = d; there = here.there };
+  number = sym (number-within w t.index here.within);
+  opened = counted-operation w t.hands t.made t.kept (t.index + 1) now counts;
+}
+
+-- a nil reference is taken for a variable
+from-nil : (w : Work) (t : Thread) (now : List Note) (o : Op) (rest : List Op) (to : ℕ) (go : Thread → Thread) → WorksOn w t.layout t.shape t.thread t.phases t.program → IsHere w t o rest → Opens w t now o →
+    IsFromNil (variables t.vars) o to →
+    (AreDone w (t.index + 1) t.vars (Line answers.Nil ∷ Operation (t.index + 1) ∷ now) → Comes w (go (skipped answers.Nil t)) t.event (Line answers.Nil ∷ Operation (t.index + 1) ∷ now)) →
+    Comes w (begun_nil to (value t.vars to) t go) t.event now
+from-nil w t now o rest to go works here x nil skip = at (value t.vars to) refl
+  where
+    answered : (old : Option Held) → value t.vars to ≡ old →
+        IsAnswered w.thread w.came o (variables t.vars) (Operation (t.index + 1) ∷ now) (put_var (variables t.vars) to None) answers.Nil (held_in old) (Operation (t.index + 1) ∷ now)
+    answered old e = takes_nil nil (record { replaced = refl; old = sym (value-held t.vars to old e) }) refl
+
+    at : (old : Option Held) → value t.vars to ≡ old → Comes w (begun_nil to old t go) t.event now
+    at (Some old) e = record {
+      after = Line answers.Nil ∷ Operation (t.index + 1) ∷ now;
+      says = line (operation nothing);
+      event = refl;
+      stands = drop-asks w (set_var to None (put answers.Nil (record t { first = true }))) old (Line answers.Nil ∷ Operation (t.index + 1) ∷ now) works
+          (counted-line w t.hands t.made t.kept (thread.number_of t) answers.Nil (Operation (t.index + 1) ∷ now) (number-here w t (Operation (t.index + 1) ∷ now) works x.number) x.opened)
+          x.number here.in_phase
+          (λ after y. over-done w t.index (set t.vars to None) after here.within (rw (put-held t.vars to None) (drops_last x.next (answered (Some old) e) y)));
+    }
+    at None e =
+        let same : put_var (variables t.vars) to None ≡ variables t.vars = put-nil (variables t.vars) to (value-held t.vars to None e) in
+        comes-after w (go (skipped answers.Nil t)) t.event now (Line answers.Nil ∷ Operation (t.index + 1) ∷ now) (line (operation nothing)) (skip (rw same at (answers_last x.next (answered None e))))
+
+-- a reference is copied
+copying : (w : Work) (t : Thread) (now : List Note) (to from : ℕ) (rest : List Op) (go : Thread → Thread) → WorksOn w t.layout t.shape t.thread t.phases t.program → IsHere w t (op.Copy to from) rest →
+    Opens w t now (op.Copy to from) → AreDone w t.index t.vars now →
+    (AreDone w (t.index + 1) t.vars (Line answers.Nil ∷ Operation (t.index + 1) ∷ now) → Comes w (go (skipped answers.Nil t)) t.event (Line answers.Nil ∷ Operation (t.index + 1) ∷ now)) →
+    Comes w (begun_copy to (value t.vars from) (value t.vars to) t go) t.event now
+copying w t now to from rest go works here x d skip = at (value t.vars from) refl
+  where
+    at : (source : Option Held) → value t.vars from ≡ source → Comes w (begun_copy to source (value t.vars to) t go) t.event now
+    at (Some h) e = record {
+      after = Operation (t.index + 1) ∷ now;
+      says = operation nothing;
+      event = refl;
+      stands = record {
+        works = works;
+        in_phase = here.in_phase;
+        counts = x.opened;
+        number = x.number;
+        asks = tt;
+        up_to = record { from = from; begun = record { base = now; done = d; there = here.there; now_is = refl }; source = e };
+      };
+    }
+    at None e = from-nil w t now (op.Copy to from) rest to go works here x (copy_from_nil (value-held t.vars from None e)) skip
+
+-- a reference is moved
+moving : (w : Work) (t : Thread) (now : List Note) (to from : ℕ) (rest : List Op) (go : Thread → Thread) → WorksOn w t.layout t.shape t.thread t.phases t.program → IsHere w t (op.Move to from) rest →
+    Opens w t now (op.Move to from) →
+    (AreDone w (t.index + 1) t.vars (Line answers.Nil ∷ Operation (t.index + 1) ∷ now) → Comes w (go (skipped answers.Nil t)) t.event (Line answers.Nil ∷ Operation (t.index + 1) ∷ now)) →
+    ((held : Held) → AreDone w (t.index + 1) (set (set t.vars to (Some held)) from None) (Line answers.Ok ∷ Operation (t.index + 1) ∷ now) →
+    Comes w (go (moved to from held (skipped answers.Ok t))) t.event (Line answers.Ok ∷ Operation (t.index + 1) ∷ now)) →
+    Comes w (begun_move to from (value t.vars from) (value t.vars to) t go) t.event now
+moving w t now to from rest go works here x skip move = at (value t.vars from) refl
+  where
+    replaced_vars : (h : Held) → variables (set (set t.vars to (Some h)) from None) ≡ put_var (put_var (variables t.vars) to (Some (strong_held h))) from None
+    replaced_vars h = put-held (set t.vars to (Some h)) from None ∙ ap (λ vs. put_var vs from None) (put-held t.vars to (Some h))
+
+    answered : (h : Held) (old : Option Held) → value t.vars from ≡ Some h → value t.vars to ≡ old →
+        IsAnswered w.thread w.came (op.Move to from) (variables t.vars) (Operation (t.index + 1) ∷ now) (put_var (put_var (variables t.vars) to (Some (strong_held h))) from None) answers.Ok (held_in old)
+        (Operation (t.index + 1) ∷ now)
+    answered h old e f = moves_held (value-held t.vars from (Some h) e) (record { replaced = refl; old = sym (value-held t.vars to old f) }) refl refl
+
+    to_place : (h : Held) (old : Option Held) → value t.vars from ≡ Some h → value t.vars to ≡ old → Comes w (begun_move to from (Some h) old t go) t.event now
+    to_place h (Some old) e f = record {
+      after = Line answers.Ok ∷ Operation (t.index + 1) ∷ now;
+      says = line (operation nothing);
+      event = refl;
+      stands = drop-asks w (moved to from h (put answers.Ok (record t { first = true }))) old (Line answers.Ok ∷ Operation (t.index + 1) ∷ now) works
+          (counted-line w t.hands t.made t.kept (thread.number_of t) answers.Ok (Operation (t.index + 1) ∷ now) (number-here w t (Operation (t.index + 1) ∷ now) works x.number) x.opened)
+          x.number here.in_phase
+          (λ after y. over-done w t.index (set (set t.vars to (Some h)) from None) after here.within (rw (replaced_vars h) (drops_last x.next (answered h (Some old) e f) y)));
+    }
+    to_place h None e f =
+        comes-after w (go (moved to from h (skipped answers.Ok t))) t.event now (Line answers.Ok ∷ Operation (t.index + 1) ∷ now) (line (operation nothing))
+        (move h (rw (replaced_vars h) (answers_last x.next (answered h None e f))))
+
+    at : (source : Option Held) → value t.vars from ≡ source → Comes w (begun_move to from source (value t.vars to) t go) t.event now
+    at (Some h) e = to_place h (value t.vars to) e refl
+    at None e = from-nil w t now (op.Move to from) rest to go works here x (move_from_nil (value-held t.vars from None e)) skip
+
+-- a reference is dropped
+dropping : (w : Work) (t : Thread) (now : List Note) (v : ℕ) (rest : List Op) (go : Thread → Thread) → WorksOn w t.layout t.shape t.thread t.phases t.program → IsHere w t (op.Drop v) rest → Opens w t now (op.Drop v) →
+    (AreDone w (t.index + 1) t.vars (Line answers.Nil ∷ Operation (t.index + 1) ∷ now) → Comes w (go (skipped answers.Nil t)) t.event (Line answers.Nil ∷ Operation (t.index + 1) ∷ now)) →
+    Comes w (begun_drop v (value t.vars v) t go) t.event now
+dropping w t now v rest go works here x skip = at (value t.vars v) refl
+  where
+    at : (old : Option Held) → value t.vars v ≡ old → Comes w (begun_drop v old t go) t.event now
+    at (Some old) e = record {
+      after = Line answers.Ok ∷ Operation (t.index + 1) ∷ now;
+      says = line (operation nothing);
+      event = refl;
+      stands = drop-asks w (set_var v None (put answers.Ok (record t { first = true }))) old (Line answers.Ok ∷ Operation (t.index + 1) ∷ now) works
+          (counted-line w t.hands t.made t.kept (thread.number_of t) answers.Ok (Operation (t.index + 1) ∷ now) (number-here w t (Operation (t.index + 1) ∷ now) works x.number) x.opened)
+          x.number here.in_phase
+          (λ after y. over-done w t.index (set t.vars v None) after here.within
+          (rw (put-held t.vars v None) (drops_last x.next (drop_of w.thread v w.came (strong_held old) (variables t.vars) (Operation (t.index + 1) ∷ now) (value-held t.vars v (Some old) e)) y)));
+    }
+    at None e = comes-after w (go (skipped answers.Nil t)) t.event now (Line answers.Nil ∷ Operation (t.index + 1) ∷ now) (line (operation nothing))
+        (skip (answers_last x.next (drop_of_nil w.thread v w.came (variables t.vars) (Operation (t.index + 1) ∷ now) (value-held t.vars v None e))))
+
+-- the first operation of the rest of the phase that asks for a step begins, or the phase is over
+pub begins : (w : Work) → IsServedWork w → (rest : List Op) (t : Thread) (now : List Note) → WorksOn w t.layout t.shape t.thread t.phases t.program → IsCounted w t.hands t.made t.kept now →
+    rest ≡ drop t.index (take (ops_in_first (t.phase + 1) w.phases) w.program) → t.index ≤ ops_in_first (t.phase + 1) w.phases → AreDone w t.index t.vars now → Comes w (begun_at rest t) t.event now
+begins w served [] t now works counts r before d = ends-phase w served t now works counts r before d
+begins w served (op.New to class ∷ rest) t now works counts r before d =
+    let here = is-here w t (op.New to class) rest r in
+    record {
+      after = Operation (t.index + 1) ∷ now;
+      says = operation nothing;
+      event = refl;
+      stands = record {
+        works = works;
+        in_phase = here.in_phase;
+        counts = counted-operation w t.hands t.made t.kept (t.index + 1) now counts;
+        number = sym (number-within w t.index here.within);
+        asks = tt;
+        up_to = (
+          refl,
+          record {
+            begun = record { base = now; done = d; there = here.there; now_is = refl };
+            named = rw (works.thread_is, counts.made_is) refl;
+          },
+        );
+      };
+    }
+begins w served (op.Copy to from ∷ rest) t now works counts r before d =
+    let here = is-here w t (op.Copy to from) rest r in
+    let x = opens w t now (op.Copy to from) rest here counts d in
+    copying w t now to from rest (λ behind. begun_at rest behind) works here x d
+    (λ done. begins w served rest (skipped answers.Nil t) (Line answers.Nil ∷ Operation (t.index + 1) ∷ now) works (skipped-line w t answers.Nil now x.opened) here.behind here.before_end done)
+begins w served (op.Move to from ∷ rest) t now works counts r before d =
+    let here = is-here w t (op.Move to from) rest r in
+    let x = opens w t now (op.Move to from) rest here counts d in
+    moving w t now to from rest (λ behind. begun_at rest behind) works here x
+    (λ done. begins w served rest (skipped answers.Nil t) (Line answers.Nil ∷ Operation (t.index + 1) ∷ now) works (skipped-line w t answers.Nil now x.opened) here.behind here.before_end done)
+    (λ held done. begins w served rest (moved to from held (skipped answers.Ok t)) (Line answers.Ok ∷ Operation (t.index + 1) ∷ now) works (skipped-line w t answers.Ok now x.opened) here.behind here.before_end done)
+begins w served (op.Drop v ∷ rest) t now works counts r before d =
+    let here = is-here w t (op.Drop v) rest r in
+    let x = opens w t now (op.Drop v) rest here counts d in
+    dropping w t now v rest (λ behind. begun_at rest behind) works here x
+    (λ done. begins w served rest (skipped answers.Nil t) (Line answers.Nil ∷ Operation (t.index + 1) ∷ now) works (skipped-line w t answers.Nil now x.opened) here.behind here.before_end done)
+begins w served (op.Unown to of ∷ rest) t now works counts r before d = absurd (served-at w t.index (op.Unown to of) served (is-here w t (op.Unown to of) rest r).there)
+begins w served (op.Weak to of ∷ rest) t now works counts r before d = absurd (served-at w t.index (op.Weak to of) served (is-here w t (op.Weak to of) rest r).there)
+begins w served (op.Load to of ∷ rest) t now works counts r before d = absurd (served-at w t.index (op.Load to of) served (is-here w t (op.Load to of) rest r).there)
+begins w served (op.Get to cell ∷ rest) t now works counts r before d = absurd (served-at w t.index (op.Get to cell) served (is-here w t (op.Get to cell) rest r).there)
+begins w served (op.Set cell from ∷ rest) t now works counts r before d = absurd (served-at w t.index (op.Set cell from) served (is-here w t (op.Set cell from) rest r).there)
+
+-- what was under way is over
+pub goes-on : (w : Work) → IsServedWork w → (t : Thread) (now : List Note) → WorksOn w t.layout t.shape t.thread t.phases t.program → IsCounted w t.hands t.made t.kept now →
+    number_of now ≡ number_at w t.index → IsOfPhase w t.phase t.index → IsOver w t.index t.vars now → Comes w (next_op t) t.event now
+goes-on w served t now works counts number phase over =
+    let P : List Op → Type 0 = λ (p : List Op). Comes w (begun (record t { doing = Ended; index = cond (ltb t.index (length p)) (t.index + 1) t.index })) t.event now in
+    subst P (sym works.program_is) (go (ltb t.index (length w.program)) refl over number phase)
+  where
+    -- the rest of the phase at a place
+    rest_is : (i : ℕ) → drop i (take (ops_in_first (t.phase + 1) t.phases) t.program) ≡ drop i (take (ops_in_first (t.phase + 1) w.phases) w.program)
+    rest_is i = ap (λ ps. drop i (take (ops_in_first (t.phase + 1) ps) t.program)) works.phases_is ∙ ap (λ (p : List Op). drop i (take (ops_in_first (t.phase + 1) w.phases) p)) works.program_is
+
+    go : (b : Bool) → ltb t.index (length w.program) ≡ b → IsOverIf b w t.index t.vars now → number_of now ≡ cond b (t.index + 1) 0 → IsOfPhaseIf b w t.phase t.index →
+        Comes w (begun (record t { doing = Ended; index = cond b (t.index + 1) t.index })) t.event now
+    go true e over number phase =
+        begins w served (drop (t.index + 1) (take (ops_in_first (t.phase + 1) t.phases) t.program)) (record t { doing = Ended; index = t.index + 1 }) now works counts (rest_is (t.index + 1)) (omega arith) over
+    go false e over number phase = subst Q (sym none) (subst R (sym works.phases_is) (last (ltb (t.phase + 1) (length w.phases)) refl))
+      where
+        past : length w.program ≤ t.index
+        past = ltb-false t.index (length w.program) e
+
+        none : drop t.index (take (ops_in_first (t.phase + 1) t.phases) t.program) ≡ []
+        none =
+            let short = length-take (ops_in_first (t.phase + 1) w.phases) w.program in
+            let most = past in
+            rest_is t.index ∙ drop_all t.index (take (ops_in_first (t.phase + 1) w.phases) w.program) (omega arith)
+
+        Q : List Op → Type 0
+        Q rest = Comes w (begun_at rest (record t { doing = Ended; index = t.index })) t.event now
+
+        R : List (List Op) → Type 0
+        R phases = Comes w
+            (cond (ltb (t.phase + 1) (length phases)) (record t { doing = Ready; asked = moves.PhaseEnd; phase = t.phase + 1 }) (scope_begun (record t { doing = Ended; index = t.index }))) t.event now
+
+        last : (b : Bool) → ltb (t.phase + 1) (length w.phases) ≡ b →
+            Comes w (cond b (record t { doing = Ready; asked = moves.PhaseEnd; phase = t.phase + 1 }) (scope_begun (record t { doing = Ended; index = t.index }))) t.event now
+        last true f = let more = ltb-true (t.phase + 1) (length w.phases) f in absurd (omega arith)
+        last false f = scopes w (record t { doing = Ended; index = t.index }) now works counts e number phase over
+
+-- the destination has its new reference, and what it held is dropped last
+pub replaces : (w : Work) → IsServedWork w → (t : Thread) (to : ℕ) (held : Held) (o : Op) (answer : Answer) (base ns : List Note) → WorksOn w t.layout t.shape t.thread t.phases t.program →
+    IsCounted w t.hands t.made t.kept (Line answer ∷ ns) → number_of ns ≡ number_at w t.index → IsOfPhase w t.phase t.index → AreDone w t.index t.vars base → slice_get w.program t.index ≡ Some o →
+    IsAnswered w.thread w.came o (variables t.vars) (Operation (t.index + 1) ∷ base) (put_var (variables t.vars) to (Some (strong_held held))) answer (programs.value (variables t.vars) to) ns →
+    Comes w (replaced to held t) t.event (Line answer ∷ ns)
+replaces w served t to held o answer base ns works counts number phase done there answered = go (value t.vars to) refl
+  where
+    within : t.index < length w.program
+    within = slice_get_within w.program t.index o there
+
+    next : IsNext w.shape w.thread w.came w.program w.count t.index o (variables t.vars) base
+    next = record { done = done; there = there }
+
+    go : (old : Option Held) → value t.vars to ≡ old → Comes w (replaced_old old (set_var to (Some held) t)) t.event (Line answer ∷ ns)
+    go None e =
+        let d : AreDone w (t.index + 1) (set t.vars to (Some held)) (Line answer ∷ ns) = rw (put-held t.vars to (Some held)) (answers_last next (rw (value-held t.vars to None e) at answered)) in
+        goes-on w served (set_var to (Some held) t) (Line answer ∷ ns) works counts number phase (over-done w t.index (set t.vars to (Some held)) (Line answer ∷ ns) within d)
+    go (Some old) e = record {
+      after = Line answer ∷ ns;
+      says = nothing;
+      event = refl;
+      stands = drop-asks w (set_var to (Some held) t) old (Line answer ∷ ns) works counts number phase
+          (λ after x. over-done w t.index (set t.vars to (Some held)) after within (rw (put-held t.vars to (Some held)) (drops_last next (rw (value-held t.vars to (Some old) e) at answered) x)));
+    }

@@ -1,0 +1,4 @@
+pub mod Shown
+pub mod CascadeStands
+pub mod StepperStands
+pub mod Spelled

@@ -1,0 +1,57 @@
+-- What a turn of a thread's machine adds to the thread's notes: what the word that was given shows, the event that is told, and lines.
+use Rattle.std.specs.Prelude.{ℕ, true, ◌≡◌, List, ◌∷◌, Option, Some, None}
+use Rattle.arc_bits.specs.declared.packing.Inline.{Inline}
+use Rattle.arc_bits.specs.declared.packing.Word.TheVariants.{Counts}
+use Rattle.arc_bits.specs.Words.{unpacked}
+use Rattle.arc_model.specs.declared.answer.Answer.{Answer}
+use Rattle.arc_model.specs.declared.event.Act.{Act}
+use Rattle.arc_model.specs.declared.event.Act.TheVariants.{Finish}
+use Rattle.arc_model.specs.Spelling.{Note}
+use Rattle.arc_model.specs.Spelling.Note.{Did, Line, Operation, Name, Entry}
+use Rattle.arc_rule.specs.Extents.{Extent}
+use Rattle.arc_rule.specs.Places.{number}
+use Rattle.arc_rule.specs.Isa.{isa_name_of}
+use Rattle.arc_rule.specs.declared.layout.Place.TheVariants.{Count, Isa}
+use Rattle.arc_rule.specs.declared.step.Step.{Step}
+use Rattle.arc_rule.specs.declared.step.Step.TheVariants.{Load, Exchange}
+
+-- Nothing, or the name that the load of an isa word found.
+pub data ReadsName (layout : Extent) (asked : Option Step) (last : Option ℕ) : (before after : List Note) → Type 0 where
+  nothing : {b : List Note} → ReadsName layout asked last b b
+  name : {slot w : ℕ} {b : List Note} → asked ≡ Some (Load (number layout (Isa slot))) → last ≡ Some w → ReadsName layout asked last b (Name slot (isa_name_of w) ∷ b)
+
+-- Nothing, or behind the end of a deinit that no unowned reference outlives: the exchange was made on counts in the inline word, so
+-- the object has no entry.
+pub data FindsNoEntry (layout : Extent) (asked : Option Step) (last : Option ℕ) (event : Option Act) : (before after : List Note) → Type 0 where
+  nothing : {b : List Note} → FindsNoEntry layout asked last event b b
+  no_entry : {slot w new : ℕ} {c : Inline} {b : List Note} →
+      event ≡ Some (Finish slot true) → asked ≡ Some (Exchange (number layout (Count slot)) w new) → last ≡ Some w → unpacked w ≡ Some (Counts c) →
+      FindsNoEntry layout asked last event b (Entry slot None ∷ b)
+
+-- the event, if one is told, is the newest note
+abbrev pub with_act : Option Act → List Note → List Note
+with_act None ns = ns
+with_act (Some a) ns = Did a ∷ ns
+
+-- the step that was asked for and the word that it gave back, with the event told
+pub record Shows (layout : Extent) (asked : Option Step) (last : Option ℕ) (event : Option Act) (before after : List Note) : Type 0 where
+  pub read : List Note
+  pub reads : ReadsName layout asked last before read
+  pub finds : FindsNoEntry layout asked last event (with_act event read) after
+
+-- nothing but lines and beginnings of operations
+pub data Says : (before after : List Note) → Type 0 where
+  nothing : {b : List Note} → Says b b
+  line : {a : Answer} {b ns : List Note} → Says b ns → Says b (Line a ∷ ns)
+  operation : {n : ℕ} {b ns : List Note} → Says b ns → Says b (Operation n ∷ ns)
+
+-- what is shown, and then lines and beginnings of operations
+pub record Adds (layout : Extent) (asked : Option Step) (last : Option ℕ) (event : Option Act) (before after : List Note) : Type 0 where
+  pub found : List Note
+  pub shows : Shows layout asked last event before found
+  pub says : Says found after
+
+-- the events with the one that is told, the newest first
+abbrev pub with_event : Option Act → List Act → List Act
+with_event None acts = acts
+with_event (Some a) acts = a ∷ acts

@@ -1,0 +1,84 @@
+-- The laws of what steppers stand for, for the threads of a script.
+use Rattle.std.specs.Prelude.{ℕ, true, ◌≡◌, ◌≤◌, List, [], ◌∷◌, length, take, Option, Some, None}
+use Rattle.arc_bits.specs.declared.packing.Inline.{Inline}
+use Rattle.arc_bits.specs.declared.packing.Word.TheVariants.{Counts}
+use Rattle.arc_bits.specs.Words.{unpacked}
+use Rattle.arc_model.specs.declared.event.Act.{Act}
+use Rattle.arc_model.specs.declared.event.Act.TheVariants.{Finish}
+use Rattle.arc_model.specs.Shapes.{HeapShape}
+use Rattle.arc_model.specs.History.{History, heap_after}
+use Rattle.arc_model.specs.Spelling.{Note}
+use Rattle.arc_model.specs.Spelling.Note.{Name, Entry}
+use Rattle.arc_model.specs.SpellingTies.{Causes, Holds, Ties}
+use Rattle.arc_rule.specs.Extents.{Extent}
+use Rattle.arc_rule.specs.Isa.{isa_name_of}
+use Rattle.arc_rule.specs.Places.{number}
+use Rattle.arc_rule.specs.declared.layout.Place.TheVariants.{Count, Isa}
+use Rattle.arc_rule.specs.declared.step.Step.{Step}
+use Rattle.arc_rule.specs.declared.step.Step.TheVariants.{Load, Exchange}
+use Rattle.arc_script.specs.declared.script.Script.{Script}
+use Rattle.arc_script.specs.Valid.{IsScript}
+use Rattle.arc_programs.specs.Programs.{Hands, OpsDone}
+use Rattle.arc_programs.specs.ProgramsLines.{told}
+use Rattle.arc_programs.specs.ProgramsTied.{Spells}
+use Rattle.arc_ops.specs.declared.stepper.Move.TheVariants as moves
+use Rattle.arc_ops.specs.Programs.{phases_of, program_of, ops_in_first, vars_of, room_in}
+use Rattle.arc_ops.specs.Served.{IsServed}
+use Rattle.arc_ops.specs.Thread.{Thread, stepper_of, takes}
+use Rattle.arc_spelled.specs.Shown.{Adds}
+use Rattle.arc_spelled.specs.StepperStands.{Work, variables, StandsFor, StepperGoesOn}
+
+-- what a thread of the script works on
+abbrev pub work_of : Script → ℕ → Hands → Work
+work_of script p came = record {
+  shape = script.shape;
+  thread = p;
+  phases = phases_of script p;
+  program = program_of script p;
+  count = vars_of script p;
+  room = room_in script p;
+  came = came;
+}
+
+-- A new stepper stands for no note.
+abbrev pub SteppersBegin : Type 0
+SteppersBegin = (script : Script) (p : ℕ) (came : Hands) → StandsFor (work_of script p came) (stepper_of script p) []
+
+-- Each word that a stepper may be given keeps what it stands for.
+abbrev pub SteppersGoOn : Type 0
+SteppersGoOn = (script : Script) (p : ℕ) (came : Hands) (t : Thread) (last : Option ℕ) (now : List Note) →
+    IsServed script → StandsFor (work_of script p came) t now → takes t last → StepperGoesOn (work_of script p came) t last now
+
+-- The notes spell the thread's program, and of their lines the stepper keeps the first ones, as many as it has room for.
+pub record IsSpelled (script : Script) (came : Hands) (p : ℕ) (t : Thread) (notes : List Note) : Type 0 where
+  pub spelled : Spells script came p notes
+  pub first_lines : t.kept.lines ≡ take (room_in script p) (told notes)
+  pub all_lines : length (told notes) ≤ room_in script p → t.kept.lines ≡ told notes
+
+-- Where a stepper says that it has ended, its notes spell the program of its thread. No operation that is served takes a reference
+-- out of a cell, so whatever came out of cells, they spell it.
+abbrev pub EndedSteppersSpell : Type 0
+EndedSteppersSpell = (script : Script) (p : ℕ) (came any : Hands) (t : Thread) (now : List Note) → IsScript script → IsServed script → p ≤ length script.threads →
+    StandsFor (work_of script p came) t now → t.asked ≡ moves.Ended → IsSpelled script any p t now
+
+-- Where a stepper says that a phase is over, or that it is to begin its first one, its notes spell the operations of the phases
+-- before, whatever came out of cells.
+abbrev pub ReadySteppersHaveDone : Type 0
+ReadySteppersHaveDone = (script : Script) (p : ℕ) (came any : Hands) (t : Thread) (now : List Note) → IsServed script → StandsFor (work_of script p came) t now → t.asked ≡ moves.PhaseEnd →
+    OpsDone script.shape p any (program_of script p) (vars_of script p) (ops_in_first t.phase (phases_of script p)) (variables t.vars) now
+
+-- the history with the event at its end, if one was told
+abbrev pub with_event_of : ℕ → Option Act → History → History
+with_event_of p None h = h
+with_event_of p (Some a) h = record { thread = p; act = a } ∷ h
+
+-- What the word shows holds of the heap: the name before the event, and behind it that there is no entry.
+pub record WordsHold (causes : Causes) (shape : HeapShape) (layout : Extent) (asked : Option Step) (last : Option ℕ) (p : ℕ) (event : Option Act) (h : History) : Type 0 where
+  pub names : (slot w : ℕ) → asked ≡ Some (Load (number layout (Isa slot))) → last ≡ Some w → Holds causes shape (heap_after h) (Name slot (isa_name_of w))
+  pub entries : (slot w new : ℕ) (c : Inline) → event ≡ Some (Finish slot true) → asked ≡ Some (Exchange (number layout (Count slot)) w new) → last ≡ Some w → unpacked w ≡ Some (Counts c) →
+      Holds causes shape (heap_after (with_event_of p event h)) (Entry slot None)
+
+-- Where what a word shows holds of the heap, the notes with what a turn adds are those of the thread in the history with the event.
+abbrev pub AddedNotesAreTied : Type 0
+AddedNotesAreTied = (causes : Causes) (shape : HeapShape) (layout : Extent) (asked : Option Step) (last : Option ℕ) (p : ℕ) (event : Option Act) (h : History) (now after : List Note) →
+    Adds layout asked last event now after → WordsHold causes shape layout asked last p event h → Ties causes shape p now h → Ties causes shape p after (with_event_of p event h)

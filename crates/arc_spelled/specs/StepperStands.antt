@@ -1,0 +1,203 @@
+-- What a thread's stepper stands for: the notes that spell the thread's program up to where the stepper is.
+use Rattle.std.specs.Prelude.{ℕ, Bool, true, false, ◌≡◌, ◌+◌, ◌<◌, ◌≤◌, nat_lt, if◌then◌else◌, List, ◌∷◌, length, map, take, flat_map, slice_get, All, Option, Some, None, ⊤}
+use Rattle.arc_model.specs.declared.event.ObjectName.{ObjectName}
+use Rattle.arc_model.specs.declared.event.Act.TheVariants.{New}
+use Rattle.arc_model.specs.declared.shape.Kind.TheVariants.{Strong}
+use Rattle.arc_model.specs.Shapes.{HeapShape}
+use Rattle.arc_model.specs.Spelling.{Note, hands_of, acts_of, IsDrop, IsCascade}
+use Rattle.arc_model.specs.Spelling.Note.{Did, Operation}
+use Rattle.arc_rule.specs.Extents.{Extent}
+use Rattle.arc_rule.specs.Places.{extent_of}
+use Rattle.arc_rule.specs.declared.step.Step.{Step}
+use Rattle.arc_plan.specs.declared.slots.Making.{Making as Search}
+use Rattle.arc_plan.specs.declared.slots.Making.TheVariants.{Trying, Naming}
+use Rattle.arc_cells.specs.Cascades.{HasNoFields, CascadeState}
+use Rattle.arc_script.specs.declared.script.Op.{Op}
+use Rattle.arc_script.specs.declared.script.Op.TheVariants as op
+use Rattle.arc_programs.specs.Variables.{Held, Variables}
+use Rattle.arc_programs.specs.Programs.{Hands, made_of, OpsDone, ScopeEnds, IsProgram}
+use Rattle.arc_programs.specs.ProgramsLines.{number_of, told}
+use Rattle.arc_ops.specs.declared.stepper.Held.{Held as HeldStrong}
+use Rattle.arc_ops.specs.declared.stepper.Doing.{Doing}
+use Rattle.arc_ops.specs.declared.stepper.Doing.TheVariants.{Ready, Making, Copying, Dropping, Dying, Ended}
+use Rattle.arc_ops.specs.declared.stepper.Move.{Move}
+use Rattle.arc_ops.specs.declared.stepper.Move.TheVariants as moves
+use Rattle.arc_ops.specs.Kept.{Kept}
+use Rattle.arc_ops.specs.Programs.{ops_in_first}
+use Rattle.arc_ops.specs.Served.{IsServedOp}
+use Rattle.arc_ops.specs.Thread.{Thread, value, is_busy, turned}
+use Rattle.arc_spelled.specs.Shown.{Adds, with_event}
+use Rattle.arc_spelled.specs.CascadeStands.{CascadeStandsFor}
+
+-- A thread's operations, phase by phase, over so many variables, in a heap of this shape, room for so many lines, and what each of
+-- its hands refers to when it comes.
+pub record Work : Type 0 where
+  pub shape : HeapShape
+  pub thread : ℕ
+  pub phases : List (List Op)
+  pub program : List Op
+  pub count : ℕ
+  pub room : ℕ
+  pub came : Hands
+
+-- the program is that of its phases, its operations are served, and objects have no fields
+pub record IsServedWork (w : Work) : Type 0 where
+  pub whole : w.program ≡ flat_map (λ ops. ops) w.phases
+  pub ops : All IsServedOp w.program
+  pub without_fields : HasNoFields w.shape
+
+-- each reference is a strong one so far
+abbrev pub strong_held : HeldStrong → Held
+strong_held h = record { hand = h.hand; kind = Strong; place = h.place }
+
+abbrev pub held_in : Option HeldStrong → Option Held
+held_in None = None
+held_in (Some h) = Some (strong_held h)
+
+abbrev pub variables : List (Option HeldStrong) → Variables
+variables vars = map held_in vars
+
+-- the first operations of the program are done
+abbrev pub AreDone : Work → ℕ → List (Option HeldStrong) → List Note → Type 0
+AreDone w i vars now = OpsDone w.shape w.thread w.came w.program w.count i (variables vars) now
+
+-- all operations are done, and of the variables the first ones are nil, and dropped where they weren't
+pub record IsInScope (w : Work) (vars : List (Option HeldStrong)) (now : List Note) : Type 0 where
+  pub first : Variables
+  pub worked : List Note
+  pub ops : OpsDone w.shape w.thread w.came w.program w.count (length w.program) first worked
+  pub same_count : length first ≡ length vars
+  pub below : ℕ
+  pub within : below ≤ length vars
+  pub ends : ScopeEnds w.shape first below (variables vars) worked now
+  pub nils : (v : ℕ) → v < below → value vars v ≡ None
+
+-- The operation at this place is over, or where there is none, a drop at the end of the scope.
+abbrev pub IsOverIf : Bool → Work → ℕ → List (Option HeldStrong) → List Note → Type 0
+IsOverIf true w i vars now = AreDone w (i + 1) vars now
+IsOverIf false w i vars now = IsInScope w vars now
+
+abbrev pub IsOver : Work → ℕ → List (Option HeldStrong) → List Note → Type 0
+IsOver w i vars now = IsOverIf (nat_lt i (length w.program)) w i vars now
+
+-- the operation at this place began just now
+pub record IsBegun (w : Work) (i : ℕ) (o : Op) (vars : List (Option HeldStrong)) (now : List Note) : Type 0 where
+  pub base : List Note
+  pub done : AreDone w i vars base
+  pub there : slice_get w.program i ≡ Some o
+  pub now_is : now ≡ Operation (i + 1) ∷ base
+
+-- an object is to be made that has the thread's next number
+pub record IsMaking (w : Work) (i to : ℕ) (name : ObjectName) (vars : List (Option HeldStrong)) (now : List Note) : Type 0 where
+  pub begun : IsBegun w i (op.New to name.class) vars now
+  pub named : name ≡ record { class = name.class; thread = w.thread; number = made_of now + 1 }
+
+-- it was made in this slot
+pub record IsMade (w : Work) (i to : ℕ) (name : ObjectName) (slot : ℕ) (vars : List (Option HeldStrong)) (now : List Note) : Type 0 where
+  pub before : List Note
+  pub making : IsMaking w i to name vars before
+  pub now_is : now ≡ Did (New (hands_of before + 1) name.class slot) ∷ before
+
+abbrev pub MakesUpTo : Work → ℕ → ℕ → ObjectName → ℕ → List (Option HeldStrong) → List Note → Search → Type 0
+MakesUpTo w i to name slot vars now (Trying s) = (s ≡ slot) × IsMaking w i to name vars now
+MakesUpTo w i to name slot vars now (Naming s) = (s ≡ slot) × IsMade w i to name slot vars now
+MakesUpTo w i to name slot vars now _ = ⊥
+
+-- a reference is to be copied from a variable
+pub record IsCopying (w : Work) (i to : ℕ) (held : HeldStrong) (vars : List (Option HeldStrong)) (now : List Note) : Type 0 where
+  pub from : ℕ
+  pub begun : IsBegun w i (op.Copy to from) vars now
+  pub source : value vars from ≡ Some held
+
+-- whatever completes the drop completes what is under way
+abbrev pub DropEnds : Work → ℕ → HeldStrong → List (Option HeldStrong) → List Note → Type 0
+DropEnds w i held vars now = (after : List Note) → IsDrop w.shape Strong held.place held.hand now after → IsOver w i vars after
+
+-- the step that is asked for
+abbrev pub step_in : Move → Option Step
+step_in (moves.Step step intent) = Some step
+step_in _ = None
+
+-- an object dies, and whatever completes its deinit completes what is under way
+pub record IsDying (w : Work) (i : ℕ) (c : CascadeState) (asked : Move) (vars : List (Option HeldStrong)) (now : List Note) : Type 0 where
+  pub base : List Note
+  pub stands : CascadeStandsFor base c (step_in asked) now
+  pub layout : c.layout ≡ extent_of w.shape
+  pub shape : c.shape ≡ w.shape
+  pub ends : (after : List Note) → IsCascade w.shape c.slot base after → IsOver w i vars after
+
+-- the notes, by what the stepper is doing
+abbrev pub StepperUpTo : Work → ℕ → List (Option HeldStrong) → Move → List Note → Doing → Type 0
+StepperUpTo w i vars asked now Ready = AreDone w i vars now
+StepperUpTo w i vars asked now (Making to name slot plan) = MakesUpTo w i to name slot vars now plan.at
+StepperUpTo w i vars asked now (Copying to held plan) = IsCopying w i to held vars now
+StepperUpTo w i vars asked now (Dropping held plan) = DropEnds w i held vars now
+StepperUpTo w i vars asked now (Dying c) = IsDying w i c asked vars now
+StepperUpTo w i vars asked now Ended = IsProgram w.shape w.thread w.came w.program w.count now
+
+-- what it works on
+pub record WorksOn (w : Work) (layout : Extent) (shape : HeapShape) (thread : ℕ) (phases : List (List Op)) (program : List Op) : Type 0 where
+  pub layout_is : layout ≡ extent_of w.shape
+  pub shape_is : shape ≡ w.shape
+  pub thread_is : thread ≡ w.thread
+  pub phases_is : phases ≡ w.phases
+  pub program_is : program ≡ w.program
+
+-- the first lines of the notes, as many as there is room for
+abbrev pub first_lines : ℕ → List Note → Kept
+first_lines room now = record { lines = take room (told now); room = room }
+
+-- how many references came, and how many objects were made; and the lines that it keeps
+pub record IsCounted (w : Work) (hands made : ℕ) (kept : Kept) (now : List Note) : Type 0 where
+  pub hands_are : hands ≡ hands_of now
+  pub made_is : made ≡ made_of now
+  pub lines_are : kept ≡ first_lines w.room now
+
+-- a line has the number of the operation that is under way
+abbrev pub number_at : Work → ℕ → ℕ
+number_at w i = if nat_lt i (length w.program) then i + 1 else 0
+
+abbrev pub IsNumberedIf : Bool → Work → ℕ → List Note → Type 0
+IsNumberedIf true w i now = number_of now ≡ number_at w i
+IsNumberedIf false w i now = ⊤
+
+abbrev pub IsStep : Move → Type 0
+IsStep (moves.Step step intent) = ⊤
+IsStep _ = ⊥
+
+-- it asks for a step exactly where something is under way
+abbrev pub Asks : Doing → Move → Type 0
+Asks Ready asked = asked ≡ moves.PhaseEnd
+Asks Ended asked = asked ≡ moves.Ended
+Asks _ asked = IsStep asked
+
+-- the operation at this place is one of the phase, or where there is none, the phase is the last one
+abbrev pub IsOfPhaseIf : Bool → Work → (phase index : ℕ) → Type 0
+IsOfPhaseIf true w phase index = index < ops_in_first (phase + 1) w.phases
+IsOfPhaseIf false w phase index = length w.phases ≤ phase + 1
+
+abbrev pub IsOfPhase : Work → (phase index : ℕ) → Type 0
+IsOfPhase w phase index = IsOfPhaseIf (nat_lt index (length w.program)) w phase index
+
+-- What is under way is of the phase. Before a phase the operations of the earlier ones are done.
+abbrev pub IsInPhase : Work → (phase index : ℕ) → Doing → Type 0
+IsInPhase w phase index Ready = index ≡ ops_in_first phase w.phases
+IsInPhase w phase index Ended = ⊤
+IsInPhase w phase index _ = IsOfPhase w phase index
+
+-- The stepper, at work on these operations, stands for the notes.
+pub record StandsFor (w : Work) (t : Thread) (now : List Note) : Type 0 where
+  pub works : WorksOn w t.layout t.shape t.thread t.phases t.program
+  pub in_phase : IsInPhase w t.phase t.index t.doing
+  pub counts : IsCounted w t.hands t.made t.kept now
+  pub number : IsNumberedIf (is_busy t.doing) w t.index now
+  pub asks : Asks t.doing t.asked
+  pub up_to : StepperUpTo w t.index t.vars t.asked now t.doing
+
+-- What a stepper stands for once it is given a word: the notes that it stood for, with what this turn adds. The event that it
+-- tells, or none, is what the events have more.
+pub record StepperGoesOn (w : Work) (t : Thread) (last : Option ℕ) (now : List Note) : Type 0 where
+  pub after : List Note
+  pub adds : Adds (extent_of w.shape) (step_in t.asked) last (turned t last).event now after
+  pub events : acts_of after ≡ with_event (turned t last).event (acts_of now)
+  pub stands : StandsFor w (turned t last) after
