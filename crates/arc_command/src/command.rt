@@ -1,14 +1,19 @@
-ghost use Rattle.std.specs.Prelude.{◌≡◌, IfSome};
-ghost use Rattle.arc.specs.Commands.{command_of, one_word, script_asked, CountFits};
+ghost use Rattle.std.specs.Prelude.{◌≡◌, [], IfSome};
+ghost use Rattle.arc_command.specs.Commands.{command_of, one_word, script_asked, CountFits};
+ghost use Rattle.arc_command.specs.Lines.{as_read};
 
 use crate::number::long_number;
 use arc_text::number_in;
+use arrayvec::ArrayVec;
 use std::marker::Model;
 
-/// A word of the command line. Seen as its bytes.
-#[derive(Debug, Drop)]
+/// The most bytes that a word of a command has, those of 2^64 - 1.
+pub(crate) const LONGEST: usize = 20;
+
+/// A word of the command line as it is read: one that is longer than any word of a command is empty. Seen as its bytes.
+#[derive(Debug, Default, Drop)]
 pub struct Arg {
-    bytes: Vec<u8>,
+    bytes: ArrayVec<u8, LONGEST>,
 }
 
 impl Model for Arg {
@@ -20,10 +25,24 @@ impl Model for Arg {
 }
 
 impl Arg {
-    pub fn new(bytes: Vec<u8>) -> Arg
-        ensures { result ≡ bytes.items }
+    /// An empty word.
+    pub fn empty() -> Arg
+        ensures { result ≡ [] }
     {
-        Arg { bytes }
+        Arg {
+            bytes: ArrayVec::new(),
+        }
+    }
+
+    /// The word of these bytes, or an empty one where they are more than a word of a command has.
+    pub fn of(bytes: &[u8]) -> Arg
+        ensures { result ≡ as_read bytes.now }
+    {
+        let mut read = ArrayVec::new();
+        match read.try_extend_from_slice(bytes) {
+            Ok(()) => Arg { bytes: read },
+            Err(_) => Arg::empty(),
+        }
     }
 
     /// The word's bytes.

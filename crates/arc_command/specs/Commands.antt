@@ -1,8 +1,8 @@
 -- What the words of the command line ask for.
 use Rattle.std.specs.Prelude.{Bool, true, false, ℕ, ◌-◌, ◌^◌, ◌≤◌, List, [], ◌∷◌, Option, Some, None, bytes_eq, codes, if◌then◌else◌}
 use Rattle.arc_text.specs.Words.{number_in}
-use Rattle.arc.specs.declared.command.Command.{Command}
-use Rattle.arc.specs.declared.command.Command.TheVariants as command
+use Rattle.arc_command.specs.declared.command.Command.{Command}
+use Rattle.arc_command.specs.declared.command.Command.TheVariants as command
 
 -- a count and a start that are in range
 abbrev pub script_of_numbers : Option ℕ → Option ℕ → Option Command

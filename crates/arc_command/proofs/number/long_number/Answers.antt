@@ -2,8 +2,8 @@ use Rattle.std.proofs.Common.{◌≡◌, List, ℕ, sym, subst, true}
 use Rattle.std.specs.Str.Parse.{ParsesUnsigned}
 use Rattle.arc_text.specs.Words.{is_numeral}
 use Rattle.arc_text.proofs.Numbers.{numeral_text}
-use Rattle.arc.proofs.LongNumbers.{long_past}
-use Rattle.arc.proofs.number.long_number.Goals as goal
+use Rattle.arc_command.proofs.LongNumbers.{long_past}
+use Rattle.arc_command.proofs.number.long_number.Goals as goal
 
 pub returns-in_default : goal.returns-in_default
 returns-in_default c =
