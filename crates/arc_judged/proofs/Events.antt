@@ -1,5 +1,5 @@
 -- The events of a replay name what is there.
-use Rattle.std.proofs.Common.{◌≡◌, ℕ, ◌+◌, ◌-◌, ◌^◌, ◌≤◌, ◌<◌, List, [], ◌∷◌, length, map, reverse, get_or, sym, ap, subst, ◌∙◌, arith}
+use Rattle.std.proofs.Common.{◌≡◌, ℕ, ◌+◌, ◌-◌, ◌^◌, ◌≤◌, ◌<◌, List, [], ◌∷◌, length, reverse, get_or, refl, sym, ap, subst, ◌∙◌, arith}
 use Rattle.std.specs.Prelude.{All}
 use Rattle.std.specs.List.{AllByRecursion}
 use Rattle.std.proofs.lemmas.List.{length-map, length-reverse, get_or-reverse}
@@ -18,21 +18,16 @@ use Rattle.arc_plain.specs.declared.replay.Replay.{Replay}
 use Rattle.arc_plain.specs.Replays.{IsReplay}
 use Rattle.arc_check.specs.WrittenHistory.{named_of, ActFits}
 use Rattle.arc_read_back.specs.ReadBack.{StampedFits}
-use Rattle.arc_judged.proofs.Turns.{BringsUpTo}
 use Rattle.arc_judged.proofs.Slots.{SlotWithin}
-use Rattle.arc_judged.proofs.Hands.{HandsWithin, legal_hands}
+use Rattle.arc_judged.proofs.Hands.{HandsWithin}
 use Rattle.arc_judged.proofs.Stamps.{StampWithin, stage_within, stages_are_sound}
 
 -- ---- all of a list, of the list reversed, and of a list that it is mapped to
 
 reversed_all : (P : Stamped → Type 0) (xs : List Stamped) → All P xs → All P (reverse xs)
 reversed_all P xs all k d below =
-    let long = length-reverse {xs = xs} in
+    let long : length (reverse xs) ≡ length xs = rw length-reverse refl in
     subst P (sym (get_or-reverse xs k d (omega arith))) (all (length xs - 1 - k) d (omega arith))
-
-mapped_all : (P : Event → Type 0) (es : List Stamped) → AllByRecursion (λ (s : Stamped). P s.event) es → AllByRecursion P (history_of es)
-mapped_all P [] h = tt
-mapped_all P (e ∷ es) h = (h.0, mapped_all P es h.1)
 
 unmapped_all : (P : Event → Type 0) (es : List Stamped) → AllByRecursion P (history_of es) → AllByRecursion (λ (s : Stamped). P s.event) es
 unmapped_all P [] h = tt
@@ -61,8 +56,8 @@ act_fits s threads (acts.Finish slot last) e f p h = p
 act_fits s threads (acts.Vacate slot) e f p h = p
 act_fits s threads (acts.Gone entry last) e f p h = absurd f
 
--- a hand below the greatest that an operation each can bring is one that a text can tell
-wider : (a : Act) → HandsWithin 100002 a → HandsWithin 4294967295 a
+-- a hand of so few is one that a text can tell
+wider : (a : Act) → HandsWithin 100004 a → HandsWithin 4294967295 a
 wider (acts.New hand class slot) h = omega arith
 wider (acts.Copy (origins.Hand of) hand) h = (let a = h.0 in omega arith, let b = h.1 in omega arith)
 wider (acts.Drop hand last) h = omega arith
@@ -85,15 +80,11 @@ wider (acts.Gone entry last) h = tt
 
 all_fit : (s : Script) (limit : ℕ) (events : List Stamped) → limit < 2 ^ 62 → length s.shape.classes ≡ length s.classes →
     AllByRecursion (λ (e : Stamped). named.ActFits (length s.shape.classes) e.event.act) events → AllByRecursion (StampWithin s.shape.slots limit) events →
-    AllByRecursion (λ (e : Stamped). e.event.thread ≤ length s.threads) events → AllByRecursion (λ (e : Stamped). HandsWithin 100002 e.event.act) events → AllByRecursion (StampedFits s) events
-all_fit s limit [] small e f p t h = tt
-all_fit s limit (x ∷ xs) small e f p t h =
+    AllByRecursion (λ (e : Stamped). e.event.thread ≤ length s.threads) events → AllByRecursion (StampedFits s) events
+all_fit s limit [] small e f p t = tt
+all_fit s limit (x ∷ xs) small e f p t =
     let step = p.0.step in
-    (record { step_fits = omega arith; thread_fits = t.0; act_fits = act_fits s (length s.threads) x.event.act e f.0 p.0.slot (wider x.event.act h.0) }, all_fit s limit xs small e f.1 p.1 t.1 h.1)
-
-hands_of : (slots steps : ℕ) (events : List Stamped) → AllByRecursion (StampWithin slots steps) events → AllByRecursion (λ (s : Stamped). BringsUpTo 100002 s.event.act) events
-hands_of slots steps [] h = tt
-hands_of slots steps (e ∷ es) h = (h.0.hand, hands_of slots steps es h.1)
+    (record { step_fits = omega arith; thread_fits = t.0; act_fits = act_fits s (length s.threads) x.event.act e f.0 p.0.slot (wider x.event.act p.0.hands) }, all_fit s limit xs small e f.1 p.1 t.1)
 
 reversed_back : (s : Script) (xs : List Stamped) → AllByRecursion (StampedFits s) (reverse xs) → AllByRecursion (StampedFits s) xs
 reversed_back s xs h = recursion_from_All (StampedFits s) xs back
@@ -101,13 +92,13 @@ reversed_back s xs h = recursion_from_All (StampedFits s) xs back
     back : All (StampedFits s) xs
     back k d below =
         let all : All (StampedFits s) (reverse xs) = All-from_recursion (StampedFits s) (reverse xs) h in
-        let long = length-reverse {xs = xs} in
+        let long : length (reverse xs) ≡ length xs = rw length-reverse refl in
         let same : length xs - 1 - (length xs - 1 - k) ≡ k = omega arith in
         let there : get_or (reverse xs) (length xs - 1 - k) d ≡ get_or xs k d = get_or-reverse xs (length xs - 1 - k) d (omega arith) ∙ ap (λ (i : ℕ). get_or xs i d) same in
         subst (StampedFits s) there (all (length xs - 1 - k) d (omega arith))
 
 pub replay_fits : (s : Script) (r : Replay) → IsScript s → IsServed s → IsReplay s r → AllByRecursion (StampedFits s) r.events.items
-replay_fits s r valid served replay = reversed_back s r.events.items (all_fit s r.steps (reverse r.events.items) replay.bound classes fit stamps threads hands)
+replay_fits s r valid served replay = reversed_back s r.events.items (all_fit s r.steps (reverse r.events.items) replay.bound classes fit stamps threads)
   where
     classes : length s.shape.classes ≡ length s.classes
     classes = ap length valid.heading.of_classes ∙ length-map s.classes _
@@ -117,16 +108,10 @@ replay_fits s r valid served replay = reversed_back s r.events.items (all_fit s 
         (reversed_all (λ (e : Stamped). named.ActFits (length s.shape.classes) e.event.act) r.events.items replay.events_fit)
 
     last_stamps : AllByRecursion (StampWithin s.shape.slots replay.last.steps) replay.last.events
-    last_stamps = stage_within s (stages_are_sound s valid served replay.run.never) replay.last replay.run.reached
+    last_stamps = stage_within s (stages_are_sound s valid served) replay.last replay.run.reached
 
     stamps : AllByRecursion (StampWithin s.shape.slots r.steps) (reverse r.events.items)
     stamps = rw (replay.events, replay.steps) last_stamps
 
     threads : AllByRecursion (λ (e : Stamped). e.event.thread ≤ length s.threads) (reverse r.events.items)
     threads = unmapped_all (λ (e : Event). e.thread ≤ length s.threads) (reverse r.events.items) replay.history.no_other
-
-    hands : AllByRecursion (λ (e : Stamped). HandsWithin 100002 e.event.act) (reverse r.events.items)
-    hands = unmapped_all (λ (e : Event). HandsWithin 100002 e.act) (reverse r.events.items)
-        (legal_hands s.shape 100002 (length s.shape.classes) (history_of (reverse r.events.items)) replay.history.legal
-        (mapped_all (λ (e : Event). named.ActFits (length s.shape.classes) e.act) (reverse r.events.items) fit)
-        (mapped_all (λ (e : Event). BringsUpTo 100002 e.act) (reverse r.events.items) (hands_of s.shape.slots r.steps (reverse r.events.items) stamps)))

@@ -1,4 +1,3 @@
-pub mod Turns
 pub mod Slots
 pub mod Hands
 pub mod Stamps
