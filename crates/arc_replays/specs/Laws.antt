@@ -1,0 +1,43 @@
+-- The laws of the stages that a replay comes to.
+use Rattle.std.specs.Prelude.{ℕ, ◌≡◌, ◌<◌, ◌+◌, ◌^◌, length, slice_get, slice_index, Some, None}
+use Rattle.arc_rule.specs.Places.{extent_of, word_count}
+use Rattle.arc_rule.specs.Steps.{place_of, found_by}
+use Rattle.arc_rule.specs.declared.step.Step.{Step}
+use Rattle.arc_rule.specs.declared.step.Intent.{Intent}
+use Rattle.arc_script.specs.declared.script.Script.{Script}
+use Rattle.arc_script.specs.Valid.{IsScript}
+use Rattle.arc_ops.specs.declared.stepper.Move.TheVariants as moves
+use Rattle.arc_ops.specs.Served.{IsServed}
+use Rattle.arc_ops.specs.Thread.{Thread, IsStepper, takes}
+use Rattle.arc_ops_passes.specs.Drives.{Asks}
+use Rattle.arc_replays.specs.Stages.{Stage, Reached}
+
+-- there is a thread for each number up to the script's last, and a word for each place
+pub record IsWhole (script : Script) (s : Stage) : Type 0 where
+  pub threads : length s.threads ≡ length script.threads + 1
+  pub words : length s.words ≡ word_count (extent_of script.shape)
+
+abbrev pub StagesAreWhole : Type 0
+StagesAreWhole = (script : Script) (s : Stage) → IsScript script → IsServed script → Reached script s → IsWhole script s
+
+-- A thread is at work in the script's heap, and its plan waits for the word of the step that it asks for.
+pub record IsAtWork (script : Script) (p : ℕ) (t : Thread) : Type 0 where
+  pub thread : t.thread ≡ p
+  pub shape : t.shape ≡ script.shape
+  pub layout : t.layout ≡ extent_of script.shape
+  pub asks : Asks script.shape t t.doing
+
+abbrev pub ThreadsAreAtWork : Type 0
+ThreadsAreAtWork = (script : Script) (s : Stage) (p : ℕ) (t : Thread) → IsScript script → IsServed script → Reached script s → slice_get s.threads p ≡ Some t → IsAtWork script p t
+
+-- A step that a thread asks for has its place among the words, and the stepper may be given what it finds there.
+pub record MayBeMade (s : Stage) (t : Thread) (step : Step) : Type 0 where
+  pub place : place_of step < length s.words
+  pub takes_it : slice_index s.words (place_of step) < 2 ^ 64 → takes t (Some (found_by step s.words))
+
+abbrev pub StepsMayBeMade : Type 0
+StepsMayBeMade = (script : Script) (s : Stage) (p : ℕ) (t : Thread) (step : Step) (intent : Intent) → IsScript script → IsServed script → Reached script s → slice_get s.threads p ≡ Some t → IsStepper t → t.asked ≡ moves.Step step intent → MayBeMade s t step
+
+-- A thread that waits for its next phase may begin it.
+abbrev pub PhasesMayBegin : Type 0
+PhasesMayBegin = (script : Script) (s : Stage) (p : ℕ) (t : Thread) → IsScript script → IsServed script → Reached script s → slice_get s.threads p ≡ Some t → t.asked ≡ moves.PhaseEnd → takes t None
