@@ -116,7 +116,7 @@ module _ (w : Work) (t : Thread) (v : View) (to : ℕ) (held : Held) (a : Attemp
             let u : Thread = record (quiet t) { doing = copying w to held (attempt.Exchanging found (counts_word (strong_more c))); asked = moves.Step (Exchange at found (counts_word (strong_more c))) copy } in
             let done : Loaded (Write (counts_word (strong_more c))) =
             stays w t v (Load at) copy found v' (copying w to held attempt.Loading) u told fact
-            (is_count_word w.shape o found (counts c some word lives most unowned none), served) load_none refl (count_no_name (extent_of w.shape) held.place) refl (λ g. refl) (refl, refl)
+            (is_count_word w.shape o found (counts c some word lives most unowned none), served) load_none refl (count_no_name (extent_of w.shape) held.place) refl refl (λ g. refl) (refl, refl)
             (record { working = load_works ∙ f.under_way.0.working; none = owes_still w.shape 1 v v' called f.under_way.0.none }, (c, word, up.0, up.1, refl)) in
             subst Loaded (sym row) done
 
@@ -144,8 +144,8 @@ module _ (w : Work) (t : Thread) (v : View) (to : ℕ) (held : Held) (a : Attemp
     missed ne =
         let act : act_of w.shape v (Exchange at seen new) copy found ≡ None = ap (λ b. cond b (Some (acts.Copy (origins.Hand held.hand) (next_hand v.number v.seen))) None) (ne_eqb found seen ne) in
         let called = told_by w.shape copy (Exchange at seen new) v found v' None act told in
-        let m = copy_walks w.shape to held (quiet t) (quiet t) (in_vars t.vars) f.is_for refl refl (λ g. refl) in
-        stays w t v (Exchange at seen new) copy found v' d (copy_begun to held (quiet t)) told fact ((λ e. cc), tt) act m.event tt m.hands (λ g. let e = m.same g in omega arith) m.asks
+        let m = copy_walks w.shape to held (quiet t) (quiet t) (in_vars t.vars) f.is_for refl refl refl (λ g. refl) in
+        stays w t v (Exchange at seen new) copy found v' d (copy_begun to held (quiet t)) told fact ((λ e. cc), tt) act m.event tt m.hands m.count (λ g. let e = m.same g in omega arith) m.asks
         (fresh_under w.shape v' (copy_begun to held (quiet t)).doing m.fresh (swap_works ∙ f.under_way.0.working) (owes_still w.shape 1 v v' called f.under_way.0.none))
 
     -- the reference is copied
@@ -164,7 +164,7 @@ module _ (w : Work) (t : Thread) (v : View) (to : ℕ) (held : Held) (a : Attemp
         ap (λ b. cond b (Some (acts.Copy (origins.Hand held.hand) (next_hand v.number v.seen))) None) (eq-eqb found seen same) ∙ ap (λ n. Some (acts.Copy (origins.Hand held.hand) n)) f.next in
         let called : Called w.shape (gained ∷ []) 1 v v' = told_by w.shape copy (Exchange at seen new) v found v' (Some gained) act told in
         let m = moved w.shape gained 1 v v' called in
-        let walk = replaced_walks w.shape with_it to new_ref f.is_for f.fits.0 in
+        let walk = replaced_walks w.shape with_it to new_ref f.is_for f.stepper.vars_fit f.fits.0 in
         let u : Thread = replaced to new_ref with_it in
         let spots : (k : ℕ) → k ≢ t.hands + 1 → spot (Hand v'.number k) (heap_of v') ≡ spot (Hand v.number k) (heap_of v) =
         λ k ne. m.hands k ∙ ap (λ b. cond b (brought (heap_after m.met) v.number gained) (spot (Hand v.number k) (heap_of v))) (ne_eqb (t.hands + 1) k (λ e. ne (sym e))) in
@@ -175,6 +175,7 @@ module _ (w : Work) (t : Thread) (v : View) (to : ℕ) (held : Held) (a : Attemp
           takes_it = ((λ e. cc), tt);
           event = act ∙ sym walk.event;
           holds = subst (λ e. WordsHold Judged w.shape (extent_of w.shape) (Some (Exchange at seen new)) (Some found) w.thread e (told.between ++ v.seen)) (sym walk.event) (nothing_shown w.shape (extent_of w.shape) (Exchange at seen new) found w.thread (Some gained) (told.between ++ v.seen) tt tt);
+          count = walk.count ∙ f.count;
           owns = subst (λ n. Owns v' n (references u.vars u.hands u.doing)) (sym walk.hands)
               (owns_more v v' t.hands (references t.vars t.hands (copying w to held a)) (references u.vars u.hands u.doing) new_ref f.owns refl (λ g. let e = walk.same g in omega arith) there (λ x. leads_on w.shape (gained ∷ []) 1 v v' x called (refl, tt)) spots);
           no_claim = claims_on w.shape 1 gained v v' called (λ m e. refl) f.no_claim;

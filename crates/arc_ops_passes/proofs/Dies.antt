@@ -194,6 +194,7 @@ module _ (w : Work) (t : Thread) (v : View) (s : ℕ) (a : CascadeAt) (e : Optio
             takes_it = takes;
             event = none ∙ sym event;
             holds = subst (λ (x : Option Act). WordsHold Judged w.shape (extent_of w.shape) (Some step) (Some found) w.thread x h) (sym event) holds;
+            count = ap length vars ∙ f.count;
             owns = subst (λ n. Owns v' n (references u.vars u.hands u.doing)) (sym hands) (owns_still w.shape 1 v v' t.hands (references t.vars t.hands (dying w s a e)) (references u.vars u.hands u.doing) called f.owns same);
             no_claim = claims_still w.shape 1 v v' called f.no_claim;
             asks = subst (Asks w.shape u) (sym doing) asks;
@@ -394,10 +395,11 @@ module _ (w : Work) (t : Thread) (v : View) (s : ℕ) (a : CascadeAt) (e : Optio
       more same act =
           let q : Thread = record (quiet t) { event = Some (acts.Finish s false) } in
           let u : Thread = next_op q in
-          let walk = next_walks w.shape q f.is_for in record {
+          let walk = next_walks w.shape q f.is_for f.stepper.vars_fit in record {
             takes_it = takes_swap;
             event = act ∙ sym walk.event;
             holds = subst (λ (x : Option Act). WordsHold Judged w.shape (extent_of w.shape) (Some (Swap seen new)) (Some found) w.thread x h_swap) (sym walk.event) (record { names = λ slot x asked. absurd (cc); entries = λ slot x n c e. absurd (cc) });
+            count = walk.count ∙ f.count;
             owns = owns_end same false act u.hands (references u.vars u.hands u.doing) walk.hands walk.same;
             no_claim = no_claim_end same false act;
             asks = walk.asks;
@@ -410,6 +412,7 @@ module _ (w : Work) (t : Thread) (v : View) (s : ℕ) (a : CascadeAt) (e : Optio
         takes_it = takes_swap;
         event = act;
         holds = record { names = λ slot x asked. absurd (cc); entries = entry_none };
+        count = f.count;
         owns = owns_end same true act t.hands (references t.vars t.hands (dying w s (ats.Vacating (record { layout = extent_of w.shape; slot = s; at = once.Asked })) (Some (acts.Finish s true)))) refl (λ g. omega arith);
         no_claim = no_claim_end same true act;
         asks = (refl, (refl, refl));
@@ -536,10 +539,11 @@ module _ (w : Work) (t : Thread) (v : View) (s : ℕ) (a : CascadeAt) (e : Optio
       pub vacates : a ≡ ats.Vacating (record { layout = extent_of w.shape; slot = s; at = once.Asked }) → Comes w v Clear intents.Vacate found v' h_left (dying w s a e) (next_op q)
       vacates at =
           let u : Thread = next_op q in
-          let walk = next_walks w.shape q f.is_for in record {
+          let walk = next_walks w.shape q f.is_for f.stepper.vars_fit in record {
             takes_it = subst (λ b. takes_at (Some found) (dying w s b e)) (sym at) tt;
             event = act_is ∙ sym walk.event;
             holds = subst (λ (x : Option Act). WordsHold Judged w.shape (extent_of w.shape) (Some Clear) (Some found) w.thread x h_left) (sym walk.event) (nothing_shown w.shape (extent_of w.shape) Clear found w.thread (Some left) h_left tt tt);
+            count = walk.count ∙ f.count;
             owns = subst (λ n. Owns v' n (references u.vars u.hands u.doing)) (sym walk.hands) (owns_on w.shape 1 left v v' t.hands (references t.vars t.hands (dying w s a e)) (references u.vars u.hands u.doing) called_left (λ k. refl) refl f.owns (λ g. let x = walk.same g in omega arith));
             no_claim = claims_on w.shape 1 left v v' called_left (λ m n. refl) f.no_claim;
             asks = walk.asks;

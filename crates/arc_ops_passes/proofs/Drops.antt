@@ -134,7 +134,7 @@ module _ (w : Work) (t : Thread) (v : View) (held : Held) (a : AttemptAt) (f : F
             let word_fits : IsCountWord w.shape.entries (λ c. c.deiniting ≡ false) (unpacked found) = subst (IsCountWord w.shape.entries (λ c. c.deiniting ≡ false)) (sym some) (unowned, lives) in
             let done : Loaded (Write (counts_word (strong_less c))) =
             stays w t v (Load at) drop found v' (dropping w held attempt.Loading) u told fact
-            (word_fits, served) (load_none found) refl (count_no_name (extent_of w.shape) held.place) refl (λ g. refl) (refl, refl)
+            (word_fits, served) (load_none found) refl (count_no_name (extent_of w.shape) held.place) refl refl (λ g. refl) (refl, refl)
             (record { working = ap (λ (x : View). x.working) told.after ∙ (load_same found ∙ f.under_way.0.working); none = owes_still w.shape 1 v v' called f.under_way.0.none }, (c, word, lives, refl)) in
             subst Loaded (sym row) done
 
@@ -165,7 +165,7 @@ module _ (w : Work) (t : Thread) (v : View) (held : Held) (a : AttemptAt) (f : F
         let act : act_of w.shape v (Exchange at seen new) drop found ≡ None = ap (λ b. cond b (hit_act v (place_at (extent_of w.shape) at) seen new drop) None) (ne_eqb found seen ne) in
         let called = told_by w.shape drop (Exchange at seen new) v found v' None act told in
         let m = drops_again w.shape held (quiet t) f.is_for in
-        stays w t v (Exchange at seen new) drop found v' d (drop_begun held (quiet t)) told fact ((λ e. cc), tt) act m.event tt m.hands m.same m.asks
+        stays w t v (Exchange at seen new) drop found v' d (drop_begun held (quiet t)) told fact ((λ e. cc), tt) act m.event tt m.hands m.count m.same m.asks
         (fresh_under w.shape v' (drop_begun held (quiet t)).doing m.fresh (swap_works ∙ f.under_way.0.working) (owes_still w.shape 1 v v' called f.under_way.0.none))
 
     -- the reference goes
@@ -200,11 +200,12 @@ module _ (w : Work) (t : Thread) (v : View) (held : Held) (a : AttemptAt) (f : F
     more act =
         let q : Thread = record (quiet t) { event = Some (acts.Drop held.hand false) } in
         let u : Thread = next_op q in
-        let walk = next_walks w.shape q f.is_for in
+        let walk = next_walks w.shape q f.is_for f.stepper.vars_fit in
         let c = called false act in record {
           takes_it = ((λ e. cc), tt);
           event = act ∙ sym walk.event;
           holds = subst (λ e. WordsHold Judged w.shape (extent_of w.shape) (Some (Exchange at seen new)) (Some found) w.thread e h) (sym walk.event) (holds_then false act);
+          count = walk.count ∙ f.count;
           owns = subst (λ n. Owns v' n (references u.vars u.hands u.doing)) (sym walk.hands) (owns_then false act (references u.vars u.hands u.doing) walk.same);
           no_claim = claims_on w.shape 1 (acts.Drop held.hand false) v v' c (λ m e. refl) f.no_claim;
           asks = walk.asks;
@@ -216,6 +217,7 @@ module _ (w : Work) (t : Thread) (v : View) (held : Held) (a : AttemptAt) (f : F
       takes_it = ((λ e. cc), tt);
       event = act;
       holds = holds_then true act;
+      count = f.count;
       owns = owns_then true act (references t.vars t.hands (dies held.place (quiet t)).doing) (λ g. omega arith);
       no_claim = claims_on w.shape 1 (acts.Drop held.hand true) v v' c no_entry f.no_claim;
       asks = (

@@ -66,6 +66,7 @@ pub record Facts (w : Work) (t : Thread) (v : View) (d : Doing) : Type 0 where
   pub legal : IsLegal w.shape v.seen
   pub in_shape : InShape w.shape v.seen
   pub number : v.number ≡ w.thread
+  pub count : length t.vars ≡ w.count
   pub next : next_hand v.number v.seen ≡ t.hands + 1
   pub made : news v.number v.seen ≡ t.made
   pub fits : IsUnderWay t.layout t.shape (length t.vars) d
@@ -83,6 +84,7 @@ pub record Comes (w : Work) (v : View) (step : Step) (intent : Intent) (found : 
   pub takes_it : takes_at (Some found) d
   pub event : act_of w.shape v step intent found ≡ u.event
   pub holds : WordsHold Judged w.shape (extent_of w.shape) (Some step) (Some found) w.thread u.event h
+  pub count : length u.vars ≡ w.count
   pub owns : Owns v' u.hands (references u.vars u.hands u.doing)
   pub no_claim : (e : ℕ) → HasClaim v' e → ⊥
   pub asks : Asks w.shape u u.doing
@@ -148,6 +150,7 @@ facts w t v served stepper sized d = record {
   legal = d.legal;
   in_shape = d.in_shape;
   number = d.number;
+  count = d.count;
   next = ap (λ p. next_hand p v.seen) d.number ∙ (hands_are Judged w.shape w.thread d.notes v.seen d.tied ∙ ap (λ n. n + 1) (sym d.stands.counts.hands_are));
   made = ap (λ p. news p v.seen) d.number ∙ (made_are Judged w.shape w.thread d.notes v.seen d.tied ∙ sym d.stands.counts.made_is);
   fits = stepper.under_way;
@@ -188,6 +191,7 @@ goes_on w t v step intent found v' served d asked told c =
         notes = g.after;
         stands = g.stands;
         tied = subst (Ties Judged w.shape w.thread g.after) (sym seen) tied;
+        count = c.count;
         owns = c.owns;
         no_claim = c.no_claim;
         asks = c.asks;
@@ -209,7 +213,7 @@ told_by shape intent st v found w a is t = subst (λ b. Called shape (acts_of b)
 
 -- an operation has just begun
 pub fresh_under : (shape : HeapShape) (v : View) (d : Doing) → IsFresh d → v.working ≡ idle → OwesNothing v → UnderWay shape v d
-fresh_under shape v doings.Ready fresh works none = absurd fresh
+fresh_under shape v doings.Ready fresh works none = record { working = works; none = none }
 fresh_under shape v (doings.Making to name slot plan) fresh works none = at plan.at fresh
   where
     at : (a : Search) → IsFreshSearch a → (v.working ≡ search_works a) × OwesNothing v × Searched shape v name a
@@ -280,13 +284,14 @@ next_no_name l s x e = omega arith
 -- ---- a step of no event after which the stepper goes on to this
 
 pub stays : (w : Work) (t : Thread) (v : View) (step : Step) (intent : Intent) (found : ℕ) (v' : View) (d : Doing) (u : Thread) (told : Told w.shape intent step v found v') → Facts w t v d → takes_at (Some found) d → act_of w.shape v step intent found ≡ None → u.event ≡ None
-    → ReadsNoName (extent_of w.shape) step → u.hands ≡ t.hands → ((f : Held → ℕ) → references u.vars u.hands u.doing f ≡ references t.vars t.hands d f) → Asks w.shape u u.doing → UnderWay w.shape v' u.doing
+    → ReadsNoName (extent_of w.shape) step → u.hands ≡ t.hands → length u.vars ≡ length t.vars → ((f : Held → ℕ) → references u.vars u.hands u.doing f ≡ references t.vars t.hands d f) → Asks w.shape u u.doing → UnderWay w.shape v' u.doing
     → Comes w v step intent found v' (told.between ++ v.seen) d u
-stays w t v step intent found v' d u told f takes act event no_name hands same asks under =
+stays w t v step intent found v' d u told f takes act event no_name hands count same asks under =
     let c = told_by w.shape intent step v found v' None act told in record {
       takes_it = takes;
       event = act ∙ sym event;
       holds = nothing_shown w.shape (extent_of w.shape) step found w.thread u.event (told.between ++ v.seen) no_name (subst EndsNoDeinit (sym event) tt);
+      count = count ∙ f.count;
       owns = subst (λ n. Owns v' n (references u.vars u.hands u.doing)) (sym hands) (owns_still w.shape 1 v v' t.hands (references t.vars t.hands d) (references u.vars u.hands u.doing) c f.owns same);
       no_claim = claims_still w.shape 1 v v' c f.no_claim;
       asks = asks;

@@ -1,6 +1,7 @@
 -- The laws of a stepper that drives a pass.
-use Rattle.std.proofs.Common.{◌≡◌, ℕ, zero, suc, List, [], ◌++◌, replicate, Option, Some, None, refl, sym, ap, ◌∙◌, subst, arith}
-use Rattle.std.proofs.lemmas.List.{append-nil}
+use Rattle.std.proofs.Common.{◌≡◌, ℕ, zero, suc, List, [], ◌++◌, length, replicate, Option, Some, None, refl, sym, ap, ◌∙◌, subst, arith}
+use Rattle.std.proofs.lemmas.List.{append-nil, length-replicate}
+use Rattle.std.specs.Prelude.{All}
 use Rattle.std.proofs.lemmas.List.Sums.{sum_by-cons}
 use Rattle.arc_model.specs.declared.event.Act.{Act}
 use Rattle.arc_model.specs.declared.event.ObjectName.{ObjectName}
@@ -38,14 +39,16 @@ use Rattle.arc_ops.specs.declared.stepper.Doing.{Doing}
 use Rattle.arc_ops.specs.declared.stepper.Doing.TheVariants as doings
 use Rattle.arc_ops.specs.declared.stepper.Move.{Move}
 use Rattle.arc_ops.specs.declared.stepper.Move.TheVariants as moves
-use Rattle.arc_ops.specs.Programs.{vars_of}
+use Rattle.arc_script.specs.declared.script.Op.{Op}
+use Rattle.arc_ops.specs.Programs.{program_of, vars_of, VarsFit}
+use Rattle.arc_ops.proofs.Made.{is_stepper}
 use Rattle.arc_ops.specs.Thread.{Thread, takes_at, turned_at, begun}
 use Rattle.arc_spelled.specs.StepperStands.{Work, StandsFor, step_in}
 use Rattle.arc_spelled.specs.Shown.{Adds}
 use Rattle.arc_model.specs.Spelling.{Note}
 use Rattle.arc_spelled.specs.Spelled.{with_event_of, WordsHold}
 use Rattle.arc_spelled.proofs.StepperKeeps.{stepper_goes_on}
-use Rattle.arc_spelled.proofs.SteppersSpell.{steppers_begin, added_notes_are_tied}
+use Rattle.arc_spelled.proofs.SteppersSpell.{steppers_begin, added_notes_are_tied, ready_steppers_have_done}
 use Rattle.arc_view.specs.declared.view.View.{View}
 use Rattle.arc_view.specs.Views.{private_words}
 use Rattle.arc_view.specs.Holding.{heap_of}
@@ -54,7 +57,7 @@ use Rattle.arc_view.specs.Steps.{Told}
 use Rattle.arc_view.specs.Passes.{HoldsNothing}
 use Rattle.arc_ops_passes.specs.References.{weigh, in_vars, references, is_ref, has_hand, Owns}
 use Rattle.arc_ops_passes.specs.Drives.{Asks, SearchAsks, AttemptAsks, CascadeAsks, VacateAsks, UnderWay, Drives}
-use Rattle.arc_ops_passes.specs.Laws.{NewSteppersDrive, PhasesBegin, StepsAreAllowed, SteppersDriveOn, EndedSteppersHoldNothing, IsServedWord}
+use Rattle.arc_ops_passes.specs.Laws.{NewSteppersDrive, ScriptsNameVariables, PhasesAreDone, PhasesBegin, StepsAreAllowed, SteppersDriveOn, EndedSteppersHoldNothing, IsServedWord}
 use Rattle.arc_ops_passes.proofs.Walks.{begins_walks}
 use Rattle.arc_ops_passes.proofs.Goes.{quiet, Facts, Comes, facts, goes_on, asked_is, fresh_under}
 use Rattle.arc_ops_passes.proofs.Owned.{owns_same}
@@ -183,6 +186,7 @@ new_steppers_drive script p came v n = record {
   notes = [];
   stands = steppers_begin script p came;
   tied = subst (Ties Judged script.shape p []) (append-nil v.seen) (ties_others Judged script.shape p [] [] v.seen n.unused start);
+  count = length-replicate (vars_of script p) None;
   owns = record {
     leads = λ h one. let z = zero_of (is_ref h) in absurd (omega arith);
     once = λ k. let z = zero_of (has_hand k) in omega arith;
@@ -200,12 +204,19 @@ new_steppers_drive script p came v n = record {
     untouched : IsUntouched p (heap_after []) (heap_of v)
     untouched = subst (λ (h : History). IsUntouched p (heap_after []) (heap_after h)) (append-nil v.seen) (others_leave script.shape p [] v.seen (subst (IsLegal script.shape) (sym (append-nil v.seen)) n.legal) n.unused)
 
+pub scripts_name_variables : ScriptsNameVariables
+scripts_name_variables script p came valid served within =
+    subst (λ n. All (VarsFit n) (program_of script p)) (length-replicate (vars_of script p) None) (is_stepper script p valid served within).vars_fit
+
+pub phases_are_done : PhasesAreDone
+phases_are_done script p came any t v served d asked = record { notes = d.notes; tied = d.tied; done = ready_steppers_have_done script p came any t d.notes served d.stands asked }
+
 -- it asks for something else than the next phase
 not_phase : {X : Type 0} (m : Move) (step : Step) (intent : Intent) → m ≡ moves.PhaseEnd → m ≡ moves.Step step intent → X
 not_phase m step intent e asked = absurd (cc)
 
 pub phases_begin : PhasesBegin
-phases_begin w t v served d asked = at t.doing d.asks d.owns d.under_way (λ takes. let g = stepper_goes_on w served t None d.notes d.stands takes in (g.after, g.adds, g.stands))
+phases_begin w t v served fits d asked = at t.doing d.asks d.owns d.under_way (λ takes. let g = stepper_goes_on w served t None d.notes d.stands takes in (g.after, g.adds, g.stands))
   where
     Went : Doing → Type 0
     Went e = takes_at None e → (after : List Note) × Adds (extent_of w.shape) (step_in t.asked) None (turned_at None e (quiet t)).event d.notes after × StandsFor w (turned_at None e (quiet t)) after
@@ -243,6 +254,9 @@ phases_begin w t v served d asked = at t.doing d.asks d.owns d.under_way (λ tak
     cascading e s (ats.Vacating p) x = clearing e s p.at x.1
     cascading e s ats.Ended x = absurd x
 
+    vars_fit : All (VarsFit (length t.vars)) t.program
+    vars_fit = subst (λ (x : ℕ × List Op). All (VarsFit x.0) x.1) (λ j. (sym d.count j, sym d.stands.works.program_is j)) fits
+
     end_not : t.asked ≡ moves.Ended → ⊥
     end_not x = cc
 
@@ -250,7 +264,7 @@ phases_begin w t v served d asked = at t.doing d.asks d.owns d.under_way (λ tak
     at doings.Ready asks owns under went =
         let g = went refl in
         let u : Thread = begun (quiet t) in
-        let walk = begins_walks w.shape (quiet t) (d.stands.works.layout_is, d.stands.works.shape_is) in
+        let walk = begins_walks w.shape (quiet t) (d.stands.works.layout_is, d.stands.works.shape_is) vars_fit in
         let holds : WordsHold Judged w.shape (extent_of w.shape) (step_in t.asked) None w.thread u.event v.seen = record { names = λ slot x a l. absurd (None≢Some x l); entries = λ slot x n c e a l. absurd (None≢Some x l) } in
         let tied = added_notes_are_tied Judged w.shape (extent_of w.shape) (step_in t.asked) None w.thread u.event v.seen d.notes g.0 g.1 holds d.tied in (
           refl,
@@ -262,6 +276,7 @@ phases_begin w t v served d asked = at t.doing d.asks d.owns d.under_way (λ tak
             notes = g.0;
             stands = g.2;
             tied = subst (λ (x : Option Act). Ties Judged w.shape w.thread g.0 (with_event_of w.thread x v.seen)) walk.event tied;
+            count = walk.count ∙ d.count;
             owns = subst (λ n. Owns v n (references u.vars u.hands u.doing)) (sym walk.hands) (owns_same v t.hands (references t.vars t.hands doings.Ready) (references u.vars u.hands u.doing) owns (λ f. let x = walk.same f in omega arith));
             no_claim = d.no_claim;
             asks = walk.asks;

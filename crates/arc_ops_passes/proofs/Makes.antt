@@ -201,6 +201,7 @@ module _ (w : Work) (t : Thread) (v : View) (to : ℕ) (name : ObjectName) (slot
           takes_it = λ e. cc;
           event = hit_act_is hit ∙ ap (λ n. Some (acts.New (t.hands + 1) name.class n)) same;
           holds = nothing_shown w.shape (extent_of w.shape) (trial (extent_of w.shape) s) found w.thread took.event h tt tt;
+          count = f.count;
           owns = owns_more v v' t.hands (references t.vars t.hands d) (references took.vars took.hands took.doing) (record { hand = t.hands + 1; place = s }) f.owns refl (λ g. omega arith) leads (λ x. leads_on w.shape (look ∷ []) 1 v v' x called (refl, tt)) spots;
           no_claim = claims_on w.shape 1 look v v' called (λ m e. refl) f.no_claim;
           asks = (refl, (same, refl));
@@ -235,7 +236,7 @@ module _ (w : Work) (t : Thread) (v : View) (to : ℕ) (name : ObjectName) (slot
           miss_act_is ne ∙ ap (λ b. when (b && searched at 2 (made_in v.number v.seen) (w.shape.slots - 1) v.trail) acts.Full) (ne_eqb (at s) (at (w.shape.slots - 1)) (λ e. omega (arith, e, less))) in
           let c = told_by w.shape new (trial (extent_of w.shape) s) v found v' None act told in
           let seen : v'.seen ≡ h = ap (λ (x : View). x.seen) told.after ∙ ap (λ a. event_list v.number a ++ h) act in
-          stays w t v (trial (extent_of w.shape) s) new found v' d goes told f (λ e. cc) act refl tt refl (λ g. refl) (refl, (ap (λ n. n + 1) same, refl))
+          stays w t v (trial (extent_of w.shape) s) new found v' d goes told f (λ e. cc) act refl tt refl refl (λ g. refl) (refl, (ap (λ n. n + 1) same, refl))
           (works false (ne_eqb found 0 ne) ∙ f.under_way.0, owes_still w.shape 1 v v' c f.under_way.1, more_tries seen ne)
 
       abbrev full : Thread
@@ -247,10 +248,11 @@ module _ (w : Work) (t : Thread) (v : View) (to : ℕ) (name : ObjectName) (slot
           let act : act_of w.shape v (trial (extent_of w.shape) s) new found ≡ Some acts.Full =
           miss_act_is ne ∙ ap (λ b. when b acts.Full) (subst (λ m. (at s == at m && searched at 2 (made_in v.number v.seen) m v.trail) ≡ true) (sym is) (ap (λ b. b && searched at 2 (made_in v.number v.seen) s v.trail) (eq-eqb (at s) (at s) refl) ∙ tries)) in
           let c = told_by w.shape new (trial (extent_of w.shape) s) v found v' (Some acts.Full) act told in
-          let m : Walks w.shape (put answers.Full (record (quiet t) { event = Some acts.Full })) full (in_vars t.vars) = next_walks w.shape (put answers.Full (record (quiet t) { event = Some acts.Full })) f.is_for in record {
+          let m : Walks w.shape (put answers.Full (record (quiet t) { event = Some acts.Full })) full (in_vars t.vars) = next_walks w.shape (put answers.Full (record (quiet t) { event = Some acts.Full })) f.is_for f.stepper.vars_fit in record {
             takes_it = λ e. cc;
             event = act ∙ sym m.event;
             holds = subst (λ e. WordsHold Judged w.shape (extent_of w.shape) (Some (trial (extent_of w.shape) s)) (Some found) w.thread e h) (sym m.event) (nothing_shown w.shape (extent_of w.shape) (trial (extent_of w.shape) s) found w.thread (Some acts.Full) h tt tt);
+            count = m.count ∙ f.count;
             owns = subst (λ n. Owns v' n (references full.vars full.hands full.doing)) (sym m.hands) (owns_on w.shape 1 acts.Full v v' t.hands (references t.vars t.hands d) (references full.vars full.hands full.doing) c (λ h. refl) refl f.owns (λ g. let e = m.same g in omega arith));
             no_claim = claims_on w.shape 1 acts.Full v v' c (λ m e. refl) f.no_claim;
             asks = m.asks;
@@ -294,8 +296,8 @@ module _ (w : Work) (t : Thread) (v : View) (to : ℕ) (name : ObjectName) (slot
       pub name_comes : Comes w v (naming (extent_of w.shape) name s) new found v' (told.between ++ v.seen) (making w to name slot (search.Naming s)) done
       name_comes =
           let c = told_by w.shape new (naming (extent_of w.shape) name s) v found v' None refl told in
-          let m = replaced_walks w.shape named_thread to (record { hand = t.hands; place = s }) f.is_for f.fits.0 in
-          stays w t v (naming (extent_of w.shape) name s) new found v' (making w to name slot (search.Naming s)) done told f (λ e. cc) refl m.event tt m.hands m.same m.asks
+          let m = replaced_walks w.shape named_thread to (record { hand = t.hands; place = s }) f.is_for f.stepper.vars_fit f.fits.0 in
+          stays w t v (naming (extent_of w.shape) name s) new found v' (making w to name slot (search.Naming s)) done told f (λ e. cc) refl m.event tt m.hands m.count m.same m.asks
           (fresh_under w.shape v' done.doing m.fresh (ap (λ (x : View). x.working) told.after ∙ ap (λ (x : Working). record x { owes = None }) f.under_way.0) (owes_still w.shape 1 v v' c f.under_way.1))
 
 -- ---- by where the search is

@@ -27,6 +27,7 @@ steppers_meet w t v v' n d ready c works =
       notes = d.notes;
       stands = d.stands;
       tied = subst (Ties Judged w.shape w.thread d.notes) (sym f.is) (ties_others Judged w.shape w.thread d.notes v.seen f.rest others d.tied);
+      count = d.count;
       owns = owns_still w.shape n v v' t.hands (references t.vars t.hands t.doing) (references t.vars t.hands t.doing) c d.owns (λ g. refl);
       no_claim = claims_still w.shape n v v' c d.no_claim;
       asks = d.asks;

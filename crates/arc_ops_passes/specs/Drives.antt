@@ -1,5 +1,5 @@
 -- A stepper drives a pass: what it is doing fits what the pass has, by what the pass has seen.
-use Rattle.std.specs.Prelude.{ℕ, true, ◌≡◌, ◌≢◌, List, [], ◌∷◌, Some, None, ⊤}
+use Rattle.std.specs.Prelude.{ℕ, true, ◌≡◌, ◌≢◌, List, [], ◌∷◌, length, Some, None, ⊤}
 use Rattle.arc_model.specs.declared.event.ObjectName.{ObjectName}
 use Rattle.arc_model.specs.declared.event.Origin.TheVariants.{Hand}
 use Rattle.arc_model.specs.declared.shape.Kind.{Kind}
@@ -155,7 +155,8 @@ pub record Drives (w : Work) (t : Thread) (v : View) : Type 0 where
   pub notes : List Note
   pub stands : StandsFor w t notes
   pub tied : Ties Judged w.shape w.thread notes v.seen
-  -- its references are the pass's hands
+  -- it has the variables of its thread, and its references are the pass's hands
+  pub count : length t.vars ≡ w.count
   pub owns : Owns v t.hands (references t.vars t.hands t.doing)
   pub no_claim : (e : ℕ) → HasClaim v e → ⊥
   pub asks : Asks w.shape t t.doing

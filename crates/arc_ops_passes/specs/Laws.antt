@@ -1,17 +1,20 @@
 -- The laws of a stepper that drives a pass.
-use Rattle.std.specs.Prelude.{ℕ, ◌≡◌, List, [], Some, None, ⊤}
-use Rattle.arc_model.specs.History.{share, IsLegal}
+use Rattle.std.specs.Prelude.{ℕ, ◌≡◌, ◌≤◌, List, [], length, All, Some, None, ⊤}
+use Rattle.arc_model.specs.History.{History, share, IsLegal}
 use Rattle.arc_rule.specs.declared.step.Step.{Step}
 use Rattle.arc_bits.specs.Words.{unpacked}
 use Rattle.arc_rule.specs.declared.step.Step.TheVariants.{Load}
 use Rattle.arc_rule.specs.declared.step.Intent.{Intent}
 use Rattle.arc_rule.specs.declared.step.Intent.TheVariants as intents
-use Rattle.arc_programs.specs.Programs.{Hands}
+use Rattle.arc_programs.specs.Programs.{Hands, OpsDone}
 use Rattle.arc_script.specs.declared.script.Script.{Script}
+use Rattle.arc_script.specs.Valid.{IsScript}
+use Rattle.arc_ops.specs.Served.{IsServed}
+use Rattle.arc_ops.specs.Programs.{VarsFit, phases_of, program_of, ops_in_first, vars_of}
 use Rattle.arc_cells.specs.Cascades.{IsInline}
 use Rattle.arc_ops.specs.declared.stepper.Move.TheVariants as moves
 use Rattle.arc_ops.specs.Thread.{Thread, IsStepper, IsUpWord, stepper_of, takes, turned}
-use Rattle.arc_spelled.specs.StepperStands.{Work, IsServedWork}
+use Rattle.arc_spelled.specs.StepperStands.{Work, IsServedWork, variables}
 use Rattle.arc_spelled.specs.Spelled.{work_of}
 use Rattle.arc_view.specs.declared.view.Role.TheVariants.{Pass}
 use Rattle.arc_view.specs.declared.view.View.{View}
@@ -42,10 +45,27 @@ pub record IsNewPass (p : ℕ) (w : Work) (v : View) : Type 0 where
 abbrev pub NewSteppersDrive : Type 0
 NewSteppersDrive = (script : Script) (p : ℕ) (came : Hands) (v : View) → IsNewPass p (work_of script p came) v → Drives (work_of script p came) (stepper_of script p) v
 
+-- the operations name variables that there are
+abbrev pub NamesVariables : Work → Type 0
+NamesVariables w = All (VarsFit w.count) w.program
+
+-- Those of a thread of a script do.
+abbrev pub ScriptsNameVariables : Type 0
+ScriptsNameVariables = (script : Script) (p : ℕ) (came : Hands) → IsScript script → IsServed script → p ≤ length script.threads → NamesVariables (work_of script p came)
+
 -- Where it asks for nothing in a phase, it goes on when the next phase begins.
 abbrev pub PhasesBegin : Type 0
-PhasesBegin = (w : Work) (t : Thread) (v : View) → IsServedWork w → Drives w t v → t.asked ≡ moves.PhaseEnd →
+PhasesBegin = (w : Work) (t : Thread) (v : View) → IsServedWork w → NamesVariables w → Drives w t v → t.asked ≡ moves.PhaseEnd →
     takes t None × Drives w (turned t None) v × ((turned t None).event ≡ None)
+
+-- What the pass did is what the thread has in the phases before the one that its stepper waits for, no less and no more, whatever came out of cells.
+pub record HasDonePhases (script : Script) (p : ℕ) (any : Hands) (t : Thread) (h : History) : Type 0 where
+  pub notes : List Note
+  pub tied : Ties Judged script.shape p notes h
+  pub done : OpsDone script.shape p any (program_of script p) (vars_of script p) (ops_in_first t.phase (phases_of script p)) (variables t.vars) notes
+
+abbrev pub PhasesAreDone : Type 0
+PhasesAreDone = (script : Script) (p : ℕ) (came any : Hands) (t : Thread) (v : View) → IsServed script → Drives (work_of script p came) t v → t.asked ≡ moves.PhaseEnd → HasDonePhases script p any t v.seen
 
 -- The pass may make the step that its stepper asks for.
 abbrev pub StepsAreAllowed : Type 0

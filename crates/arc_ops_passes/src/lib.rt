@@ -7,12 +7,19 @@
 //! rest on these laws.
 #![tactic(auto)]
 
-ghost use Rattle.arc_ops_passes.specs.Laws.{NewSteppersDrive, PhasesBegin, StepsAreAllowed, SteppersDriveOn, EndedSteppersHoldNothing, SteppersMeet, NotesAreTakenIn};
+ghost use Rattle.arc_ops_passes.specs.Laws.{NewSteppersDrive, ScriptsNameVariables, PhasesBegin, PhasesAreDone, StepsAreAllowed, SteppersDriveOn, EndedSteppersHoldNothing, SteppersMeet, NotesAreTakenIn};
 
-/// A new stepper drives a new pass, and where it waits for the next phase it goes on when that begins.
+/// A new stepper drives a new pass.
 pub fn steppers_begin()
-    ensures new { NewSteppersDrive }
-    ensures phase { PhasesBegin }
+    ensures { NewSteppersDrive }
+{}
+
+/// Where a stepper waits for a phase, its pass has done exactly the phases before that one, and it goes on when the phase begins, if its
+/// operations name variables that there are, as those of a script do.
+pub fn phases_begin()
+    ensures done { PhasesAreDone }
+    ensures variables { ScriptsNameVariables }
+    ensures begin { PhasesBegin }
 {}
 
 /// A pass may make each step that the stepper that drives it asks for.

@@ -3,7 +3,7 @@ use Rattle.std.proofs.Common.{◌≡◌, ◌≢◌, ℕ, zero, suc, ◌+◌, ◌
 use Rattle.std.proofs.lemmas.Bool.{ltb-true, ltb-false, lt-ltb, cases_lt}
 use Rattle.std.proofs.Math.ListN.{get_or-map}
 use Rattle.std.proofs.lemmas.List.{map-set, set-get_or, length-set, length-append, length-map, length-take, length-take-le, take_all, take-append-le, take-append-drop, reverse-append, get_or-set_same, get_or-set_other, drop_all}
-use Rattle.std.proofs.lemmas.List.Concat.{flat_map-append}
+use Rattle.std.proofs.lemmas.List.Concat.{flat_map-append, flat_map-cons}
 use Rattle.std.proofs.lemmas.List.Elements.{All-get_or}
 use Rattle.std.proofs.lemmas.List.Quantifiers.{position-Some}
 use Rattle.std.proofs.lemmas.List.Sums.{prefix_len_passes}
@@ -183,10 +183,6 @@ nothing-left [] i e = omega arith
 nothing-left (y ∷ xs) zero e = absurd (cc)
 nothing-left (y ∷ xs) (suc i) e = let h = nothing-left xs i e in omega arith
 
-done-within : {w : Work} {i : ℕ} {vars : Variables} {now : List Note} → OpsDone w.shape w.thread w.came w.program w.count i vars now → i ≤ length w.program
-done-within (ops_none e) = omega arith
-done-within {w = w} (ops_one {i = i} {o = o} d there e x) = let h = slice_get_within w.program i o there in omega arith
-
 -- a drop begins
 pub drop-asks : (w : Work) (t : Thread) (held : Held) (now : List Note) → WorksOn w t.layout t.shape t.thread t.phases t.program → IsCounted w t.hands t.made t.kept now → number_of now ≡ number_at w t.index →
     IsOfPhase w t.phase t.index → DropEnds w t.index held t.vars now → StandsFor w (drop_begun held t) now
@@ -286,8 +282,10 @@ first-more zero phases = omega arith
 first-more (suc k) [] = omega arith
 first-more (suc k) (ops ∷ phases) =
     let h = first-more k phases in
-    let here = length-append ops (flat_map (λ ops. ops) (take k phases)) in
-    let there = length-append ops (flat_map (λ ops. ops) (take (k + 1) phases)) in
+    let here : ops_in_first (suc k) (ops ∷ phases) ≡ length ops + ops_in_first k phases = ap length (flat_map-cons (λ (o : List Op). o) ops (take k phases)) ∙ length-append ops (flat_map (λ (o : List Op). o) (take k phases)) in
+    let there : ops_in_first (suc (k + 1)) (ops ∷ phases) ≡ length ops + ops_in_first (k + 1) phases = ap length (flat_map-cons (λ (o : List Op). o) ops (take (k + 1) phases)) ∙ length-append ops (flat_map (λ (o : List Op). o) (take (k + 1) phases)) in
+    let plus : suc k + 1 ≡ suc (k + 1) = omega arith in
+    let next : ops_in_first (suc k + 1) (ops ∷ phases) ≡ ops_in_first (suc (k + 1)) (ops ∷ phases) = ap (λ n. ops_in_first n (ops ∷ phases)) plus in
     omega arith
 
 first-all : (k : ℕ) (phases : List (List Op)) → length phases ≤ k → ops_in_first k phases ≡ length (flat_map (λ ops. ops) phases)
