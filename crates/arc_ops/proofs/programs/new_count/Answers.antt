@@ -9,7 +9,7 @@ use Rattle.arc_ops.proofs.programs.new_count.Goals as goal
 pub overflow_add-count : goal.overflow_add-count
 overflow_add-count c =
     let few = sum_fits new_count_of (λ (t : ThreadDecl). sum_by (λ (ops : List Op). length ops) t.phases) thread_few c.args.threads.now c.loop-thread.thread-index _ _ c.loop-thread.count c.new_count_of-count.result c.loop-thread-test.true
-        c.thread-item.is c.loop-thread.invariant c.new_count_of-count.ensures.few in
+    c.thread-item.is c.loop-thread.invariant c.new_count_of-count.ensures.few in
     let most = c.requires.few in
     omega arith
 

@@ -8,7 +8,7 @@ use Rattle.arc_ops.proofs.programs.new_count_of.Goals as goal
 pub overflow_add-count : goal.overflow_add-count
 overflow_add-count c =
     let few = sum_fits (λ (ops : List Op). count_by is_new ops) (λ (ops : List Op). length ops) new_few c.args.thread.now.phases c.loop-ops.ops-index _ _ c.loop-ops.count c.new_in-count.result (rw c.as_slice-ops-items.ensures at c.loop-ops-test.true)
-        (rw c.as_slice-ops-items.ensures at c.ops-item.is) c.loop-ops.invariant (rw c.as_slice.ensures at c.new_in-count.ensures.few) in
+    (rw c.as_slice-ops-items.ensures at c.ops-item.is) c.loop-ops.invariant (rw c.as_slice.ensures at c.new_in-count.ensures.few) in
     let most = c.requires.few in
     omega arith
 

@@ -1,4 +1,4 @@
-use Rattle.std.proofs.Common.{◌≤◌, arith, length, List}
+use Rattle.std.proofs.Common.{arith, length, List}
 use Rattle.std.proofs.lemmas.List.Concat.{length-flat_map}
 use Rattle.arc_script.specs.declared.script.Op.{Op}
 use Rattle.arc_ops.proofs.Counts.{sum_fits, sum_few, first_counted}
@@ -7,7 +7,7 @@ use Rattle.arc_ops.proofs.programs.ops_in_first.Goals as goal
 pub overflow_add-count : goal.overflow_add-count
 overflow_add-count c =
     let few = sum_fits (λ (ops : List Op). length ops) (λ (ops : List Op). length ops) (λ ops. omega arith) c.args.phases.now c.loop-i.i _ _ c.loop-i.count c.len-count.result (let a = c.loop-i-test.true in let b = c.min-i-end.ensures in omega arith)
-        c.index-phases-i.is c.loop-i.invariant (let a = c.len-count.ensures in omega arith) in
+    c.index-phases-i.is c.loop-i.invariant (let a = c.len-count.ensures in omega arith) in
     let most = c.requires.few in
     let total = length-flat_map (λ (ops : List Op). ops) c.args.phases.now in
     omega arith

@@ -1,5 +1,4 @@
-use Rattle.std.proofs.Common.{◌≡◌, Some, sym, ap, ◌∙◌}
-use Rattle.std.specs.Prelude.{slice_get}
+use Rattle.std.proofs.Common.{ap, ◌∙◌}
 use Rattle.arc_ops.specs.Thread.{Thread, begun}
 use Rattle.arc_ops.proofs.Moves.{moved}
 use Rattle.arc_ops.proofs.Passed.{begun_from, there}
