@@ -1,5 +1,5 @@
 -- A replay under way: each thread's stepper drives a pass, and the rule holds of the plain words and the passes' views.
-use Rattle.std.specs.Prelude.{ℕ, ◌≡◌, ◌<◌, ◌≤◌, List, [], ◌++◌, length, map, replicate, slice_get, slice_index, slice_set, Some, None}
+use Rattle.std.specs.Prelude.{ℕ, ◌≡◌, ◌≤◌, ◌⊎◌, List, [], ◌++◌, length, map, replicate, slice_get, slice_set, Some, None}
 use mathlib.Core.Option.{some}
 use lib.ListN.{get_elem?}
 use Rattle.atomic_table.specs.Table.{State}
@@ -10,7 +10,7 @@ use Rattle.arc_model.specs.SpellingTies.{Ties}
 use Rattle.arc_model.specs.SpellingTies.Causes.{Judged}
 use Rattle.arc_rule.specs.Places.{extent_of, word_count}
 use Rattle.arc_rule.specs.Shown.{Shows}
-use Rattle.arc_rule.specs.Steps.{place_of, found_by, made_by}
+use Rattle.arc_rule.specs.Steps.{found_by, made_by}
 use Rattle.arc_rule.specs.declared.step.Step.{Step}
 use Rattle.arc_rule.specs.declared.step.Intent.{Intent}
 use Rattle.arc_ops.specs.declared.stepper.Move.TheVariants as moves
@@ -28,7 +28,7 @@ use Rattle.arc_view.specs.Kinds.{act_of, event_list}
 use Rattle.arc_view.specs.Steps.{Told}
 use Rattle.arc_ops_passes.specs.Drives.{Drives}
 use Rattle.arc_view.specs.Built.{IsAllowed}
-use Rattle.arc_ops_passes.specs.Laws.{IsServedWord}
+use Rattle.arc_ops_passes.specs.Laws.{IsServedWord, NamesVariables}
 
 -- words and views as a table with no slot
 abbrev pub table : List ℕ → List View → State (Unit {0}) View
@@ -43,7 +43,7 @@ pub record StepMade (shape : HeapShape) (step : Step) (intent : Intent) (words :
 
 abbrev pub PlainStepsKeep : Type 0
 PlainStepsKeep = (shape : HeapShape) (words : List ℕ) (views : List View) (id : ℕ) (v : View) (step : Step) (intent : Intent) (k : IsKept shape (table words views)) → get_elem? views id ≡ some v → v.role ≡ Pass →
-    slice_index words (place_of step) < 18446744073709551616 → IsAllowed shape v step intent → StepMade shape step intent words views id v k.log
+    IsAllowed shape v step intent → StepMade shape step intent words views id v k.log
 
 -- The threads at work, each at the seat of its place, on words that show the history but for what is under way.
 pub record Replaying (shape : HeapShape) (work : ℕ → Work) (threads : List Thread) (words : List ℕ) (log : History) : Type 0 where
@@ -60,8 +60,7 @@ pub record MayTurn (shape : HeapShape) (work : ℕ → Work) (threads : List Thr
   pub stepper : IsStepper t
   pub served : IsServedWork (work i)
   pub same_shape : (work i).shape ≡ shape
-  pub small : slice_index words (place_of step) < 18446744073709551616
-  pub word : IsServedWord (work i).shape.caps.strong step intent (found_by step words)
+  pub word : IsServedWord (work i).shape step intent (found_by step words)
 
 -- A thread of the schedule makes its step: the stepper may be given what it finds, and its event is the history's next.
 abbrev pub ReplaysGoOn : Type 0
@@ -69,10 +68,20 @@ ReplaysGoOn = (shape : HeapShape) (work : ℕ → Work) (threads : List Thread) 
     MayTurn shape work threads words i t step intent →
     takes t (Some (found_by step words)) × Replaying shape work (slice_set threads i (turned t (Some (found_by step words)))) (made_by step words) (with_event_of (work i).thread (turned t (Some (found_by step words))).event log)
 
--- A thread whose next phase begins makes no step.
+-- thread i after some threads have begun their next phase: this one, or as it was
+pub record IsBegun (threads : List Thread) (i : ℕ) (t : Thread) : Type 0 where
+  pub before : Thread
+  pub there : slice_get threads i ≡ Some before
+  pub begun : (t ≡ before) ⊎ ((before.asked ≡ moves.PhaseEnd) × (t ≡ turned before None))
+
+pub record AreBegun (threads after : List Thread) : Type 0 where
+  pub as_many : length after ≡ length threads
+  pub each : (i : ℕ) (t : Thread) → slice_get after i ≡ Some t → IsBegun threads i t
+
+-- Threads whose next phase begins make no step.
 abbrev pub ReplaysBeginPhases : Type 0
-ReplaysBeginPhases = (shape : HeapShape) (work : ℕ → Work) (threads : List Thread) (words : List ℕ) (log : History) (i : ℕ) (t : Thread) → Replaying shape work threads words log → slice_get threads i ≡ Some t → IsServedWork (work i) →
-    t.asked ≡ moves.PhaseEnd → takes t None × Replaying shape work (slice_set threads i (turned t None)) words log
+ReplaysBeginPhases = (shape : HeapShape) (work : ℕ → Work) (threads after : List Thread) (words : List ℕ) (log : History) → Replaying shape work threads words log → ((i : ℕ) (t : Thread) → slice_get threads i ≡ Some t → IsServedWork (work i) × NamesVariables (work i)) → AreBegun threads after →
+    Replaying shape work after words log
 
 -- One legal history, in which each thread's notes are its own. Where all have ended the words show the heap after it.
 pub record IsOneHistory (shape : HeapShape) (work : ℕ → Work) (threads : List Thread) (words : List ℕ) (log : History) : Type 0 where

@@ -1,8 +1,8 @@
 -- A replay: which steps are made, in which order, and what comes of them.
-use Rattle.std.specs.Prelude.{ℕ, zero, suc, Bool, true, false, ◌≡◌, ◌≤◌, ◌<◌, ◌+◌, ◌^◌, if◌then◌else◌, List, [], ◌∷◌, drop, length, map, reverse, replicate, slice_get, slice_index, slice_set, All, Option, Some, None}
+use Rattle.std.specs.Prelude.{ℕ, zero, suc, Bool, true, false, ◌≡◌, ◌≤◌, ◌<◌, ◌+◌, if◌then◌else◌, List, [], ◌∷◌, length, map, replicate, slice_get, slice_set, Option, Some, None}
 use Rattle.arc_model.specs.declared.event.Act.{Act}
 use Rattle.arc_rule.specs.Places.{extent_of, word_count}
-use Rattle.arc_rule.specs.Steps.{place_of, found_by, made_by}
+use Rattle.arc_rule.specs.Steps.{found_by, made_by}
 use Rattle.arc_rule.specs.declared.step.Step.{Step}
 use Rattle.arc_rule.specs.declared.step.Intent.{Intent}
 use Rattle.arc_script.specs.declared.script.Script.{Script}
@@ -91,12 +91,11 @@ stepped p t step s = record s {
   events = stamped (s.steps + 1) p (turned t (Some (found_by step s.words))).event s.events;
 }
 
--- thread p, a stepper, asks for this step, and may be given what it finds, a word of 64 bits
+-- thread p, a stepper, asks for this step, and may be given what it finds
 pub record MayStep (s : Stage) (p : ℕ) (t : Thread) (step : Step) (intent : Intent) : Type 0 where
   pub there : slice_get s.threads p ≡ Some t
   pub stepper : IsStepper t
   pub asked : t.asked ≡ moves.Step step intent
-  pub small : slice_index s.words (place_of step) < 2 ^ 64
   pub takes_it : takes t (Some (found_by step s.words))
 
 -- ---- the order of the steps
