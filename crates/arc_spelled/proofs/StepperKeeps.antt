@@ -48,6 +48,7 @@ use Rattle.arc_programs.specs.Programs.IsAnswered.{made, copied}
 use Rattle.arc_programs.specs.ProgramsLines.{number_of}
 use Rattle.arc_programs.proofs.ProgramsSteps.{answers_last, new_full}
 use Rattle.arc_ops.specs.Programs.{ops_in_first}
+use Rattle.arc_ops.proofs.Counts.{first_more}
 use Rattle.arc_ops.specs.declared.stepper.Held.{Held}
 use Rattle.arc_ops.specs.declared.stepper.Doing.{Doing}
 use Rattle.arc_ops.specs.declared.stepper.Doing.TheVariants.{Ready, Making, Copying, Dropping, Dying, Ended}
@@ -60,7 +61,7 @@ use Rattle.arc_spelled.specs.Shown.Says.{nothing, line}
 use Rattle.arc_spelled.specs.CascadeStands.{asked_by, with_deinit, CascadeUpTo}
 use Rattle.arc_spelled.specs.StepperStands.{Work, IsServedWork, strong_held, variables, IsOver, IsBegun, IsMade, MakesUpTo, IsCopying, DropEnds, step_in, IsDying, StepperUpTo, WorksOn, IsCounted, number_at, IsNumberedIf, IsOfPhase, IsInPhase, StandsFor, StepperGoesOn}
 use Rattle.arc_spelled.proofs.CascadeKeeps.{CascadeComes, cascade_comes, all_done}
-use Rattle.arc_spelled.proofs.StepperSteps.{acts-added, Comes, comes-after, counted-line, number-here, value-held, over-done, drop-asks, first-more, begins, goes-on, replaces}
+use Rattle.arc_spelled.proofs.StepperSteps.{acts-added, Comes, comes-after, counted-line, number-here, value-held, over-done, drop-asks, begins, goes-on, replaces}
 
 -- a stepper that was given a word, and what it stands for then
 record Turns (w : Work) (t new : Thread) (last : Option ℕ) (now : List Note) : Type 0 where
@@ -381,7 +382,7 @@ turns w served t last now s takes = go t.doing s.up_to s.number s.in_phase takes
     go Ready u number phase takes = plainly w t _ last now None
         (begins w served (drop t.index (take (ops_in_first (t.phase + 1) t.phases) t.program)) (record t { doing = Ended; first = false; event = None }) now s.works s.counts
         (ap (λ ps. drop t.index (take (ops_in_first (t.phase + 1) ps) t.program)) s.works.phases_is ∙ ap (λ (p : List Op). drop t.index (take (ops_in_first (t.phase + 1) w.phases) p)) s.works.program_is)
-        (rw phase (first-more t.phase w.phases)) u)
+        (rw phase (first_more t.phase w.phases)) u)
     go (Making to name slot plan) u number phase takes = makes w served t last now s.works s.counts number phase to name slot plan plan.at u
     go (Copying to held plan) u number phase takes = copies w served t last now s.works s.counts number phase to held plan plan.at u takes.0 takes.1
     go (Dropping held plan) u number phase takes = drops w served t last now s.works s.counts number phase held plan plan.at u takes.0 takes.1

@@ -2,8 +2,7 @@
 use Rattle.std.proofs.Common.{◌≡◌, ◌≢◌, ℕ, zero, suc, ◌+◌, ◌<◌, ◌≤◌, Bool, true, false, not, cond, ltb, List, [], ◌∷◌, ◌++◌, length, take, drop, set, get_or, Option, Some, None, ◌⊎◌, inl, inr, refl, sym, ap, subst, ◌∙◌, arith, add-one}
 use Rattle.std.proofs.lemmas.Bool.{ltb-true, ltb-false, lt-ltb, cases_lt}
 use Rattle.std.proofs.Math.ListN.{get_or-map}
-use Rattle.std.proofs.lemmas.List.{map-set, set-get_or, length-set, length-append, length-map, length-take, length-take-le, take_all, take-append-le, take-append-drop, reverse-append, get_or-set_same, get_or-set_other, drop_all}
-use Rattle.std.proofs.lemmas.List.Concat.{flat_map-append, flat_map-cons}
+use Rattle.std.proofs.lemmas.List.{map-set, set-get_or, length-set, length-append, length-map, length-take, length-take-le, take_all, take-append-le, reverse-append, get_or-set_same, get_or-set_other, drop_all}
 use Rattle.std.proofs.lemmas.List.Elements.{All-get_or}
 use Rattle.std.proofs.lemmas.List.Quantifiers.{position-Some}
 use Rattle.std.proofs.lemmas.List.Sums.{prefix_len_passes}
@@ -23,10 +22,9 @@ use Rattle.arc_script.specs.declared.script.Op.{Op}
 use Rattle.arc_script.specs.declared.script.Op.TheVariants as op
 use Rattle.arc_programs.specs.Variables.{Variables, put as put_var}
 use Rattle.arc_programs.specs.Variables as programs
-use Rattle.arc_programs.specs.Programs.{OpsDone, IsFromNil, IsAnswered, ScopeEnds}
+use Rattle.arc_programs.specs.Programs.{IsFromNil, IsAnswered, ScopeEnds}
 use Rattle.arc_programs.specs.Programs.IsFromNil.{copy as copy_from_nil, move as move_from_nil}
 use Rattle.arc_programs.specs.Programs.IsAnswered.{from_nil as takes_nil, moved as moves_held}
-use Rattle.arc_programs.specs.Programs.OpsDone.{none as ops_none, one as ops_one}
 use Rattle.arc_programs.specs.Programs.ScopeEnds.{begins as scope_starts, dropped as var_dropped}
 use Rattle.arc_programs.specs.ProgramsLines.{lines_of, number_of, told}
 use Rattle.arc_programs.proofs.ProgramsSteps.{IsNext, answers_last, drops_last, drop_of, drop_of_nil, scope_goes_on}
@@ -35,6 +33,7 @@ use Rattle.arc_ops.specs.declared.stepper.Doing.TheVariants.{Ready, Ended}
 use Rattle.arc_ops.specs.declared.stepper.Move.TheVariants as moves
 use Rattle.arc_ops.specs.Kept.{Kept, with_line}
 use Rattle.arc_ops.specs.Programs.{ops_in_first}
+use Rattle.arc_ops.proofs.Counts.{first_few, first_all}
 use Rattle.arc_ops.specs.Served.{IsServedOp}
 use Rattle.arc_ops.specs.Thread.{Thread, value, is_held, put, set_var, skipped, drop_begun, begun_nil, begun_copy, moved, begun_move, begun_drop, phase_over, begun_at, begun, scope_drop, scope_at, scope_begun, next_op, replaced_old, replaced}
 use Rattle.arc_ops.specs.Thread as thread
@@ -267,30 +266,6 @@ scopes w t now works counts past number last s = go (position is_held t.vars) re
 
 -- ---- the operations of a phase
 
--- the first phases have no more operations than there are
-first-few : (k : ℕ) (phases : List (List Op)) → ops_in_first k phases ≤ length (flat_map (λ ops. ops) phases)
-first-few k phases =
-    let whole : flat_map (λ ops. ops) (take k phases ++ drop k phases) ≡ flat_map (λ ops. ops) phases = ap (λ ps. flat_map (λ ops. ops) ps) (take-append-drop k phases) in
-    let parts = flat_map-append (λ ops. ops) (take k phases) (drop k phases) in
-    let sum = length-append (flat_map (λ ops. ops) (take k phases)) (flat_map (λ ops. ops) (drop k phases)) in
-    let total : length (flat_map (λ ops. ops) (take k phases) ++ flat_map (λ ops. ops) (drop k phases)) ≡ length (flat_map (λ ops. ops) phases) = ap length (sym parts ∙ whole) in
-    omega arith
-
--- nor fewer with one phase more
-pub first-more : (k : ℕ) (phases : List (List Op)) → ops_in_first k phases ≤ ops_in_first (k + 1) phases
-first-more zero phases = omega arith
-first-more (suc k) [] = omega arith
-first-more (suc k) (ops ∷ phases) =
-    let h = first-more k phases in
-    let here : ops_in_first (suc k) (ops ∷ phases) ≡ length ops + ops_in_first k phases = ap length (flat_map-cons (λ (o : List Op). o) ops (take k phases)) ∙ length-append ops (flat_map (λ (o : List Op). o) (take k phases)) in
-    let there : ops_in_first (suc (k + 1)) (ops ∷ phases) ≡ length ops + ops_in_first (k + 1) phases = ap length (flat_map-cons (λ (o : List Op). o) ops (take (k + 1) phases)) ∙ length-append ops (flat_map (λ (o : List Op). o) (take (k + 1) phases)) in
-    let plus : suc k + 1 ≡ suc (k + 1) = omega arith in
-    let next : ops_in_first (suc k + 1) (ops ∷ phases) ≡ ops_in_first (suc (k + 1)) (ops ∷ phases) = ap (λ n. ops_in_first n (ops ∷ phases)) plus in
-    omega arith
-
-first-all : (k : ℕ) (phases : List (List Op)) → length phases ≤ k → ops_in_first k phases ≡ length (flat_map (λ ops. ops) phases)
-first-all k phases most = ap (λ ps. length (flat_map (λ ops. ops) ps)) (take_all k phases most)
-
 get-take : {X : Type 0} (n : ℕ) (xs : List X) (i : ℕ) (x : X) → slice_get (take n xs) i ≡ Some x → (slice_get xs i ≡ Some x) × (i < n)
 get-take zero xs i x e = absurd (cc)
 get-take (suc n) [] i x e = absurd (cc)
@@ -326,7 +301,7 @@ ends-phase w served t now works counts r before d = subst P (sym works.phases_is
     at_end : t.index ≡ ops_in_first (t.phase + 1) w.phases
     at_end =
         let most = nothing-left (take (ops_in_first (t.phase + 1) w.phases) w.program) t.index r in
-        let few = first-few (t.phase + 1) w.phases in
+        let few = first_few (t.phase + 1) w.phases in
         let all = total in
         let long : length (take (ops_in_first (t.phase + 1) w.phases) w.program) ≡ ops_in_first (t.phase + 1) w.phases = length-take-le (ops_in_first (t.phase + 1) w.phases) w.program (omega arith) in
         omega arith
@@ -345,7 +320,7 @@ ends-phase w served t now works counts r before d = subst P (sym works.phases_is
         }))
       where
         over : t.index ≡ length w.program
-        over = at_end ∙ first-all (t.phase + 1) w.phases last ∙ sym total
+        over = at_end ∙ first_all (t.phase + 1) w.phases last ∙ sym total
 
         past : (b : Bool) → ltb t.index (length w.program) ≡ b → ltb t.index (length w.program) ≡ false
         past true e = let below = ltb-true t.index (length w.program) e in let same = over in absurd (omega arith)

@@ -1,9 +1,8 @@
 -- A thread's stepper begins with no note, and its notes spell the thread's program where it has ended.
-use Rattle.std.proofs.Common.{◌≡◌, ℕ, zero, suc, ◌-◌, ◌<◌, ◌≤◌, Bool, true, false, cond, eqb, List, [], ◌∷◌, ◌++◌, length, replicate, take, Option, Some, None, refl, sym, ap, subst, ◌∙◌, arith}
+use Rattle.std.proofs.Common.{◌≡◌, ℕ, zero, suc, ◌-◌, ◌<◌, ◌≤◌, Bool, true, false, cond, eqb, List, [], ◌∷◌, ◌++◌, length, replicate, take, Option, Some, None, refl, ap, subst, ◌∙◌, arith}
 use Rattle.std.proofs.Math.Seq.{take-nil}
 use Rattle.std.proofs.lemmas.Bool.{eqb-true}
 use Rattle.std.proofs.lemmas.List.{take_all}
-use Rattle.std.proofs.lemmas.List.Concat.{flat_map-cons}
 use Rattle.std.proofs.lemmas.List.Elements.{All-get_or, All-from_recursion, recursion_from_All}
 use Rattle.std.proofs.lemmas.Option.{slice_get_within, get_or_from_slice_get}
 use Rattle.std.specs.Prelude.{slice_get, All, flat_map}
@@ -48,14 +47,13 @@ use Rattle.arc_spelled.proofs.StepperKeeps.{stepper_goes_on}
 
 -- ---- what a script's thread works on is served
 
-both-served : (front rest : List Op) → AllByRecursion IsServedOp front → AllByRecursion IsServedOp rest → AllByRecursion IsServedOp (front ++ rest)
-both-served [] rest f r = r
-both-served (o ∷ front) rest f r = (f.0, both-served front rest f.1 r)
+both-served : (front back : List Op) → AllByRecursion IsServedOp front → AllByRecursion IsServedOp back → AllByRecursion IsServedOp (front ++ back)
+both-served [] back f b = b
+both-served (o ∷ front) back f b = (f.0, both-served front back f.1 b)
 
 phases-served : (phases : List (List Op)) → AllByRecursion (All IsServedOp) phases → AllByRecursion IsServedOp (flat_map (λ ops. ops) phases)
 phases-served [] h = tt
-phases-served (ops ∷ rest) h =
-    subst (AllByRecursion IsServedOp) (sym (flat_map-cons (λ (o : List Op). o) ops rest)) (both-served ops (flat_map (λ o. o) rest) (recursion_from_All IsServedOp ops h.0) (phases-served rest h.1))
+phases-served (ops ∷ rest) h = both-served ops (flat_map (λ ops. ops) rest) (recursion_from_All IsServedOp ops h.0) (phases-served rest h.1)
 
 thread-served : (ts : List ThreadDecl) (i : ℕ) → AllByRecursion IsServedThread ts → AllByRecursion IsServedOp (flat_map (λ ops. ops) (phases_in (slice_get ts i)))
 thread-served [] i h = tt
