@@ -1,0 +1,128 @@
+-- A replay: which steps are made, in which order, and what comes of them.
+use Rattle.std.specs.Prelude.{ℕ, zero, suc, Bool, true, false, ◌≡◌, ◌≤◌, ◌<◌, ◌+◌, ◌^◌, if◌then◌else◌, List, [], ◌∷◌, drop, length, map, reverse, replicate, slice_get, slice_set, All, Option, Some, None}
+use Rattle.arc_model.specs.declared.event.Act.{Act}
+use Rattle.arc_rule.specs.Places.{extent_of, word_count}
+use Rattle.arc_rule.specs.Steps.{found_by, made_by}
+use Rattle.arc_rule.specs.declared.step.Step.{Step}
+use Rattle.arc_rule.specs.declared.step.Intent.{Intent}
+use Rattle.arc_script.specs.declared.script.Script.{Script}
+use Rattle.arc_ops.specs.declared.told.Stamped.{Stamped}
+use Rattle.arc_ops.specs.declared.stepper.Move.{Move}
+use Rattle.arc_ops.specs.declared.stepper.Move.TheVariants as moves
+use Rattle.arc_ops.specs.Thread.{Thread, stepper_of, takes, turned}
+
+-- Where a replay is: how many phases have begun, the places of the schedule that are left, the threads with thread 0 first, the words, how many steps
+-- were made, and the events, the newest first.
+pub record Stage : Type 0 where
+  pub begun : ℕ
+  pub places : List ℕ
+  pub threads : List Thread
+  pub words : List ℕ
+  pub steps : ℕ
+  pub events : List Stamped
+
+-- ---- what a thread asks for
+
+abbrev pub is_step : Move → Bool
+is_step (moves.Step step intent) = true
+is_step _ = false
+
+abbrev pub is_phase_end : Move → Bool
+is_phase_end moves.PhaseEnd = true
+is_phase_end _ = false
+
+abbrev pub has_step : Thread → Bool
+has_step t = is_step t.asked
+
+abbrev pub awaits_phase : Thread → Bool
+awaits_phase t = is_phase_end t.asked
+
+-- this holds of some thread but thread 0
+pub record IsSome (test : Thread → Bool) (threads : List Thread) : Type 0 where
+  pub place : ℕ
+  pub thread : Thread
+  pub other : 1 ≤ place
+  pub there : slice_get threads place ≡ Some thread
+  pub passes : test thread ≡ true
+
+-- of no thread from 1 on, and below this one
+abbrev pub IsNoneBelow : ℕ → (Thread → Bool) → List Thread → Type 0
+IsNoneBelow n test threads = (p : ℕ) (t : Thread) → 1 ≤ p → p < n → slice_get threads p ≡ Some t → test t ≡ false
+
+abbrev pub IsNone : (Thread → Bool) → List Thread → Type 0
+IsNone test threads = (p : ℕ) (t : Thread) → 1 ≤ p → slice_get threads p ≡ Some t → test t ≡ false
+
+-- ---- what is made of a stage
+
+-- the steppers of so many threads from this one on, before any has begun
+abbrev pub new_threads : Script → (count from : ℕ) → List Thread
+new_threads script zero p = []
+new_threads script (suc n) p = stepper_of script p ∷ new_threads script n (p + 1)
+
+abbrev pub first_stage : Script → Stage
+first_stage script = record {
+  begun = 0;
+  places = script.schedule;
+  threads = new_threads script (length script.threads + 1) 0;
+  words = replicate (word_count (extent_of script.shape)) 0;
+  steps = 0;
+  events = [];
+}
+
+abbrev pub begun_thread : Thread → Thread
+begun_thread t = if awaits_phase t then turned t None else t
+
+abbrev pub begun_threads : List Thread → List Thread
+begun_threads [] = []
+begun_threads (first ∷ others) = first ∷ map begun_thread others
+
+-- the events with the one that a step of the thread told, the newest first
+abbrev pub stamped : ℕ → ℕ → Option Act → List Stamped → List Stamped
+stamped step thread None events = events
+stamped step thread (Some act) events = record { step = step; event = record { thread = thread; act = act } } ∷ events
+
+-- The thread makes the step: the words go by its plain meaning, the stepper is given what it finds, and the event that the stepper tells has the number of
+-- the step.
+abbrev pub stepped : ℕ → Thread → Step → Stage → Stage
+stepped p t step s = record s {
+  threads = slice_set s.threads p (turned t (Some (found_by step s.words)));
+  words = made_by step s.words;
+  steps = s.steps + 1;
+  events = stamped (s.steps + 1) p (turned t (Some (found_by step s.words))).event s.events;
+}
+
+-- thread p asks for this step, and may be given what it finds
+pub record MayStep (s : Stage) (p : ℕ) (t : Thread) (step : Step) (intent : Intent) : Type 0 where
+  pub there : slice_get s.threads p ≡ Some t
+  pub asked : t.asked ≡ moves.Step step intent
+  pub takes_it : takes t (Some (found_by step s.words))
+
+-- ---- the order of the steps
+
+-- The stages that a replay of the script comes to.
+pub data Reached (script : Script) : Stage → Type 0 where
+  new : Reached script (first_stage script)
+  -- no thread has a step, and some thread waits for its next phase: all that wait begin it
+  begins : {s : Stage} → Reached script s → IsNone has_step s.threads → IsSome awaits_phase s.threads →
+      ((p : ℕ) (t : Thread) → 1 ≤ p → slice_get s.threads p ≡ Some t → awaits_phase t ≡ true → takes t None) →
+      Reached script (record s { begun = s.begun + 1; threads = begun_threads s.threads })
+  -- the next place of the schedule is that of a thread that has a step, which it makes
+  makes : {s : Stage} {p : ℕ} {places : List ℕ} {t : Thread} (step : Step) (intent : Intent) →
+      Reached script s → s.places ≡ p ∷ places → 1 ≤ p → MayStep s p t step intent → Reached script (stepped p t step (record s { places = places }))
+  -- it is that of a thread without one, while another thread has one: the place is used up
+  passes : {s : Stage} {p : ℕ} {places : List ℕ} {t : Thread} →
+      Reached script s → s.places ≡ p ∷ places → 1 ≤ p → slice_get s.threads p ≡ Some t → has_step t ≡ false → IsSome has_step s.threads → Reached script (record s { places = places })
+  -- no place is left: the first thread that has a step makes it
+  by_number : {s : Stage} {p : ℕ} {t : Thread} (step : Step) (intent : Intent) →
+      Reached script s → s.places ≡ [] → 1 ≤ p → IsNoneBelow p has_step s.threads → MayStep s p t step intent → Reached script (stepped p t step s)
+  -- all other threads have ended: thread 0 begins
+  last : {s : Stage} {t : Thread} →
+      Reached script s → IsNone has_step s.threads → IsNone awaits_phase s.threads → slice_get s.threads 0 ≡ Some t → awaits_phase t ≡ true → takes t None →
+      Reached script (record s { threads = slice_set s.threads 0 (turned t None) })
+  -- and makes its steps
+  last_step : {s : Stage} {t : Thread} (step : Step) (intent : Intent) → Reached script s → MayStep s 0 t step intent → Reached script (stepped 0 t step s)
+
+-- a replay that has come to its end
+pub record IsRun (script : Script) (s : Stage) : Type 0 where
+  pub reached : Reached script s
+  pub ended : (p : ℕ) (t : Thread) → slice_get s.threads p ≡ Some t → t.asked ≡ moves.Ended
