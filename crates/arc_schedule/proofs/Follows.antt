@@ -166,7 +166,7 @@ follows script valid served some (begins {s = s} r quiet waits takes) =
     }
 follows script valid served some (makes {s = s} {p = p} {places = places} {t = t} step intent r place other may) =
     let f = follows script valid served some r in
-    steps-on script some served s p places t step intent f other (record { there = may.there; asked = may.asked; takes_it = may.takes_it })
+    steps-on script some served s p places t step intent f other may
     (λ m left h calms a. ahead-makes script s p places t (turned t (Some (found_by step s.words))) m f.ms left place calms h (behind p t step places s) refl refl refl a)
 follows script valid served some (passes {s = s} {p = p} {places = places} {t = t} r place other there has waits) =
     let f = follows script valid served some r in
