@@ -1,5 +1,5 @@
 -- What holds of each element is decided by a test that tells it of one.
-use Rattle.std.proofs.Common.{◌≡◌, ℕ, ◌<◌, Bool, true, false, List, length, refl}
+use Rattle.std.proofs.Common.{ℕ, ◌<◌, Bool, true, false, List, length, refl}
 use Rattle.std.proofs.lemmas.Iterator.Search.{true_from_All}
 use Rattle.std.proofs.lemmas.List.Elements.{All-from_all_within}
 use Rattle.std.specs.Prelude.{All, ◌↔◌, IsTrue}

@@ -201,14 +201,14 @@ copies_allowed w t v to held plan step intent f asked = at plan.at f.asks.1 (sub
         subst (λ (x : Step × Intent). IsAllowed w.shape v x.0 x.1) (λ j. (e.0 j, e.1 j)) (swap_allowed w t v to held (attempt.Exchanging seen new) g seen new refl)
     at attempt.Ended ask g = absurd ask
 
-pub copies_come : (w : Work) (t : Thread) (v : View) (to : ℕ) (held : Held) (plan : CappedAttempt) (step : Step) (intent : Intent) (found : ℕ) (v' : View) → Facts w t v (doings.Copying to held plan) → t.asked ≡ moves.Step step intent → IsServedWord w.shape.caps.strong step intent found
+pub copies_come : (w : Work) (t : Thread) (v : View) (to : ℕ) (held : Held) (plan : CappedAttempt) (step : Step) (intent : Intent) (found : ℕ) (v' : View) → Facts w t v (doings.Copying to held plan) → t.asked ≡ moves.Step step intent → IsServedWord w.shape step intent found
     → (told : Told w.shape intent step v found v') → Comes w v step intent found v' (told.between ++ v.seen) (doings.Copying to held plan) (turned_at (Some found) (doings.Copying to held plan) (quiet t))
 copies_come w t v to held plan step intent found v' f asked =
-    subst (λ (p : CappedAttempt). IsServedWord w.shape.caps.strong step intent found → (told : Told w.shape intent step v found v') → Comes w v step intent found v' (told.between ++ v.seen) (doings.Copying to held p) (turned_at (Some found) (doings.Copying to held p) (quiet t))) (sym f.asks.0)
+    subst (λ (p : CappedAttempt). IsServedWord w.shape step intent found → (told : Told w.shape intent step v found v') → Comes w v step intent found v' (told.between ++ v.seen) (doings.Copying to held p) (turned_at (Some found) (doings.Copying to held p) (quiet t))) (sym f.asks.0)
     (at plan.at f.asks.1 (subst (λ (p : CappedAttempt). Facts w t v (doings.Copying to held p)) f.asks.0 f))
   where
     Case : AttemptAt → Step × Intent → Type 0
-    Case a x = IsServedWord w.shape.caps.strong x.0 x.1 found → (told : Told w.shape x.1 x.0 v found v') → Comes w v x.0 x.1 found v' (told.between ++ v.seen) (copying w to held a) (turned_at (Some found) (copying w to held a) (quiet t))
+    Case a x = IsServedWord w.shape x.0 x.1 found → (told : Told w.shape x.1 x.0 v found v') → Comes w v x.0 x.1 found v' (told.between ++ v.seen) (copying w to held a) (turned_at (Some found) (copying w to held a) (quiet t))
 
     at : (a : AttemptAt) → AttemptAsks w.shape t.asked held.place (intents.Copy (origins.Hand held.hand)) a → Facts w t v (copying w to held a) → Case a (step, intent)
     at attempt.Start ask g = absurd ask

@@ -299,14 +299,14 @@ drops_allowed w t v held plan step intent f asked = at plan.at f.asks.1 (subst (
         subst (λ (x : Step × Intent). IsAllowed w.shape v x.0 x.1) (λ j. (e.0 j, e.1 j)) (swap_allowed w t v held (attempt.Exchanging seen new) g seen new refl)
     at attempt.Ended ask g = absurd ask
 
-pub drops_come : (w : Work) (t : Thread) (v : View) (held : Held) (plan : Attempt) (step : Step) (intent : Intent) (found : ℕ) (v' : View) → Facts w t v (doings.Dropping held plan) → t.asked ≡ moves.Step step intent → IsServedWord w.shape.caps.strong step intent found
+pub drops_come : (w : Work) (t : Thread) (v : View) (held : Held) (plan : Attempt) (step : Step) (intent : Intent) (found : ℕ) (v' : View) → Facts w t v (doings.Dropping held plan) → t.asked ≡ moves.Step step intent → IsServedWord w.shape step intent found
     → (told : Told w.shape intent step v found v') → Comes w v step intent found v' (told.between ++ v.seen) (doings.Dropping held plan) (turned_at (Some found) (doings.Dropping held plan) (quiet t))
 drops_come w t v held plan step intent found v' f asked =
-    subst (λ (p : Attempt). IsServedWord w.shape.caps.strong step intent found → (told : Told w.shape intent step v found v') → Comes w v step intent found v' (told.between ++ v.seen) (doings.Dropping held p) (turned_at (Some found) (doings.Dropping held p) (quiet t))) (sym f.asks.0)
+    subst (λ (p : Attempt). IsServedWord w.shape step intent found → (told : Told w.shape intent step v found v') → Comes w v step intent found v' (told.between ++ v.seen) (doings.Dropping held p) (turned_at (Some found) (doings.Dropping held p) (quiet t))) (sym f.asks.0)
     (at plan.at f.asks.1 (subst (λ (p : Attempt). Facts w t v (doings.Dropping held p)) f.asks.0 f))
   where
     Case : AttemptAt → Step × Intent → Type 0
-    Case a x = IsServedWord w.shape.caps.strong x.0 x.1 found → (told : Told w.shape x.1 x.0 v found v') → Comes w v x.0 x.1 found v' (told.between ++ v.seen) (dropping w held a) (turned_at (Some found) (dropping w held a) (quiet t))
+    Case a x = IsServedWord w.shape x.0 x.1 found → (told : Told w.shape x.1 x.0 v found v') → Comes w v x.0 x.1 found v' (told.between ++ v.seen) (dropping w held a) (turned_at (Some found) (dropping w held a) (quiet t))
 
     at : (a : AttemptAt) → AttemptAsks w.shape t.asked held.place (intents.Drop held.hand) a → Facts w t v (dropping w held a) → Case a (step, intent)
     at attempt.Start ask g = absurd ask

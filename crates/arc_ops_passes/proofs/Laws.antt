@@ -102,15 +102,15 @@ dies_allowed w t v c step intent f asked = at c.at (subst (λ (d : CascadeState)
     at ats.Ended g = absurd g.asks.1
 
 abbrev DyingCase : Work → Thread → View → ℕ → View → ℕ → Option Act → CascadeAt → Step × Intent → Type 0
-DyingCase w t v found v' s e a x = IsServedWord w.shape.caps.strong x.0 x.1 found → (told : Told w.shape x.1 x.0 v found v') → Comes w v x.0 x.1 found v' (told.between ++ v.seen) (dying w s a e) (turned_at (Some found) (dying w s a e) (quiet t))
+DyingCase w t v found v' s e a x = IsServedWord w.shape x.0 x.1 found → (told : Told w.shape x.1 x.0 v found v') → Comes w v x.0 x.1 found v' (told.between ++ v.seen) (dying w s a e) (turned_at (Some found) (dying w s a e) (quiet t))
 
 come : (w : Work) (t : Thread) (v : View) (found : ℕ) (v' : View) (s : ℕ) (e : Option Act) (a : CascadeAt) (step other : Step) (intent its : Intent) → t.asked ≡ moves.Step other its → t.asked ≡ moves.Step step intent → DyingCase w t v found v' s e a (other, its) → DyingCase w t v found v' s e a (step, intent)
 come w t v found v' s e a step other intent its ask asked x = let q = asked_is t.asked other step its intent ask asked in subst (DyingCase w t v found v' s e a) (λ j. (q.0 j, q.1 j)) x
 
-dies_come : (w : Work) (t : Thread) (v : View) (c : CascadeState) (step : Step) (intent : Intent) (found : ℕ) (v' : View) → Facts w t v (doings.Dying c) → t.asked ≡ moves.Step step intent → IsServedWord w.shape.caps.strong step intent found
+dies_come : (w : Work) (t : Thread) (v : View) (c : CascadeState) (step : Step) (intent : Intent) (found : ℕ) (v' : View) → Facts w t v (doings.Dying c) → t.asked ≡ moves.Step step intent → IsServedWord w.shape step intent found
     → (told : Told w.shape intent step v found v') → Comes w v step intent found v' (told.between ++ v.seen) (doings.Dying c) (turned_at (Some found) (doings.Dying c) (quiet t))
 dies_come w t v c step intent found v' f asked =
-    subst (λ (d : CascadeState). IsServedWord w.shape.caps.strong step intent found → (told : Told w.shape intent step v found v') → Comes w v step intent found v' (told.between ++ v.seen) (doings.Dying d) (turned_at (Some found) (doings.Dying d) (quiet t))) (sym f.asks.0)
+    subst (λ (d : CascadeState). IsServedWord w.shape step intent found → (told : Told w.shape intent step v found v') → Comes w v step intent found v' (told.between ++ v.seen) (doings.Dying d) (turned_at (Some found) (doings.Dying d) (quiet t))) (sym f.asks.0)
     (at c.at (subst (λ (d : CascadeState). Facts w t v (doings.Dying d)) f.asks.0 f))
   where
     Case : CascadeAt → Type 0
@@ -119,7 +119,7 @@ dies_come w t v c step intent found v' f asked =
     finishing : (b : AttemptAt) → Facts w t v (dying w c.slot (ats.Finishing (record { layout = extent_of w.shape; slot = c.slot; at = b })) c.event) → Case (ats.Finishing (record { layout = extent_of w.shape; slot = c.slot; at = b }))
     finishing attempt.Start g = absurd g.asks.1.1
     finishing attempt.Loading g = let a = ats.Finishing (record { layout = extent_of w.shape; slot = c.slot; at = attempt.Loading }) in
-        come w t v found v' c.slot c.event a step (Load (number (extent_of w.shape) (Count c.slot))) intent (intents.Deinit c.slot) g.asks.1.1 asked (λ served told. dies.loads w t v c.slot a c.event g g.under_way.duty found v' told refl g.under_way.working served)
+        come w t v found v' c.slot c.event a step (Load (number (extent_of w.shape) (Count c.slot))) intent (intents.Deinit c.slot) g.asks.1.1 asked (λ served told. dies.loads w t v c.slot a c.event g g.under_way.duty found v' told refl g.under_way.working (served refl))
     finishing (attempt.Exchanging seen new) g = let a = ats.Finishing (record { layout = extent_of w.shape; slot = c.slot; at = attempt.Exchanging seen new }) in
         come w t v found v' c.slot c.event a step (Exchange (number (extent_of w.shape) (Count c.slot)) seen new) intent (intents.Deinit c.slot) g.asks.1.1 asked (λ served told. dies.swaps w t v c.slot a c.event g g.under_way.duty seen new found v' told refl g.under_way.working g.under_way.rests)
     finishing attempt.Ended g = absurd g.asks.1.1
@@ -163,7 +163,7 @@ pub steppers_drive_on : SteppersDriveOn
 steppers_drive_on w t v step intent found v' served stepper sized d asked told word =
     goes_on w t v step intent found v' served d asked told (at t.doing (facts w t v served stepper sized d) word)
   where
-    at : (e : Doing) → Facts w t v e → IsServedWord w.shape.caps.strong step intent found → Comes w v step intent found v' (told.between ++ v.seen) e (turned_at (Some found) e (quiet t))
+    at : (e : Doing) → Facts w t v e → IsServedWord w.shape step intent found → Comes w v step intent found v' (told.between ++ v.seen) e (turned_at (Some found) e (quiet t))
     at doings.Ready f word = no_step t.asked step intent f.asks asked
     at (doings.Making to name slot plan) f word = makes_come w t v to name slot plan step intent found v' f asked told
     at (doings.Copying to held plan) f word = copies_come w t v to held plan step intent found v' f asked word told

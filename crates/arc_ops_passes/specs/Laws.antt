@@ -1,6 +1,8 @@
 -- The laws of a stepper that drives a pass.
 use Rattle.std.specs.Prelude.{ℕ, ◌≡◌, ◌≤◌, List, [], length, All, Some, None, ⊤}
 use Rattle.arc_model.specs.History.{History, share, IsLegal}
+use Rattle.arc_rule.specs.Places.{extent_of, number}
+use Rattle.arc_rule.specs.declared.layout.Place.TheVariants.{Count}
 use Rattle.arc_rule.specs.declared.step.Step.{Step}
 use Rattle.arc_bits.specs.Words.{unpacked}
 use Rattle.arc_rule.specs.declared.step.Step.TheVariants.{Load}
@@ -73,11 +75,11 @@ StepsAreAllowed = (w : Work) (t : Thread) (v : View) (step : Step) (intent : Int
     IsAllowed w.shape v step intent
 
 -- So far a count that is read lies in the inline word, and is that of a live object and below its cap where a reference is to be copied.
-abbrev pub IsServedWord : ℕ → Step → Intent → ℕ → Type 0
-IsServedWord cap (Load place) (intents.Copy from) found = IsUpWord cap (unpacked found)
-IsServedWord cap (Load place) (intents.Drop hand) found = IsInline (unpacked found)
-IsServedWord cap (Load place) (intents.Deinit slot) found = IsInline (unpacked found)
-IsServedWord cap step intent found = ⊤
+abbrev pub IsServedWord : HeapShape → Step → Intent → ℕ → Type 0
+IsServedWord shape (Load place) (intents.Copy from) found = IsUpWord shape.caps.strong (unpacked found)
+IsServedWord shape (Load place) (intents.Drop hand) found = IsInline (unpacked found)
+IsServedWord shape (Load place) (intents.Deinit slot) found = place ≡ number (extent_of shape) (Count slot) → IsInline (unpacked found)
+IsServedWord shape step intent found = ⊤
 
 -- What the stepper may be given, what it is then, and its event: what the step found, what still drives the pass, and the act that the pass made.
 pub record GoesOn (w : Work) (t : Thread) (v : View) (step : Step) (intent : Intent) (found : ℕ) (v' : View) : Type 0 where
@@ -87,7 +89,7 @@ pub record GoesOn (w : Work) (t : Thread) (v : View) (step : Step) (intent : Int
 
 abbrev pub SteppersDriveOn : Type 0
 SteppersDriveOn = (w : Work) (t : Thread) (v : View) (step : Step) (intent : Intent) (found : ℕ) (v' : View) → IsServedWork w → IsStepper t → IsSized w.shape → Drives w t v → t.asked ≡ moves.Step step intent →
-    Told w.shape intent step v found v' → IsServedWord w.shape.caps.strong step intent found → GoesOn w t v step intent found v'
+    Told w.shape intent step v found v' → IsServedWord w.shape step intent found → GoesOn w t v step intent found v'
 
 -- A stepper that has ended leaves its pass with nothing.
 abbrev pub EndedSteppersHoldNothing : Type 0

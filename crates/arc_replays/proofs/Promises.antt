@@ -1,13 +1,12 @@
 -- A legal history keeps its promises.
-use Rattle.std.proofs.Common.{◌≡◌, ℕ, List, [], ◌∷◌, ◌++◌, subst, sym, ap, ◌∙◌}
-use Rattle.arc_model.specs.declared.event.Event.{Event}
+use Rattle.std.proofs.Common.{◌≡◌, [], ◌∷◌, ◌++◌, subst, ap, ◌∙◌}
 use Rattle.arc_model.specs.Shapes.{HeapShape}
 use Rattle.arc_model.specs.History.{History, heap_after, IsLegal}
-use Rattle.arc_model.specs.Laws.{strong_list, EndsOnce}
+use Rattle.arc_model.specs.Laws.{strong_list}
 use Rattle.arc_model.proofs.Ends.{ends_once, loads_before_end}
 use Rattle.arc_model.proofs.Slots.{vacated_between}
 use Rattle.arc_model.proofs.GivenBack.{given_back}
-use Rattle.arc_plain.specs.Promises.{DeinitsOnce, LoadsComeBefore, SlotsAreVacated, EntriesAreGivenBack}
+use Rattle.arc_replays.specs.Promises.{DeinitsOnce, LoadsComeBefore, SlotsAreVacated, EntriesAreGivenBack}
 
 legal_before : (shape : HeapShape) (before after : History) → IsLegal shape (after ++ before) → IsLegal shape before
 legal_before shape before [] legal = legal
