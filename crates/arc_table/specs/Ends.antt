@@ -1,5 +1,5 @@
 -- What ends an object: the tokens of its last duties, and what the calls answer.
-use Rattle.std.specs.Prelude.{ℕ, ◌≡◌, ◌≢◌, ◌<◌, true, false, [], ◌∷◌, Option, None, Some, slice_get}
+use Rattle.std.specs.Prelude.{ℕ, ◌≡◌, ◌<◌, true, false, [], ◌∷◌, Option, None, Some, slice_get}
 use Rattle.arc_model.specs.declared.event.Act.{Act}
 use Rattle.arc_model.specs.declared.event.Act.TheVariants as acts
 use Rattle.arc_model.specs.Shapes.{HeapShape}
