@@ -1,17 +1,13 @@
 -- Passes meet.
-use Rattle.std.proofs.Common.{◌≡◌, ℕ, [], ◌++◌, refl, sym, ap, ◌∙◌, subst}
-use Rattle.arc_model.specs.Shapes.{HeapShape}
-use Rattle.arc_model.specs.History.{History, share}
+use Rattle.std.proofs.Common.{◌≡◌, [], refl, sym, ap, ◌∙◌, subst}
+use Rattle.arc_model.specs.History.{share}
 use Rattle.arc_model.specs.SpellingTies.{Ties}
 use Rattle.arc_model.specs.SpellingTies.Causes.{Judged}
 use Rattle.arc_model.proofs.SpellTies.{ties_others}
-use Rattle.arc_ops.specs.declared.stepper.Doing.{Doing}
-use Rattle.arc_ops.specs.declared.stepper.Doing.TheVariants.{Ready}
-use Rattle.arc_view.specs.declared.view.View.{View}
 use Rattle.arc_view.proofs.Lists.{others_came}
 use Rattle.arc_view_laws.proofs.Moving.{called_follows}
 use Rattle.arc_ops_passes.specs.References.{references}
-use Rattle.arc_ops_passes.specs.Drives.{IsFree, UnderWay, Drives}
+use Rattle.arc_ops_passes.specs.Drives.{IsFree, UnderWay}
 use Rattle.arc_ops_passes.specs.Laws.{SteppersMeet, NotesAreTakenIn}
 use Rattle.arc_ops_passes.proofs.Goes.{owns_still, owes_still, claims_still}
 

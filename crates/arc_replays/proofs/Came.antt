@@ -1,25 +1,21 @@
 -- How many references come to all threads: no more than to each of them, thread by thread.
 use Rattle.std.proofs.Common.{◌≡◌, ◌⊎◌, inl, inr, ℕ, zero, suc, ◌+◌, ◌≤◌, ◌<◌, ◌&&◌, Bool, true, false, cond, [], ◌∷◌, refl, ap, arith, eq-eqb}
-use Rattle.std.specs.Prelude.{count_by}
 use Rattle.std.proofs.lemmas.Bool.{cases_lt}
-use Rattle.std.proofs.lemmas.List.Sums.{sum_by-cons}
 use Rattle.arc_model.specs.declared.event.Event.{Event}
 use Rattle.arc_model.specs.WellFormed.{more}
 use Rattle.arc_model.specs.History.{History, brings, is_of, next_hand, share}
 use Rattle.arc_model.proofs.Others.{not-among}
+use Rattle.arc_view_laws.proofs.Counted.{counted, counted_cons}
 use Rattle.arc_replays.proofs.Bare.{came_in}
 
 -- the references that came to thread p
-abbrev pub came_to : ℕ → History → ℕ
-came_to p h = count_by (λ (e : Event). is_of p e && brings e.act) h
+abbrev came_to : ℕ → History → ℕ
+came_to p h = counted brings p h
 
 -- to the first threads
 abbrev came_below : ℕ → History → ℕ
 came_below zero h = 0
 came_below (suc p) h = came_to p h + came_below p h
-
-pub came_cons : (p : ℕ) (e : Event) (h : History) → came_to p (e ∷ h) ≡ cond (is_of p e && brings e.act) 1 0 + came_to p h
-came_cons p e h = sum_by-cons (λ (x : Event). cond (is_of p x && brings x.act) 1 0) e h
 
 more_is : (b : Bool) (n : ℕ) → more b n ≡ cond b 1 0 + n
 more_is true n = omega arith
@@ -27,18 +23,18 @@ more_is false n = omega arith
 
 grows : (n : ℕ) (e : Event) (h : History) → came_below n h ≤ came_below n (e ∷ h)
 grows zero e h = omega arith
-grows (suc p) e h = let c = came_cons p e h in let ih = grows p e h in omega arith
+grows (suc p) e h = let c = counted_cons brings p e h in let ih = grows p e h in omega arith
 
 adds : (n : ℕ) (e : Event) (h : History) → e.thread < n → more (brings e.act) (came_below n h) ≤ came_below n (e ∷ h)
 adds zero e h lt = absurd (omega arith)
 adds (suc p) e h lt = go (cases_lt e.thread p) (λ less. adds p e h less)
   where
     go : (e.thread < p) ⊎ (p ≤ e.thread) → (e.thread < p → more (brings e.act) (came_below p h) ≤ came_below p (e ∷ h)) → more (brings e.act) (came_to p h + came_below p h) ≤ came_to p (e ∷ h) + came_below p (e ∷ h)
-    go (inl less) ih = let a = ih less in let b = more_is (brings e.act) (came_below p h) in let d = more_is (brings e.act) (came_to p h + came_below p h) in let c = came_cons p e h in omega arith
+    go (inl less) ih = let a = ih less in let b = more_is (brings e.act) (came_below p h) in let d = more_is (brings e.act) (came_to p h + came_below p h) in let c = counted_cons brings p e h in omega arith
     go (inr ge) ih =
         let same : e.thread ≡ p = omega arith in
         let own : cond (is_of p e && brings e.act) 1 zero ≡ cond (brings e.act) 1 zero = ap (λ b. cond (b && brings e.act) 1 zero) (eq-eqb e.thread p same) in
-        let d = more_is (brings e.act) (came_to p h + came_below p h) in let c = came_cons p e h in let g = grows p e h in omega arith
+        let d = more_is (brings e.act) (came_to p h + came_below p h) in let c = counted_cons brings p e h in let g = grows p e h in omega arith
 
 all_below : (n : ℕ) (h : History) → ((p : ℕ) → n ≤ p → share h p ≡ []) → came_in h ≤ came_below n h
 all_below n [] none = omega arith

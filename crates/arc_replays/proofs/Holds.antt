@@ -42,7 +42,8 @@ use Rattle.arc_replays.specs.Replaying.{Replaying, MayTurn, IsBegun, AreBegun}
 use Rattle.arc_replays.specs.Stages.{Stage, Reached, first_stage, new_threads, begun_thread, begun_threads, awaits_phase, is_phase_end, stamped, stepped}
 use Rattle.arc_replays.specs.Stages.Reached.{new, begins, makes, passes, by_number, last, last_step}
 use Rattle.arc_replays.proofs.Bare.{came_in, IsBareHeap, bare_after}
-use Rattle.arc_replays.proofs.Came.{came_to, came_cons, came_few}
+use Rattle.arc_view_laws.proofs.Counted.{counted, counted_cons}
+use Rattle.arc_replays.proofs.Came.{came_few}
 use Rattle.arc_replays.proofs.Beginning.{replays_begin}
 use Rattle.arc_replays.proofs.GoesOn.{get_set, Turn, turn, goes, replays_are_one_history, replays_begin_phases}
 use Rattle.arc_replays.proofs.Serves.{Serves, serves}
@@ -89,8 +90,8 @@ came_on : (p q : ℕ) (event : Option Act) (log : History) (m : ℕ) → next_ha
 came_on p q None log m few own = few
 came_on p q (Some a) log m few own = dite (ℕ_discrete q p) same other
   where
-    cons : came_to q (record { thread = p; act = a } ∷ log) ≡ cond (p == q && brings a) 1 0 + came_to q log
-    cons = came_cons q (record { thread = p; act = a }) log
+    cons : counted brings q (record { thread = p; act = a } ∷ log) ≡ cond (p == q && brings a) 1 0 + counted brings q log
+    cons = counted_cons brings q (record { thread = p; act = a }) log
 
     one : (b : Bool) → cond b 1 zero ≤ suc zero
     one true = omega arith

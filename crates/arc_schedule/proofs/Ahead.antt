@@ -13,6 +13,7 @@ use Rattle.arc_replays.specs.Stages.{Stage, has_step, IsSome, IsNone, IsNoneBelo
 use Rattle.arc_schedule.specs.Made.{Made, own, is_of}
 use Rattle.arc_schedule.specs.Orders.{is_in, steps_of, ending_of, other_of, in_access, in_turn, by_numbers, InOrder}
 use Rattle.arc_schedule.specs.Orders.InOrder.{makes, passes, next_phase, runs_out}
+use Rattle.arc_schedule.proofs.Lists.{there-is, get-other}
 use Rattle.arc_schedule.proofs.Calm.{AreCalm, never-inside}
 
 -- ---- numbers and lists
@@ -30,22 +31,6 @@ equal p q same = go (eqb p q) refl
     go : (b : Bool) → eqb p q ≡ b → eqb p q ≡ true
     go true e = e
     go false e = absurd (eqb-false p q e same)
-
-pub get-other : {X : Type 0} (xs : List X) (p q : ℕ) (x : X) → (p ≡ q → ⊥) → slice_get (set xs p x) q ≡ slice_get xs q
-get-other [] p q x differ = refl
-get-other (y ∷ xs) zero zero x differ = absurd (differ refl)
-get-other (y ∷ xs) zero (suc q) x differ = refl
-get-other (y ∷ xs) (suc p) zero x differ = refl
-get-other (y ∷ xs) (suc p) (suc q) x differ = get-other xs p q x (λ e. differ (ap suc e))
-
-pub get-same : {X : Type 0} (xs : List X) (p : ℕ) (x y : X) → slice_get (set xs p x) p ≡ Some y → y ≡ x
-get-same [] p x y e = absurd (cc)
-get-same (z ∷ xs) zero x y e = cc
-get-same (z ∷ xs) (suc p) x y e = get-same xs p x y e
-
-append-nil : {X : Type 0} (xs : List X) → xs ++ [] ≡ xs
-append-nil [] = refl
-append-nil (x ∷ xs) = ap (λ ys. x ∷ ys) (append-nil xs)
 
 -- the newest step, before it is turned round and behind it
 pub reverse-onto : (ms left : List Made) (m : Made) → reverse (m ∷ ms) ++ left ≡ reverse ms ++ (m ∷ left)
@@ -259,17 +244,12 @@ ahead-by-number script s p t new m ms left place below h after same_begun same_p
     r : RunsOut (extent_of script.shape) (length script.threads) (s.begun - 1) (m ∷ ms) left
     r = moved (λ n ps ts. OrderFor (extent_of script.shape) (length script.threads) (n - 1) ps (m ∷ ms) left) a.order
 
-    known : (xs : List Thread) (q : ℕ) → q < length xs → (x : Thread) × (slice_get xs q ≡ Some x)
-    known [] q within = absurd (omega arith)
-    known (x ∷ xs) zero within = (x, refl)
-    known (x ∷ xs) (suc q) within = known xs q (omega arith)
-
     lower : (q : ℕ) → 1 ≤ q → q < m.point.thread → own q r.here ≡ []
     lower q first less =
         let e = h.thread in
         let few = h.few in
         let c = h.phase in
-        let u = known s.threads q (omega arith) in
+        let u = there-is s.threads q (omega arith) in
         let differ : p ≡ q → ⊥ = λ z. (let f : p ≡ q = z in absurd (omega arith)) in
         let none : steps_of (s.begun - 1) q left ≡ [] = before_none q u.0 first (get-other s.threads p q new differ ∙ u.1) (below q u.0 first (omega arith) u.1) (omega arith) in
         none-here (s.begun - 1) q r.here r.later r.all_in (ap (λ (xs : List Made). steps_of (s.begun - 1) q xs) (sym r.left_is) ∙ none)

@@ -1,13 +1,13 @@
 -- Operations and drops begin, and the scope ends.
-use Rattle.std.proofs.Common.{◌≡◌, ◌≢◌, ℕ, zero, suc, ◌+◌, ◌<◌, ◌≤◌, Bool, true, false, not, cond, ltb, List, [], ◌∷◌, ◌++◌, length, take, drop, set, get_or, Option, Some, None, ◌⊎◌, inl, inr, refl, sym, ap, subst, ◌∙◌, arith, add-one}
+use Rattle.std.proofs.Common.{◌≡◌, ◌≢◌, ℕ, zero, suc, ◌+◌, ◌<◌, ◌≤◌, Bool, true, false, not, cond, ltb, List, [], ◌∷◌, length, take, drop, set, get_or, Option, Some, None, ◌⊎◌, inl, inr, refl, sym, ap, subst, ◌∙◌, arith, add-one}
 use Rattle.std.proofs.lemmas.Bool.{ltb-true, ltb-false, lt-ltb, cases_lt}
 use Rattle.std.proofs.Math.ListN.{get_or-map}
-use Rattle.std.proofs.lemmas.List.{map-set, set-get_or, length-set, length-map, length-append, get_or-set_same, get_or-set_other, drop_all, take_all}
-use Rattle.std.proofs.lemmas.List.Elements.{All-get_or, All-set, recursion_from_All}
+use Rattle.std.proofs.lemmas.List.{map-set, set-get_or, length-set, length-map, get_or-set_same, get_or-set_other, drop_all}
+use Rattle.std.proofs.lemmas.List.Elements.{All-set, recursion_from_All}
 use Rattle.std.proofs.lemmas.List.Quantifiers.{position-Some}
 use Rattle.std.proofs.lemmas.List.Sums.{prefix_len_passes}
-use Rattle.std.proofs.lemmas.Option.{slice_get_within, get_or_from_slice_get}
-use Rattle.std.specs.Prelude.{slice_get, position, flat_map, All}
+use Rattle.std.proofs.lemmas.Option.{slice_get_within}
+use Rattle.std.specs.Prelude.{slice_get, position, All}
 use Rattle.std.specs.List.{prefix_len, AllByRecursion}
 use Rattle.arc_model.specs.declared.answer.Answer.TheVariants as answers
 use Rattle.arc_model.specs.declared.event.ObjectName.{ObjectName}
@@ -35,6 +35,9 @@ use Rattle.arc_schedule.specs.Threads.{point_of, OpsDone, ScopeEnds}
 use Rattle.arc_schedule.specs.Threads.OpsDone.{none as ops_none, one as ops_one}
 use Rattle.arc_schedule.specs.Threads.PhasesDone.{one as phases_one}
 use Rattle.arc_schedule.specs.Threads.ScopeEnds.{none as scope_none, one as scope_one}
+use Rattle.arc_ops.proofs.Counts.{first_few, first_all}
+use Rattle.arc_schedule.proofs.Lists.{there-is, all-there, get-drop, nothing-left}
+use Rattle.arc_schedule.proofs.Phases.{all-ops, phase-next, phase-rest}
 use Rattle.arc_schedule.proofs.Stands.{waits, begun-from, Task, Job, start_of, ref, refs, state_of, AreDone, here, IsInScope, IsOverIf, IsOver, Works, WorksAt, AreIn, Stands}
 
 -- ---- variables
@@ -44,9 +47,6 @@ value-ref vars v o e = get_or-map ref vars v None ∙ ap ref e
 
 pub put-ref : (vars : List (Option Held)) (v : ℕ) (new : Option Held) → refs (set vars v new) ≡ operations.put (refs vars) v (ref new)
 put-ref vars v new = map-set ref vars v new
-
-put-nil : (vars : Variables) (v : ℕ) → operations.value vars v ≡ None → operations.put vars v None ≡ vars
-put-nil vars v e = ap (λ (o : Option Holding). set vars v o) (sym e) ∙ set-get_or vars v None
 
 none-held : (vars : List (Option Held)) → position is_held vars ≡ None → (v : ℕ) → v < length vars → value vars v ≡ None
 none-held vars e v within = go (ltb (prefix_len (λ x. not (is_held x)) vars) (length vars)) refl e
@@ -96,104 +96,11 @@ op-done k j i o state new base after d there does =
     let Q : Point → Type 0 = λ (p : Point). Does k.shape p o state base new after in
     ops_one d there (subst Q same does)
 
-served-at : (ops : List Op) (i : ℕ) (o : Op) → All IsServedOp ops → slice_get ops i ≡ Some o → IsServedOp o
-served-at ops i o served there = subst IsServedOp (get_or_from_slice_get ops i o o there) (All-get_or IsServedOp ops i o (slice_get_within ops i o there) served)
-
-get-drop_suc : {X : Type 0} (xs rest : List X) (i : ℕ) (x : X) → x ∷ rest ≡ drop i xs → (slice_get xs i ≡ Some x) × (rest ≡ drop (suc i) xs)
-get-drop_suc [] rest zero x e = absurd (cc)
-get-drop_suc [] rest (suc i) x e = absurd (cc)
-get-drop_suc (y ∷ xs) rest zero x e = (cc, cc)
-get-drop_suc (y ∷ xs) rest (suc i) x e = get-drop_suc xs rest i x e
-
-get-drop : {X : Type 0} (xs rest : List X) (i : ℕ) (x : X) → x ∷ rest ≡ drop i xs → (slice_get xs i ≡ Some x) × (rest ≡ drop (i + 1) xs)
-get-drop xs rest i x e = rw add-one (get-drop_suc xs rest i x e)
-
-nothing-left : {X : Type 0} (xs : List X) (i : ℕ) → [] ≡ drop i xs → length xs ≤ i
-nothing-left [] i e = omega arith
-nothing-left (y ∷ xs) zero e = absurd (cc)
-nothing-left (y ∷ xs) (suc i) e = let h = nothing-left xs i e in omega arith
-
 done-within : {shape : HeapShape} {thread phase : ℕ} {ops : List Op} {first : State} {b : List Made} {i : ℕ} {state : State} {now : List Made} → OpsDone shape thread phase ops first b i state now → i ≤ length ops
 done-within ops_none = omega arith
 done-within {ops = ops} (ops_one {i = i} {o = o} d there x) = let h = slice_get_within ops i o there in omega arith
 
 -- ---- phases
-
-take-over : {X : Type 0} (xs ys : List X) (n : ℕ) → take (length xs + n) (xs ++ ys) ≡ xs ++ take n ys
-take-over [] ys n = let none : 0 + n ≡ n = omega arith in rw none refl
-take-over (x ∷ xs) ys n = let more : suc (length xs) + n ≡ suc (length xs + n) = omega arith in rw more (ap (λ zs. x ∷ zs) (take-over xs ys n))
-
-drop-over : {X : Type 0} (xs ys : List X) (n : ℕ) → drop (length xs + n) (xs ++ ys) ≡ drop n ys
-drop-over [] ys n = let none : 0 + n ≡ n = omega arith in rw none refl
-drop-over (x ∷ xs) ys n = let more : suc (length xs) + n ≡ suc (length xs + n) = omega arith in rw more (drop-over xs ys n)
-
-abbrev all-ops : List (List Op) → List Op
-all-ops phases = flat_map (λ ops. ops) phases
-
-first-many : (ops : List Op) (phases : List (List Op)) (p : ℕ) → ops_in_first (suc p) (ops ∷ phases) ≡ length ops + ops_in_first p phases
-first-many ops phases p = length-append ops (all-ops (take p phases))
-
--- so many operations are there before the next phase
-phase-next : (phases : List (List Op)) (p : ℕ) (ops : List Op) → slice_get phases p ≡ Some ops → ops_in_first (suc p) phases ≡ ops_in_first p phases + length ops
-phase-next [] p ops e = absurd (cc)
-phase-next (x ∷ phases) zero ops e =
-    let same : x ≡ ops = cc in
-    let a = first-many x phases zero in
-    let b : ops_in_first zero phases ≡ 0 = refl in
-    let c : length x ≡ length ops = ap length same in
-    let d : ops_in_first zero (x ∷ phases) ≡ 0 = refl in
-    omega arith
-phase-next (x ∷ phases) (suc p) ops e =
-    let a = first-many x phases (suc p) in
-    let b = first-many x phases p in
-    let c = phase-next phases p ops e in
-    omega arith
-
-phase-few : (phases : List (List Op)) (p : ℕ) → ops_in_first p phases ≤ length (all-ops phases)
-phase-few phases zero = omega arith
-phase-few [] (suc p) = omega arith
-phase-few (x ∷ phases) (suc p) =
-    let a = first-many x phases p in
-    let b = phase-few phases p in
-    let c : length (all-ops (x ∷ phases)) ≡ length x + length (all-ops phases) = length-append x (all-ops phases) in
-    omega arith
-
-phase-last : (phases : List (List Op)) (p : ℕ) → length phases ≤ p → ops_in_first p phases ≡ length (all-ops phases)
-phase-last phases p most = ap (λ (xs : List (List Op)). length (all-ops xs)) (take_all p phases most)
-
--- the operations from this one of the phase on, to the phase's end
-phase-rest : (phases : List (List Op)) (p i : ℕ) (ops : List Op) → slice_get phases p ≡ Some ops → drop (ops_in_first p phases + i) (take (ops_in_first (suc p) phases) (all-ops phases)) ≡ drop i ops
-phase-rest [] p i ops e = absurd (cc)
-phase-rest (x ∷ phases) zero i ops e =
-    let same : x ≡ ops = cc in
-    let many : ops_in_first (suc zero) (x ∷ phases) ≡ length x + 0 = first-many x phases zero in
-    let taken : take (length x + 0) (x ++ all-ops phases) ≡ x ++ [] = take-over x (all-ops phases) 0 in
-    let back : x ++ [] ≡ x = append-none x in
-    let start : 0 + i ≡ i = omega arith in
-    rw (many, start) (ap (λ (ys : List Op). drop i ys) (taken ∙ back ∙ same))
-  where
-    append-none : (xs : List Op) → xs ++ [] ≡ xs
-    append-none [] = refl
-    append-none (y ∷ ys) = ap (λ (zs : List Op). y ∷ zs) (append-none ys)
-phase-rest (x ∷ phases) (suc p) i ops e =
-    let many = first-many x phases p in
-    let more = first-many x phases (suc p) in
-    let taken = take-over x (all-ops phases) (ops_in_first (suc p) phases) in
-    let dropped = drop-over x (take (ops_in_first (suc p) phases) (all-ops phases)) (ops_in_first p phases + i) in
-    let sum : ops_in_first (suc p) (x ∷ phases) + i ≡ length x + (ops_in_first p phases + i) = omega arith in
-    let P : ℕ → ℕ → Type 0 = λ (n m : ℕ). drop n (take m (x ++ all-ops phases)) ≡ drop i ops in
-    let whole : drop (length x + (ops_in_first p phases + i)) (take (length x + ops_in_first (suc p) phases) (x ++ all-ops phases)) ≡ drop i ops =
-    ap (λ (ys : List Op). drop (length x + (ops_in_first p phases + i)) ys) taken ∙ dropped ∙ phase-rest phases p i ops e in
-    subst (λ (n : ℕ). P n (ops_in_first (suc (suc p)) (x ∷ phases))) (sym sum) (subst (λ (m : ℕ). P (length x + (ops_in_first p phases + i)) m) (sym more) whole)
-
-record There {X : Type 0} (xs : List X) (i : ℕ) : Type 0 where
-  item : X
-  there : slice_get xs i ≡ Some item
-
-there-is : {X : Type 0} (xs : List X) (i : ℕ) → i < length xs → There xs i
-there-is [] i within = absurd (omega arith)
-there-is (x ∷ xs) zero within = record { item = x; there = refl }
-there-is (x ∷ xs) (suc i) within = let t = there-is xs i (omega arith) in record { item = t.item; there = t.there }
 
 -- what is left of the stepper's phase
 pub rest-is : (k : Task) (j : Job k) (i : ℕ) (phases : List (List Op)) (program : List Op) (phase index : ℕ) → phases ≡ k.decl.phases → program ≡ all-ops k.decl.phases → phase ≡ j.phase → index ≡ start_of k j + i →
@@ -346,9 +253,9 @@ phase-ends {n = n} k j i t now works vars at_end d = go (ltb (t.phase + 1) (leng
     over : Thread
     over = record t { doing = Ready; asked = moves.PhaseEnd; phase = t.phase + 1 }
 
-    next : There k.decl.phases (j.phase + 1) → Stands k n over now
+    next : ((ops : List Op) × (slice_get k.decl.phases (j.phase + 1) ≡ Some ops)) → Stands k n over now
     next h =
-        let job : Job k = record { phase = j.phase + 1; ops = h.item; there = h.there; first = state_of t.vars t.made t.hands; base = now; before = phases_one j.before j.there done } in
+        let job : Job k = record { phase = j.phase + 1; ops = h.0; there = h.1; first = state_of t.vars t.made t.hands; base = now; before = phases_one j.before j.there done } in
         let many : ops_in_first (suc j.phase) k.decl.phases ≡ ops_in_first j.phase k.decl.phases + length j.ops = phase-next k.decl.phases j.phase j.ops j.there in
         let index : t.index ≡ ops_in_first j.phase k.decl.phases + i = works.index_is in
         let next_start : ops_in_first (j.phase + 1) k.decl.phases ≡ ops_in_first j.phase k.decl.phases + length j.ops = rw add-one many in
@@ -549,11 +456,11 @@ begins {n = n} k j served (op.Drop v ∷ rest) i t now works vars r d = dropping
         drop-asks k j i (set_var v None (put answers.Ok (record t { first = true }))) old now now works (nil-in k.shape t.vars v vars) (held-in k.shape t.vars v old vars e) starts_first
         (λ after x. over-done k j i (set t.vars v None) t.made t.hands after within (dropped (Some old) e after x))
     dropping None e skip = skip e
-begins {n = n} k j served (op.Unown to of ∷ rest) i t now works vars r d = absurd (served-at j.ops i (op.Unown to of) served (get-drop j.ops rest i (op.Unown to of) r).0)
-begins {n = n} k j served (op.Weak to of ∷ rest) i t now works vars r d = absurd (served-at j.ops i (op.Weak to of) served (get-drop j.ops rest i (op.Weak to of) r).0)
-begins {n = n} k j served (op.Load to of ∷ rest) i t now works vars r d = absurd (served-at j.ops i (op.Load to of) served (get-drop j.ops rest i (op.Load to of) r).0)
-begins {n = n} k j served (op.Get to cell ∷ rest) i t now works vars r d = absurd (served-at j.ops i (op.Get to cell) served (get-drop j.ops rest i (op.Get to cell) r).0)
-begins {n = n} k j served (op.Set cell from ∷ rest) i t now works vars r d = absurd (served-at j.ops i (op.Set cell from) served (get-drop j.ops rest i (op.Set cell from) r).0)
+begins {n = n} k j served (op.Unown to of ∷ rest) i t now works vars r d = absurd (all-there IsServedOp j.ops i (op.Unown to of) served (get-drop j.ops rest i (op.Unown to of) r).0)
+begins {n = n} k j served (op.Weak to of ∷ rest) i t now works vars r d = absurd (all-there IsServedOp j.ops i (op.Weak to of) served (get-drop j.ops rest i (op.Weak to of) r).0)
+begins {n = n} k j served (op.Load to of ∷ rest) i t now works vars r d = absurd (all-there IsServedOp j.ops i (op.Load to of) served (get-drop j.ops rest i (op.Load to of) r).0)
+begins {n = n} k j served (op.Get to cell ∷ rest) i t now works vars r d = absurd (all-there IsServedOp j.ops i (op.Get to cell) served (get-drop j.ops rest i (op.Get to cell) r).0)
+begins {n = n} k j served (op.Set cell from ∷ rest) i t now works vars r d = absurd (all-there IsServedOp j.ops i (op.Set cell from) served (get-drop j.ops rest i (op.Set cell from) r).0)
 
 -- ---- what was under way is over
 
@@ -561,7 +468,7 @@ begins {n = n} k j served (op.Set cell from ∷ rest) i t now works vars r d = a
 program-many : {n : ℕ} (k : Task) (j : Job k) (i : ℕ) (t : Thread) → WorksAt k j i n t → i < length j.ops → ltb t.index (length t.program) ≡ true
 program-many {n = n} k j i t works within =
     let next = phase-next k.decl.phases j.phase j.ops j.there in
-    let few = phase-few k.decl.phases (suc j.phase) in
+    let few = first_few (suc j.phase) k.decl.phases in
     let many : length t.program ≡ length (all-ops k.decl.phases) = ap (λ (os : List Op). length os) works.program_is in
     let index : t.index ≡ ops_in_first j.phase k.decl.phases + i = works.index_is in
     lt-ltb t.index (length t.program) (omega arith)
@@ -574,7 +481,7 @@ program-over {n = n} k j i t works most last = go (ltb t.index (length t.program
     go true e =
         let below = ltb-true t.index (length t.program) e in
         let next = phase-next k.decl.phases j.phase j.ops j.there in
-        let whole = phase-last k.decl.phases (suc j.phase) (omega arith) in
+        let whole = first_all (suc j.phase) k.decl.phases (omega arith) in
         let many : length t.program ≡ length (all-ops k.decl.phases) = ap (λ (os : List Op). length os) works.program_is in
         let index : t.index ≡ ops_in_first j.phase k.decl.phases + i = works.index_is in
         absurd (omega arith)

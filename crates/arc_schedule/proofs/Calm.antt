@@ -1,6 +1,7 @@
 -- No step that a stepper asks for so far begins an access to a cell.
 use Rattle.std.proofs.Common.{◌≡◌, ℕ, ◌+◌, ◌<◌, Bool, true, false, cond, eqb, ltb, List, [], ◌∷◌, Option, Some, None, refl, sym, ap, subst, ◌∙◌}
 use Rattle.std.proofs.lemmas.Bool.{ltb-true}
+use Rattle.std.proofs.lemmas.Option.{same_Some}
 use Rattle.std.specs.Option.{unwrap_or}
 use Rattle.std.specs.List.{AllByRecursion}
 use Rattle.arc_bits.specs.Words.{unpacked}
@@ -39,7 +40,7 @@ use Rattle.arc_schedule.specs.Made.{Point, Made, own, is_of}
 use Rattle.arc_schedule.specs.Plans.{Reaches, new_object, strong_up, strong_down, finish, vacate}
 use Rattle.arc_schedule.specs.Plans.Reaches.{starts as reaches_start, makes as reaches_next}
 use Rattle.arc_schedule.specs.Orders.{is_cell, enters, in_access}
-use Rattle.arc_schedule.proofs.Stands.{Waits, Task, here, CascadeUpTo, step_in, UpTo, Stands, some-is}
+use Rattle.arc_schedule.proofs.Stands.{Waits, Task, here, CascadeUpTo, step_in, UpTo, Stands}
 use Rattle.arc_schedule.proofs.Keeps.{creation-layout}
 
 -- a thread that is in no access is in none behind the step
@@ -139,7 +140,7 @@ calm k n t s now st asked = go t.doing st.up_to
     Calm s = IsCalm (extent_of k.shape) s
 
     is : (x : Step) → step_in t.asked ≡ Some x → Calm x → Calm s
-    is x e c = subst Calm (some-is x s (sym e ∙ asked)) c
+    is x e c = subst Calm (same_Some x s (sym e ∙ asked)) c
 
     go : (d : Doing) → UpTo k st.job st.at t.vars t.made t.hands t.asked now d → Calm s
     go Ready u = let e : step_in t.asked ≡ None = ap step_in u.0 in absurd (cc)

@@ -1,7 +1,7 @@
 -- Each word that a stepper is given keeps what it stands for, with the step that found it.
 use Rattle.std.proofs.Common.{◌≡◌, ℕ, zero, suc, ◌+◌, ◌<◌, Bool, true, false, cond, eqb, ltb, List, [], ◌∷◌, length, take, drop, set, get_or, Option, Some, None, refl, sym, ap, subst, ◌∙◌, arith}
 use Rattle.std.proofs.lemmas.Bool.{eqb-true, ltb-true}
-use Rattle.std.proofs.lemmas.Option.{slice_get_within}
+use Rattle.std.proofs.lemmas.Option.{same_Some, slice_get_within}
 use Rattle.std.proofs.lemmas.List.Elements.{recursion_from_All}
 use Rattle.std.specs.Prelude.{All}
 use Rattle.std.specs.List.{AllByRecursion}
@@ -60,7 +60,7 @@ use Rattle.arc_schedule.specs.Operations.FieldsDone.{entered}
 use Rattle.arc_schedule.specs.Operations.IsCascade.{more as cascade_more, last as cascade_last}
 use Rattle.arc_schedule.specs.Operations.Drops.{more as drops_more, last as drops_last}
 use Rattle.arc_schedule.specs.Operations.Does.{makes as does_make, full as does_full, copies as does_copy}
-use Rattle.arc_schedule.proofs.Stands.{Gave, waits, begun-from, some-is, given, gives, starts-again, Waits, Task, Job, state_of, here, MadeUpTo, IsMaking, IsCopying, IsDropping, AllDone, IsFinishing, IsVacating, CascadeUpTo, IsDying, step_in, UpTo, WorksAt, AreIn, IsIn, Stands}
+use Rattle.arc_schedule.proofs.Stands.{Gave, waits, begun-from, given, gives, starts-again, Waits, Task, Job, state_of, here, MadeUpTo, IsMaking, IsCopying, IsDropping, AllDone, IsFinishing, IsVacating, CascadeUpTo, IsDying, step_in, UpTo, WorksAt, AreIn, IsIn, Stands}
 use Rattle.arc_schedule.proofs.Begins.{value-ref, put-ref, over-done, op-done, drop-asks, rest-is, begins, goes-on, replaces}
 use Rattle.arc_schedule.proofs.Tells.{idle, makes-tells, copies-tells, drops-tells, finish-tells, vacates-tells}
 
@@ -435,7 +435,7 @@ dies-on {n = n} k j served bare i t s w now works vars c u takes = go c.at u.pla
       works = works;
       vars_in = vars;
       up_to = at-place at.Naming None _ (after None) (
-        record { stored = w; now_is = let e = some-is s _ p.1 in rw (e, p.0) refl },
+        record { stored = w; now_is = let e = same_Some s _ p.1 in rw (e, p.0) refl },
         rw u.layout refl,
       );
     }
@@ -447,7 +447,7 @@ dies-on {n = n} k j served bare i t s w now works vars c u takes = go c.at u.pla
       works = works;
       vars_in = vars;
       up_to = at-place at.Leaving None _ (after None) (
-        all-done k.shape point c.slot w u.base (after None) bare (let e = some-is s _ p.1 in rw (e, p.0.now_is) entered),
+        all-done k.shape point c.slot w u.base (after None) bare (let e = same_Some s _ p.1 in rw (e, p.0.now_is) entered),
         rw u.layout refl,
       );
     }
@@ -463,7 +463,7 @@ dies-on {n = n} k j served bare i t s w now works vars c u takes = go c.at u.pla
         left = now;
         all = p.0;
         waits = waits down point _ (after None) _ _ (begun-from down point (loads k.shape point (NextPlace c.slot) 0 ∷ now) (after None) (finish_from c)
-            (let e = some-is s _ p.1 in let z = some-is w 0 takes in rw (e, z) starts_first) down-start);
+            (let e = same_Some s _ p.1 in let z = same_Some w 0 takes in rw (e, z) starts_first) down-start);
       });
     }
     go (at.Finishing p) f takes =

@@ -1,9 +1,14 @@
+pub mod Lists
+pub mod Phases
 pub mod Stands
 pub mod Begins
 pub mod Tells
 pub mod Keeps
 pub mod Calm
 pub mod Ahead
+pub mod Asks
+pub mod Stages
+pub mod Opening
 pub mod Follows
 pub mod Runs
 pub mod Worked

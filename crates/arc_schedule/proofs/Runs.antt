@@ -1,5 +1,5 @@
 -- The steps of a replay are a schedule run of its script.
-use Rattle.std.proofs.Common.{◌≡◌, ℕ, ◌+◌, ◌-◌, ◌<◌, ◌≤◌, false, List, [], ◌∷◌, ◌++◌, length, Some, refl, sym, ap, subst, ◌∙◌, arith}
+use Rattle.std.proofs.Common.{◌≡◌, ℕ, ◌+◌, ◌-◌, ◌<◌, ◌≤◌, false, List, [], ◌∷◌, length, Some, refl, sym, ap, subst, ◌∙◌, arith, append-nil}
 use Rattle.std.proofs.lemmas.Option.{slice_get_within}
 use Rattle.std.proofs.lemmas.List.Elements.{All-nil, All-from_recursion}
 use Rattle.std.specs.Prelude.{slice_get, reverse}
@@ -19,11 +19,10 @@ use Rattle.arc_schedule.specs.Orders.InOrder.{ends}
 use Rattle.arc_schedule.specs.Law.{ReplaysAreScheduleRuns}
 use Rattle.arc_schedule.proofs.Stands.{Task, IsWhole}
 use Rattle.arc_schedule.proofs.Ahead.{in-turn-none, IsAhead, OrderFor, own-other}
-use Rattle.arc_schedule.proofs.Follows.{IsOneOf, there-is, task_of, whole, follows}
-
-append-nil : {X : Type 0} (xs : List X) → xs ++ [] ≡ xs
-append-nil [] = refl
-append-nil (x ∷ xs) = ap (λ ys. x ∷ ys) (append-nil xs)
+use Rattle.arc_schedule.proofs.Lists.{there-is}
+use Rattle.arc_schedule.proofs.Asks.{whole}
+use Rattle.arc_schedule.proofs.Stages.{IsOneOf, task_of}
+use Rattle.arc_schedule.proofs.Follows.{follows}
 
 own-none : (n : ℕ) (ms : List Made) → AllByRecursion (IsOneOf n) ms → own 0 ms ≡ []
 own-none n [] h = refl

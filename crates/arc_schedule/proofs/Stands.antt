@@ -1,5 +1,6 @@
 -- What a stepper stands for: the steps made so far are those of its thread's operations up to where it is.
 use Rattle.std.proofs.Common.{◌≡◌, ℕ, ◌+◌, ◌<◌, ◌≤◌, Bool, true, false, cond, ltb, List, ◌∷◌, length, map, Option, Some, None, refl, sym, subst}
+use Rattle.std.proofs.lemmas.Option.{same_Some}
 use Rattle.std.specs.Prelude.{slice_get, flat_map, All, ⊤}
 use Rattle.arc_model.specs.declared.event.ObjectName.{ObjectName}
 use Rattle.arc_model.specs.Shapes.{HeapShape}
@@ -65,13 +66,10 @@ begun-from plan point b now p s e =
     let Q : _ → Type 0 = λ x. Gave plan point b now (plan.answer x None) (plan.turned x None) in
     subst Q e (record { started = now; starts = s; before = plan.start; last = None; reaches = reaches_start; answers = refl; turned = refl })
 
-pub some-is : {X : Type 0} (x y : X) → Some x ≡ Some y → x ≡ y
-some-is x y e = cc
-
 pub given : {P A : Type 0} (plan : Plan P A) (point : Point) (b now : List Made) (p : P) (s : Step) (found : ℕ) → Waits plan point b now p (Some s) →
     Gave plan point b (made_at point s found (plan.tells p found) ∷ now) (plan.answer p (Some found)) (plan.turned p (Some found))
 given {P = P} plan point b now p s found w =
-    let same : s ≡ w.step = some-is s w.step w.asked_is in
+    let same : s ≡ w.step = same_Some s w.step w.asked_is in
     let r : Reaches plan point w.gave.started (plan.turned w.gave.before w.gave.last) (Some found) (made_at point w.step found (plan.tells (plan.turned w.gave.before w.gave.last) found) ∷ now) = reaches_next w.gave.reaches w.gave.answers in
     let Q : P → Type 0 = λ (x : P). Reaches plan point w.gave.started x (Some found) (made_at point w.step found (plan.tells x found) ∷ now) in
     let R : Step → Type 0 = λ (x : Step). Reaches plan point w.gave.started p (Some found) (made_at point x found (plan.tells p found) ∷ now) in

@@ -2,18 +2,20 @@
 #![tactic(auto)]
 
 ghost use Rattle.arc_schedule.specs.Law.{ReplaysAreScheduleRuns};
-ghost use Rattle.arc_schedule.specs.Worked.{PlacesComeFirst, AccessesEndFirst};
+ghost use Rattle.arc_schedule.specs.Worked.{PlacesComeFirst, AccessesEndFirst, OperationsTell};
 
-/// The steps of a replay are a schedule run of its script: the words go from all 0 by what each step means, each thread's steps are
-/// those of its operations, and their order is that of the phases and of the schedule. They are as many as the replay counts and leave its
-/// words. Each event has the number and the thread of a step that makes it by what the step writes and finds, and the other steps make none.
+/// The steps of a replay that came to its end are a schedule run of its script: the words go from all 0 by what each step means, each
+/// thread's steps are those of its operations, phase by phase, and their order is that of the phases and of the schedule. They are as many
+/// as the replay counts and leave its words. Its events are those that the plans of the operations tell, each with the number and the
+/// thread of its step.
 pub fn replays_are_schedule_runs()
     ensures { ReplaysAreScheduleRuns }
 {}
 
 /// Two worked orders of two threads: the schedule's places come first, and where they run out a thread inside an access ends its operation
-/// before the threads go on in the order of their numbers.
+/// before the threads go on in the order of their numbers. And a worked operation, whose event is no function of the step and the word.
 pub fn schedules_are_followed()
     ensures places { PlacesComeFirst }
     ensures accesses { AccessesEndFirst }
+    ensures events { OperationsTell }
 {}

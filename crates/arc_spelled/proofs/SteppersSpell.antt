@@ -67,7 +67,7 @@ program-served s p served = All-from_recursion IsServedOp (program_of s p) (go (
     go true = tt
     go false = thread-served s.threads (p - 1) (recursion_from_All IsServedThread s.threads served.threads)
 
-served-work : (s : Script) (p : ℕ) (came : Hands) → IsServed s → IsServedWork (work_of s p came)
+pub served-work : (s : Script) (p : ℕ) (came : Hands) → IsServed s → IsServedWork (work_of s p came)
 served-work s p came served = record { whole = refl; ops = program-served s p served; without_fields = served.without_fields }
 
 -- ---- a new stepper

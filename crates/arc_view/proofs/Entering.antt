@@ -1,13 +1,13 @@
 -- The deinit of an object is entered: the rule allows the store of its next word.
-use Rattle.std.proofs.Common.{◌≡◌, ◌≢◌, ◌⊎◌, inl, inr, ℕ, zero, suc, ◌+◌, ◌*◌, ◌/◌, ◌%◌, ◌<◌, ◌≤◌, ◌==◌, Bool, true, false, cond, List, [], ◌∷◌, ◌++◌, map, get_or, set, Option, Some, None, refl, sym, ap, ◌∙◌, subst, arith, get_or-set_other, get_or-set_same}
-use Rattle.std.specs.Prelude.{slice_get, slice_index, length}
+use Rattle.std.proofs.Common.{◌≡◌, ◌≢◌, ◌⊎◌, inl, inr, ℕ, zero, suc, ◌+◌, ◌*◌, ◌/◌, ◌%◌, ◌<◌, ◌≤◌, ◌==◌, Bool, true, false, cond, List, [], ◌∷◌, ◌++◌, map, set, Option, Some, None, refl, sym, ap, ◌∙◌, subst, arith, get_or-set_other, get_or-set_same}
+use Rattle.std.specs.Prelude.{slice_get}
 use Rattle.std.proofs.lemmas.List.{length-set}
 use Rattle.std.proofs.lemmas.Bool.{eqb-true}
 use Rattle.arc_model.specs.declared.event.CellName.{CellName}
 use Rattle.arc_model.specs.declared.event.CellName.TheVariants as cells
 use Rattle.arc_model.specs.declared.event.Act.{Act}
 use Rattle.arc_model.specs.Shapes.{HeapShape}
-use Rattle.arc_model.specs.Heaps.{Deinit, Owed, Object, Heap}
+use Rattle.arc_model.specs.Heaps.{Deinit, Owed, Object}
 use Rattle.arc_model.specs.Holders.{in_slot}
 use Rattle.arc_model.specs.WellFormed.{more, total, in_slot_times}
 use Rattle.arc_model.specs.History.{History, heap_after, IsLegal}
@@ -20,19 +20,16 @@ use Rattle.arc_rule.specs.Shown.{Says, ShowsBut, word_at}
 use Rattle.arc_rule.proofs.Places.{place_at-number}
 use Rattle.arc_rule.specs.declared.layout.Place.{Place}
 use Rattle.arc_rule.specs.declared.layout.Place.TheVariants.{Zero, Global, Count, Isa, Next, Field, Link, Strong, Unowned, Weak}
-use Rattle.arc_rule.specs.declared.step.Step.{Step}
 use Rattle.arc_rule.specs.declared.step.Step.TheVariants.{Store}
 use Rattle.arc_rule.specs.declared.step.Intent.TheVariants as intents
-use Rattle.arc_view.specs.declared.view.Stored.{Stored}
-use Rattle.arc_view.specs.declared.view.Begun.{Begun}
 use Rattle.arc_view.specs.declared.view.Parent.{Parent}
 use Rattle.arc_view.specs.declared.view.Entered.{Entered}
 use Rattle.arc_view.specs.declared.view.Working.{Working}
 use Rattle.arc_view.specs.declared.view.View.{View}
 use Rattle.arc_view.specs.Views.{Each, cell_place, next_word, kept_next, private_words, Excepts}
 use Rattle.arc_view.specs.Holding.{At, HasDuty, Owns, heap_of}
-use Rattle.arc_view.specs.Rule.{EnteredFits, IsMine, IsWithin, WorkFits, Lies, Lying}
-use Rattle.arc_view.specs.Kinds.{act_of, event_list, stored_act, parent_of, working_stored, working_after}
+use Rattle.arc_view.specs.Rule.{EnteredFits, IsMine, IsWithin, Lies}
+use Rattle.arc_view.specs.Kinds.{act_of, stored_act, parent_of, working_stored, working_after}
 use Rattle.arc_view.specs.Admission.{HasEntered, IsParent, MayStoreIn, Admits}
 use Rattle.arc_view.proofs.Within.{each_at}
 use Rattle.arc_view.proofs.Keeps.{stays_self}

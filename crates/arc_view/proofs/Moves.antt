@@ -22,10 +22,7 @@ use Rattle.std.proofs.Common.{◌≡◌, ◌≢◌, ℕ, ◌<◌, ◌==◌, eqb,
 use mathlib.Core.Logic.{dite}
 use native.Mathlib.Decide.{ℕ_discrete}
 use prog.Atomic.{either}
-use Rattle.atomic_table.specs.Table.{State, Me}
-use Rattle.std.specs.Prelude.{slice_index}
-use mathlib.Core.Option.{some as just}
-use lib.ListN.{get_elem?}
+use Rattle.atomic_table.specs.Table.{Me}
 use Rattle.arc_bits.specs.declared.packing.Word.TheVariants.{Counts}
 use Rattle.arc_bits.specs.Words.{IsWordOf, unpacked}
 use Rattle.arc_bits.proofs.Unpacking.{unpacked-packed}
@@ -53,8 +50,8 @@ use Rattle.arc_view.specs.declared.view.Role.TheVariants.{Pass}
 use Rattle.arc_view.specs.declared.view.Working.{Working}
 use Rattle.arc_view.specs.declared.view.View.{View}
 use Rattle.arc_view.specs.Holding.{At, HasHand, HasDuty, is_counted, heap_of}
-use Rattle.arc_view.specs.Rule.{IsKept, news}
-use Rattle.arc_view.specs.Kinds.{event_list, kind_at, is_last, is_last_in, hit_act, missed_act, act_of, working_hit, working_after}
+use Rattle.arc_view.specs.Rule.{news}
+use Rattle.arc_view.specs.Kinds.{kind_at, is_last, is_last_in, hit_act, missed_act, act_of, working_hit, working_after}
 use Rattle.arc_view.specs.Admission.{Admits, IsDown, IsUp}
 use Rattle.arc_view.specs.Built.{IsBuilt}
 use Rattle.arc_view.specs.Steps.{KeepsRule}

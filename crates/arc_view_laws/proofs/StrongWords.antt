@@ -1,5 +1,5 @@
 -- The word that a pass finds in the slot of an object of which it has a strong hand.
-use Rattle.std.proofs.Common.{◌≡◌, ℕ, ◌≤◌, ◌<◌, Bool, false, List, [], ◌∷◌, length, Option, None, Some, refl, sym, ap, ◌∙◌, subst, arith}
+use Rattle.std.proofs.Common.{◌≡◌, ℕ, ◌≤◌, ◌<◌, false, List, [], ◌∷◌, length, Option, None, Some, refl, sym, ap, ◌∙◌, subst, arith}
 use Rattle.arc_bits.specs.declared.packing.Inline.{Inline}
 use Rattle.arc_bits.specs.declared.packing.Word.TheVariants.{Counts, Slow}
 use Rattle.arc_bits.specs.Words.{CountsFit, IsWordOf, unpacked}

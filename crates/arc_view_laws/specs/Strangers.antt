@@ -1,4 +1,4 @@
--- What a pass's fields rest on.
+-- What the numbers of a pass rest on: whose events it hasn't seen, and which steps make an object.
 use Rattle.std.specs.Prelude.{ℕ, ◌≡◌, ◌<◌, ◌==◌, Bool, false, []}
 use Rattle.arc_model.specs.History.{share}
 use Rattle.arc_rule.specs.declared.step.Step.{Step}

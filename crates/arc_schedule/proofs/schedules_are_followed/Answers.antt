@@ -1,4 +1,4 @@
-use Rattle.arc_schedule.proofs.Worked.{places_come_first as places, accesses_end_first as accesses}
+use Rattle.arc_schedule.proofs.Worked.{places_come_first as places, accesses_end_first as accesses, operations_tell as events}
 use Rattle.arc_schedule.proofs.schedules_are_followed.Goals as goal
 
 pub returns-clause-places : goal.returns-clause-places
@@ -6,3 +6,6 @@ returns-clause-places c = places
 
 pub returns-clause-accesses : goal.returns-clause-accesses
 returns-clause-accesses c = accesses
+
+pub returns-clause-events : goal.returns-clause-events
+returns-clause-events c = events

@@ -1,0 +1,168 @@
+-- The threads before their first phase, and where phases begin.
+use Rattle.std.proofs.Common.{◌≡◌, ℕ, zero, suc, ◌+◌, ◌-◌, ◌<◌, ◌≤◌, Bool, true, false, eqb, List, [], ◌∷◌, length, map, Some, None, inl, inr, refl, sym, ap, subst, ◌∙◌, arith, add-one}
+use Rattle.std.proofs.lemmas.Bool.{eqb-true}
+use Rattle.std.proofs.lemmas.Option.{same_Some}
+use Rattle.std.proofs.lemmas.List.{length-map}
+use Rattle.std.proofs.lemmas.List.Elements.{All-replicate}
+use Rattle.std.specs.Prelude.{slice_get, replicate, flat_map, All}
+use Rattle.std.specs.List.{AllByRecursion}
+use Rattle.arc_rule.specs.declared.step.Step.{Step}
+use Rattle.arc_rule.specs.declared.step.Intent.{Intent}
+use Rattle.arc_script.specs.declared.script.Op.{Op}
+use Rattle.arc_script.specs.declared.script.ThreadDecl.{ThreadDecl}
+use Rattle.arc_script.specs.declared.script.Script.{Script}
+use Rattle.arc_script.specs.Valid.{IsScript, IsThread}
+use Rattle.arc_ops.specs.declared.stepper.Move.TheVariants as moves
+use Rattle.arc_ops.specs.Programs.{declared_of, phases_in, phases_of, count_of_vars, vars_of}
+use Rattle.arc_ops.specs.Served.{IsServed, IsServedThread, IsServedOp}
+use Rattle.arc_ops.specs.Thread.{Thread, HeldFits, stepper_of, takes, turned}
+use Rattle.arc_replays.specs.Stages.{Stage, has_step, awaits_phase, IsNone, new_threads, begun_thread, begun_threads}
+use Rattle.arc_schedule.specs.Made.{Made, own}
+use Rattle.arc_schedule.specs.Operations.{State, Variables}
+use Rattle.arc_schedule.specs.Threads.{PhasesDone}
+use Rattle.arc_schedule.specs.Threads.OpsDone.{none as ops_none}
+use Rattle.arc_schedule.specs.Threads.PhasesDone.{none as phases_none}
+use Rattle.arc_schedule.proofs.Lists.{all-there}
+use Rattle.arc_schedule.proofs.Stands.{Task, Job, refs, state_of, here, Stands}
+use Rattle.arc_schedule.proofs.Keeps.{begins-phase}
+use Rattle.arc_schedule.proofs.Asks.{waits-for-phase, has-ended, ended-stays}
+use Rattle.arc_schedule.proofs.Stages.{task_of, AllStand, IsFirst}
+
+-- ---- what is served
+
+pub job-served : (script : Script) → IsServed script → (i : ℕ) (decl : ThreadDecl) → slice_get script.threads i ≡ Some decl → (p : ℕ) (ops : List Op) → slice_get decl.phases p ≡ Some ops → All IsServedOp ops
+job-served script served i decl there p ops here = all-there (All IsServedOp) decl.phases p ops (all-there IsServedThread script.threads i decl served.threads there).ops here
+
+-- ---- before the first phase
+
+pub new-there : (script : Script) (count from i : ℕ) (t : Thread) → slice_get (new_threads script count from) i ≡ Some t → t ≡ stepper_of script (from + i)
+new-there script zero from i t e = absurd (cc)
+new-there script (suc n) from zero t e = let same : from + 0 ≡ from = omega arith in rw same (sym (same_Some (stepper_of script from) t e))
+new-there script (suc n) from (suc i) t e = let same : from + 1 + i ≡ from + suc i = omega arith in subst (λ (m : ℕ). t ≡ stepper_of script m) same (new-there script n (from + 1) i t e)
+
+pub new-many : (script : Script) (count from : ℕ) → length (new_threads script count from) ≡ count
+new-many script zero from = refl
+new-many script (suc n) from = ap suc (new-many script n (from + 1))
+
+refs-nil : (n : ℕ) → refs (replicate n None) ≡ replicate n None
+refs-nil zero = refl
+refs-nil (suc n) = ap (λ (vs : Variables). None ∷ vs) (refs-nil n)
+
+declared : (script : Script) (i : ℕ) (decl : ThreadDecl) → slice_get script.threads i ≡ Some decl → declared_of script (i + 1) ≡ Some decl
+declared script i decl there =
+    let a : eqb (i + 1) 0 ≡ false = other (eqb (i + 1) 0) refl in
+    let b : i + 1 - 1 ≡ i = omega arith in
+    rw (a, b) there
+  where
+    other : (b : Bool) → eqb (i + 1) 0 ≡ b → eqb (i + 1) 0 ≡ false
+    other true e = let f : i + 1 ≡ 0 = eqb-true (i + 1) 0 e in absurd (omega arith)
+    other false e = e
+
+first-ops : (phases : List (List Op)) → 1 ≤ length phases → (ops : List Op) × (slice_get phases 0 ≡ Some ops)
+first-ops [] e = absurd (omega arith)
+first-ops (ops ∷ phases) e = (ops, refl)
+
+pub new-stands : (script : Script) (some : 0 < script.shape.slots) (i : ℕ) (decl : ThreadDecl) → slice_get script.threads i ≡ Some decl → 1 ≤ length decl.phases → Stands (task_of script some i decl) 0 (stepper_of script (i + 1)) []
+new-stands script some i decl there phases = record {
+  job = job;
+  at = 0;
+  phases = 1;
+  phased = refl;
+  works = record {
+    layout_is = refl;
+    shape_is = refl;
+    thread_is = refl;
+    phases_is = phases_are;
+    program_is = ap (λ (ps : List (List Op)). flat_map (λ ops. ops) ps) phases_are;
+    phase_is = refl;
+    index_is = refl;
+    begun_is = refl;
+  };
+  vars_in = All-replicate (HeldFits script.shape.slots) (vars_of script (i + 1)) None tt;
+  up_to = (refl, ops_none);
+}
+  where
+    is : declared_of script (i + 1) ≡ Some decl
+    is = declared script i decl there
+
+    phases_are : phases_of script (i + 1) ≡ decl.phases
+    phases_are = ap phases_in is
+
+    first : State
+    first = state_of (replicate (vars_of script (i + 1)) None) 0 0
+
+    first_is : first ≡ record { vars = replicate (length decl.vars) None; made = 0; hands = 0 }
+    first_is = ap (λ (vs : Variables). record { vars = vs; made = 0; hands = 0 }) (refs-nil (vars_of script (i + 1)) ∙ ap (λ (n : ℕ). replicate n None) (ap count_of_vars is))
+
+    job : Job (task_of script some i decl)
+    job =
+        let ops = first-ops decl.phases phases in
+        let Q : State → Type 0 = λ (x : State). PhasesDone script.shape (i + 1) decl 0 x [] in
+        record { phase = 0; ops = ops.0; there = ops.1; first = first; base = []; before = subst Q (sym first_is) phases_none }
+
+phases-there : (script : Script) (ts : List ThreadDecl) (i : ℕ) (decl : ThreadDecl) → AllByRecursion (IsThread script.classes script.globals) ts → slice_get ts i ≡ Some decl → 1 ≤ length decl.phases
+phases-there script [] i decl h e = absurd (cc)
+phases-there script (t ∷ ts) zero decl h e = let same : t ≡ decl = cc in subst (λ (d : ThreadDecl). 1 ≤ length d.phases) same h.0.some_phase
+phases-there script (t ∷ ts) (suc i) decl h e = phases-there script ts i decl h.1 e
+
+pub thread-valid : (script : Script) (i : ℕ) (decl : ThreadDecl) → IsScript script → slice_get script.threads i ≡ Some decl → 1 ≤ length decl.phases
+thread-valid script i decl valid there = phases-there script script.threads i decl valid.threads there
+
+-- ---- phases begin
+
+map-there : (ts : List Thread) (i : ℕ) (u : Thread) → slice_get (map begun_thread ts) i ≡ Some u → (t : Thread) × (slice_get ts i ≡ Some t) × (u ≡ begun_thread t)
+map-there [] i u e = absurd (cc)
+map-there (t ∷ ts) zero u e = (t, refl, sym (same_Some (begun_thread t) u e))
+map-there (t ∷ ts) (suc i) u e = map-there ts i u e
+
+begun-there : (ts : List Thread) (i : ℕ) (u : Thread) → slice_get (begun_threads ts) (suc i) ≡ Some u → (t : Thread) × (slice_get ts (suc i) ≡ Some t) × (u ≡ begun_thread t)
+begun-there [] i u e = absurd (cc)
+begun-there (t ∷ ts) i u e = map-there ts i u e
+
+pub begun-first : (ts : List Thread) (t : Thread) → slice_get (begun_threads ts) 0 ≡ Some t → slice_get ts 0 ≡ Some t
+begun-first [] t e = e
+begun-first (u ∷ ts) t e = e
+
+pub begun-many : (ts : List Thread) → length (begun_threads ts) ≡ length ts
+begun-many [] = refl
+begun-many (t ∷ ts) = ap suc (length-map ts begun_thread)
+
+-- each thread that waits begins its next phase, and the others have ended
+pub begun-stands : (script : Script) → IsServed script → (some : 0 < script.shape.slots) (s : Stage) (ms : List Made) → AllStand script some s.begun s.threads ms → IsNone has_step s.threads →
+    ((p : ℕ) (t : Thread) → 1 ≤ p → slice_get s.threads p ≡ Some t → awaits_phase t ≡ true → takes t None) → AllStand script some (s.begun + 1) (begun_threads s.threads) ms
+begun-stands script served some s ms stand quiet may i decl u there get = go (begun-there s.threads i u (rw add-one at get))
+  where
+    k : Task
+    k = task_of script some i decl
+
+    go : ((t : Thread) × (slice_get s.threads (suc i) ≡ Some t) × (u ≡ begun_thread t)) → Stands k (s.begun + 1) u (own (i + 1) ms)
+    go x = which (awaits_phase x.0) refl
+      where
+        t : Thread
+        t = x.0
+
+        there_is : slice_get s.threads (i + 1) ≡ Some t
+        there_is = rw add-one x.1
+
+        st : Stands k s.begun t (own (i + 1) ms)
+        st = stand i decl t there there_is
+
+        which : (b : Bool) → awaits_phase t ≡ b → Stands k (s.begun + 1) u (own (i + 1) ms)
+        which true e =
+            let is : u ≡ turned t None = x.2 ∙ (rw e refl) in
+            subst (λ (v : Thread). Stands k (s.begun + 1) v (own (i + 1) ms)) (sym is)
+            (begins-phase k s.begun t (own (i + 1) ms) st (job-served script served i decl there st.job.phase st.job.ops st.job.there) (may (i + 1) t (omega arith) there_is e) (waits-for-phase t e))
+        which false e =
+            let is : u ≡ t = x.2 ∙ (rw e refl) in
+            subst (λ (v : Thread). Stands k (s.begun + 1) v (own (i + 1) ms)) (sym is)
+            (ended-stays k s.begun (s.begun + 1) t (own (i + 1) ms) st (has-ended t (quiet (i + 1) t (omega arith) there_is) e))
+
+-- ---- thread 0
+
+pub first-waits : (script : Script) (t : Thread) → IsFirst script t → takes t None → awaits_phase t ≡ true → (turned t None).asked ≡ moves.Ended
+first-waits script t (inl e) takes waits = rw e refl
+first-waits script t (inr e) takes waits = let f = waits-for-phase t waits in absurd (cc)
+
+pub first-has-none : (script : Script) (t : Thread) (step : Step) (intent : Intent) → IsFirst script t → t.asked ≡ moves.Step step intent → ⊥
+first-has-none script t step intent (inl e) asked = let f : (stepper_of script 0).asked ≡ moves.Step step intent = subst (λ (u : Thread). u.asked ≡ moves.Step step intent) e asked in absurd (cc)
+first-has-none script t step intent (inr e) asked = absurd (cc)
