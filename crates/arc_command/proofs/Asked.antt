@@ -100,6 +100,6 @@ all_read (Some words) items i e h =
 pub no_more_read : (told : Option (List (List ℕ))) (items : List (List ℕ)) (i : ℕ) → i ≤ 4 → IfSome told (λ (words : List (List ℕ)). None ≡ word_read words (i + 1)) →
     IfSome told (λ (words : List (List ℕ)). items ≡ map as_read (take i (drop 1 words))) → IfSome told (λ (words : List (List ℕ)). command_of items ≡ command_of (drop 1 words))
 no_more_read None items i few end h = tt
-no_more_read (Some words) items i few end h = 
+no_more_read (Some words) items i few end h =
     let next : i + 1 ≡ suc i = omega arith in
     ap command_of (h ∙ read_over words i (subst (λ (n : ℕ). None ≡ word_read words n) next end) few) ∙ same_command (drop 1 words)
