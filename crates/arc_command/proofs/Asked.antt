@@ -1,12 +1,12 @@
 -- What a command line asks for is what the words that are read of it ask for.
-use Rattle.std.proofs.Common.{◌≡◌, ℕ, ◌^◌, ◌<◌, ◌≤◌, Bool, true, false, cond, leb, List, [], ◌∷◌, length, take, drop, map, ◌++◌, zero, suc, Option, Some, None, refl, sym, ap, ◌∙◌, ◌+◌, subst, arith, rules, tests, inl, inr}
+use Rattle.std.proofs.Common.{◌≡◌, ℕ, ◌^◌, ◌<◌, ◌≤◌, true, false, leb, List, [], ◌∷◌, length, take, drop, map, ◌++◌, zero, suc, Option, Some, None, refl, sym, ap, ◌∙◌, ◌+◌, subst, arith, rules, tests, inl, inr}
 use Rattle.std.specs.Prelude.{bytes_eq, codes, ◌-◌, IfSome}
 use Rattle.std.specs.Fmt.{decimal}
 use Rattle.std.proofs.lemmas.Bool.{cases_lt}
 use Rattle.std.proofs.lemmas.Fmt.{length-decimal-le}
 use Rattle.arc_text.specs.Words.{number_in}
 use Rattle.arc_text.proofs.Numbers.{number_range, number_spelled}
-use Rattle.arc_command.specs.Commands.{command_of, one_word, script_asked}
+use Rattle.arc_command.specs.Commands.{command_of}
 use Rattle.arc_command.specs.Lines.{as_read, word_read}
 
 -- a word of at most 20 bytes is read as it is, and a longer one as an empty one
