@@ -1,5 +1,5 @@
 -- What `replay` prints keeps its promises.
-use Rattle.std.proofs.Common.{◌≡◌, ℕ, Bool, true, false, List, Option, reverse, sym, subst}
+use Rattle.std.proofs.Common.{◌≡◌, ℕ, Bool, true, false, List, Option, subst}
 use Rattle.std.specs.Io.KnownBytes.{Appends}
 use Rattle.arc_script.specs.declared.script.Script.{Script}
 use Rattle.arc_script.specs.Valid.{IsScript}
@@ -12,7 +12,7 @@ use Rattle.arc_plain.specs.Replays.{IsReplay}
 use Rattle.arc_schedule.proofs.Runs.{replays_are_schedule_runs}
 use Rattle.arc_command.specs.declared.command.Command.{Command}
 use Rattle.arc_command.specs.declared.command.Command.TheVariants as command
-use Rattle.arc.specs.Outputs.{IsOutput, TellsOf}
+use Rattle.arc.specs.Outputs.{IsOutput}
 use Rattle.arc.specs.Printed.{Prints, OfHistory, IsScheduledReplay, KeepsPhases, HasNoOtherThread, TellsEachDeinit, ClaimsNothing, LeavesNothing}
 
 scheduled : (script : Script) (replay : Replay) → IsScript script → IsServed script → IsReplay script replay → IsScheduledReplay script replay

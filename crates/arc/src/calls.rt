@@ -11,9 +11,9 @@ ghost use Rattle.arc.specs.Outputs.{IsOutput, IsRefusal, IsValidInput, IsUnserve
 ghost use Rattle.arc.specs.Judged.{HadReplay};
 ghost use Rattle.arc.specs.Printed.{Prints, OfHistory, IsScheduledReplay, KeepsPhases, HasNoOtherThread, TellsEachDeinit, ClaimsNothing, LeavesNothing};
 
-use arc_command::{Arg, Command, command_of};
 use crate::output::{Fault, output_of};
 use crate::status::Status;
+use arc_command::{Arg, Command, command_of};
 use arc_io::{Sink, Source, write_all};
 use std::alloc::{AllocError, Global};
 use std::process::ExitCode;

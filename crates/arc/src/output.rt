@@ -8,8 +8,8 @@ ghost use Rattle.arc_ops.specs.Served.{IsServed};
 ghost use Rattle.arc_command.specs.Commands.{CountFits, reads, limit_of};
 ghost use Rattle.arc.specs.Outputs.{TellsReplay, TellsOf, illegal_number, legal_text, illegal_text, TellsVerdict, IsOutput, RefusesText, IsCause};
 
-use arc_command::Command;
 use arc_check::{CheckFault, Verdict, check};
+use arc_command::Command;
 use arc_io::{InFault, Source, read_all};
 use arc_model::{Illegal, Memory};
 use arc_ops::is_served;

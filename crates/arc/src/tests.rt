@@ -91,17 +91,60 @@ fn call(
 #[test]
 fn each_command_and_each_fault_of_the_outside(rt: HostRuntime) -> Result<(), Fail> {
     let alloc = rt.alloc();
-    let unserved = b"arc 1\nslots 1\nentries 1\nclass Node\nthread 1\nvar a weak Node\ndone\n".as_slice();
+    let unserved =
+        b"arc 1\nslots 1\nentries 1\nclass Node\nthread 1\nvar a weak Node\ndone\n".as_slice();
     let none = (0, 0);
     for (line, input, fails, status, want) in [
-        (b"replay".as_slice(), A_COPY, none, Status::Done, A_COPY_REPLAYED),
-        (b"replay", TWO_THREADS, none, Status::Done, TWO_THREADS_REPLAYED),
-        (b"check", TWO_THREADS_REPLAYED, none, Status::Done, b"legal 5\n"),
-        (b"check", NEVER_THERE, none, Status::NotLegal, b"illegal line 9 reason 6\n"),
+        (
+            b"replay".as_slice(),
+            A_COPY,
+            none,
+            Status::Done,
+            A_COPY_REPLAYED,
+        ),
+        (
+            b"replay",
+            TWO_THREADS,
+            none,
+            Status::Done,
+            TWO_THREADS_REPLAYED,
+        ),
+        (
+            b"check",
+            TWO_THREADS_REPLAYED,
+            none,
+            Status::Done,
+            b"legal 5\n",
+        ),
+        (
+            b"check",
+            NEVER_THERE,
+            none,
+            Status::NotLegal,
+            b"illegal line 9 reason 6\n",
+        ),
         (b"replay x", A_COPY, none, Status::Usage, USAGE),
-        (b"replay", A_COPY, (3, 0), Status::ReadFault, b"read fault\n"),
-        (b"replay", A_COPY, (0, 2), Status::WriteFault, b"report 1\nt"),
-        (b"replay", unserved, none, Status::Refused, b"refused line 0 reason 0\n"),
+        (
+            b"replay",
+            A_COPY,
+            (3, 0),
+            Status::ReadFault,
+            b"read fault\n",
+        ),
+        (
+            b"replay",
+            A_COPY,
+            (0, 2),
+            Status::WriteFault,
+            b"report 1\nt",
+        ),
+        (
+            b"replay",
+            unserved,
+            none,
+            Status::Refused,
+            b"refused line 0 reason 0\n",
+        ),
     ] {
         let (code, written) = call(alloc, line, input, fails)?;
         assert_eq!(rt; code, status.code());

@@ -47,11 +47,11 @@ Begins n threads old new (Err e) = (rest : ℕ → ℕ → List (List ℕ) → R
 abbrev pub left : Events → Result (List EventLine) Refusal
 left e = events_from e.scope e.number e.ended (lines_of e.lines)
 
--- one event less is left, or none is
+-- one event less is left, or none is, before and after; after a fault as much is left as before
 abbrev pub NextIs : Result (Option EventLine) CheckFault → Result (List EventLine) Refusal → Result (List EventLine) Refusal → Type 0
 NextIs (Ok (Some e)) old new = old ≡ with_event e new
-NextIs (Ok None) old new = old ≡ Ok []
-NextIs (Err e) old new = Refuses e old
+NextIs (Ok None) old new = (old ≡ Ok []) × (new ≡ Ok [])
+NextIs (Err e) old new = Refuses e old × (new ≡ old)
 
 -- what events may name is what the shape has
 pub record IsNamedBy (scope : Naming) (shape : HeapShape) (threads : ℕ) : Type 0 where

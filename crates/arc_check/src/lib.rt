@@ -18,6 +18,3 @@ pub use judge::{Verdict, check};
 pub use laws::{other_lines_go_before, written_history_is_read};
 pub use line::EventLine;
 pub use text::{Events, Opened, open_history};
-
-#[cfg(test)]
-mod tests;

@@ -93,7 +93,8 @@ fn begin(alloc: Global, lines: &mut Lines<'_>, number: u32) -> Result<Begun, Che
 }
 
 impl<'a> Events<'a> {
-    /// The next event, or None where there is none and the text may end so.
+    /// The next event, or None where there is none and the text may end so, and then none is left. After a fault the reader
+    /// is as before: the line that has it, or for which no memory was found, is the next to be read.
     pub fn next_event(&mut self, alloc: Global) -> Result<Option<EventLine>, CheckFault>
         requires { self.old.number + length (lines_of self.old.lines) < 2 ^ 32 }
         ensures next { NextIs result (left self.old) (left self.new) }
@@ -102,24 +103,25 @@ impl<'a> Events<'a> {
         ensures shorter { IfOk result (λ o. OnSome o (length (lines_of self.new.lines) < length (lines_of self.old.lines))) }
         ensures fits { 1 ≤ self.old.scope.slots → 1 ≤ self.old.scope.entries → IfOk result (λ o. IfSome o (λ e. EventFits self.old.scope e)) }
     {
-        'reading: while let Some(line) = self.lines.next_line() {
+        let mut lines = Lines::new(self.lines.rest());
+        'reading: while let Some(line) = lines.next_line() {
             let number = self.number;
-            match told_line(alloc, &self.scope, self.ended, line) {
-                Ok(told) => {
-                    self.number += 1;
-                    match told {
-                        Told::Passed => {}
-                        Told::Done => self.ended = true,
-                        Told::Event { step, event } => {
-                            return Ok(Some(EventLine {
-                                line: number,
-                                step,
-                                event,
-                            }));
-                        }
-                    }
-                }
+            let told = match told_line(alloc, &self.scope, self.ended, line) {
+                Ok(told) => told,
                 Err(fault) => return Err(fault.at_line(number)),
+            };
+            self.lines = Lines::new(lines.rest());
+            self.number += 1;
+            match told {
+                Told::Passed => {}
+                Told::Done => self.ended = true,
+                Told::Event { step, event } => {
+                    return Ok(Some(EventLine {
+                        line: number,
+                        step,
+                        event,
+                    }));
+                }
             }
         }
         if self.ended {

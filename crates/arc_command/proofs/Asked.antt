@@ -1,12 +1,12 @@
 -- What a command line asks for is what the words that are read of it ask for.
-use Rattle.std.proofs.Common.{◌≡◌, ℕ, ◌^◌, ◌<◌, ◌≤◌, Bool, true, false, cond, leb, List, [], ◌∷◌, length, take, drop, map, ◌++◌, zero, suc, Option, Some, None, refl, sym, ap, ◌∙◌, ◌+◌, subst, arith, rules, tests, inl, inr}
+use Rattle.std.proofs.Common.{◌≡◌, ℕ, ◌^◌, ◌<◌, ◌≤◌, true, false, leb, List, [], ◌∷◌, length, take, drop, map, ◌++◌, zero, suc, Option, Some, None, refl, sym, ap, ◌∙◌, ◌+◌, subst, arith, rules, tests, inl, inr}
 use Rattle.std.specs.Prelude.{bytes_eq, codes, ◌-◌, IfSome}
 use Rattle.std.specs.Fmt.{decimal}
 use Rattle.std.proofs.lemmas.Bool.{cases_lt}
 use Rattle.std.proofs.lemmas.Fmt.{length-decimal-le}
 use Rattle.arc_text.specs.Words.{number_in}
 use Rattle.arc_text.proofs.Numbers.{number_range, number_spelled}
-use Rattle.arc_command.specs.Commands.{command_of, one_word, script_asked}
+use Rattle.arc_command.specs.Commands.{command_of}
 use Rattle.arc_command.specs.Lines.{as_read, word_read}
 
 -- a word of at most 20 bytes is read as it is, and a longer one as an empty one
@@ -100,6 +100,6 @@ all_read (Some words) items i e h =
 pub no_more_read : (told : Option (List (List ℕ))) (items : List (List ℕ)) (i : ℕ) → i ≤ 4 → IfSome told (λ (words : List (List ℕ)). None ≡ word_read words (i + 1)) →
     IfSome told (λ (words : List (List ℕ)). items ≡ map as_read (take i (drop 1 words))) → IfSome told (λ (words : List (List ℕ)). command_of items ≡ command_of (drop 1 words))
 no_more_read None items i few end h = tt
-no_more_read (Some words) items i few end h = 
+no_more_read (Some words) items i few end h =
     let next : i + 1 ≡ suc i = omega arith in
     ap command_of (h ∙ read_over words i (subst (λ (n : ℕ). None ≡ word_read words n) next end) few) ∙ same_command (drop 1 words)

@@ -1,5 +1,5 @@
 -- The events of a replay name what is there.
-use Rattle.std.proofs.Common.{◌≡◌, ℕ, ◌+◌, ◌-◌, ◌^◌, ◌≤◌, ◌<◌, List, [], ◌∷◌, length, reverse, get_or, refl, sym, ap, subst, ◌∙◌, arith}
+use Rattle.std.proofs.Common.{◌≡◌, ℕ, ◌-◌, ◌^◌, ◌≤◌, ◌<◌, List, [], ◌∷◌, length, reverse, get_or, refl, sym, ap, subst, ◌∙◌, arith}
 use Rattle.std.specs.Prelude.{All}
 use Rattle.std.specs.List.{AllByRecursion}
 use Rattle.std.proofs.lemmas.List.{length-map, length-reverse, get_or-reverse}
@@ -20,7 +20,7 @@ use Rattle.arc_check.specs.WrittenHistory.{named_of, ActFits}
 use Rattle.arc_read_back.specs.ReadBack.{StampedFits}
 use Rattle.arc_judged.proofs.Slots.{SlotWithin}
 use Rattle.arc_judged.proofs.Hands.{HandsWithin}
-use Rattle.arc_judged.proofs.Stamps.{StampWithin, stage_within, stages_are_sound}
+use Rattle.arc_judged.proofs.Stamps.{StampWithin, stage_within}
 
 -- ---- all of a list, of the list reversed, and of a list that it is mapped to
 
@@ -108,7 +108,7 @@ replay_fits s r valid served replay = reversed_back s r.events.items (all_fit s 
         (reversed_all (λ (e : Stamped). named.ActFits (length s.shape.classes) e.event.act) r.events.items replay.events_fit)
 
     last_stamps : AllByRecursion (StampWithin s.shape.slots replay.last.steps) replay.last.events
-    last_stamps = stage_within s (stages_are_sound s valid served) replay.last replay.run.reached
+    last_stamps = stage_within s valid served replay.last replay.run.reached
 
     stamps : AllByRecursion (StampWithin s.shape.slots r.steps) (reverse r.events.items)
     stamps = rw (replay.events, replay.steps) last_stamps

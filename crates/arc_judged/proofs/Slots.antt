@@ -1,5 +1,5 @@
 -- The slots that a legal event names are there.
-use Rattle.std.proofs.Common.{◌≡◌, ℕ, ◌<◌, Bool, true, false, cond, List, [], ◌∷◌, ◌++◌, Option, Some, None, refl, ap, subst, rules, tests}
+use Rattle.std.proofs.Common.{◌≡◌, ℕ, ◌<◌, Bool, true, false, cond, List, [], ◌∷◌, ◌++◌, Option, Some, None, refl, ap}
 use Rattle.std.specs.Prelude.{is_some, find}
 use Rattle.std.proofs.lemmas.Bool.{eqb-true}
 use Rattle.arc_model.specs.declared.event.Act.{Act}

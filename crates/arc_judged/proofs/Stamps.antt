@@ -1,5 +1,5 @@
 -- The events of a replay's stages: the numbers of their steps, and what they name.
-use Rattle.std.proofs.Common.{◌≡◌, ℕ, ◌+◌, ◌≤◌, List, [], ◌∷◌, Option, Some, None, arith}
+use Rattle.std.proofs.Common.{◌≡◌, ℕ, ◌+◌, ◌≤◌, List, [], ◌∷◌, Option, Some, None, subst, arith}
 use Rattle.std.specs.List.{AllByRecursion}
 use Rattle.arc_model.specs.declared.event.Act.{Act}
 use Rattle.arc_model.specs.declared.event.Event.{Event}
@@ -16,6 +16,7 @@ use Rattle.arc_ops.specs.Thread.{Thread, turned}
 use Rattle.arc_replays.specs.Stages.{Stage, Reached, stamped, stepped}
 use Rattle.arc_replays.specs.Stages.Reached.{new, begins, makes, passes, by_number, last, last_step}
 use Rattle.arc_replays.specs.Histories.{history_of}
+use Rattle.arc_replays.proofs.Holds.{Holds, reached_holds}
 use Rattle.arc_judged.proofs.Slots.{SlotWithin, slot_within}
 use Rattle.arc_judged.proofs.Hands.{HandsWithin, hands_within}
 
@@ -31,9 +32,14 @@ pub record IsSound (shape : HeapShape) (events : List Stamped) : Type 0 where
   pub in_shape : InShape shape (history_of events)
   pub few : (p : ℕ) → next_hand p (history_of events) ≤ 100004
 
--- Stub.
-pub stages_are_sound : (script : Script) → IsScript script → IsServed script → (s : Stage) → Reached script s → IsSound script.shape s.events
-stages_are_sound script valid served s r = absurd served.never
+stages_sound : (script : Script) → IsScript script → IsServed script → (s : Stage) → Reached script s → IsSound script.shape s.events
+stages_sound script valid served s r =
+    let holds : Holds script (λ k. None) s = reached_holds script (λ k. None) valid served s r in
+    record {
+      legal = subst (IsLegal script.shape) holds.replaying.log_is holds.replaying.kept.legal;
+      in_shape = subst (InShape script.shape) holds.replaying.log_is holds.replaying.kept.in_shape;
+      few = holds.few;
+    }
 
 more_steps : (slots steps : ℕ) (events : List Stamped) → AllByRecursion (StampWithin slots steps) events → AllByRecursion (StampWithin slots (steps + 1)) events
 more_steps slots steps [] h = tt
@@ -51,7 +57,10 @@ event_stamped shape steps p (Some act) events before after h =
     } in
     (stamp, more_steps shape.slots steps events h)
 
-module _ (script : Script) (sound : (s : Stage) → Reached script s → IsSound script.shape s.events) where
+module _ (script : Script) (valid : IsScript script) (served : IsServed script) where
+  sound : (s : Stage) → Reached script s → IsSound script.shape s.events
+  sound = stages_sound script valid served
+
   step_within : (s : Stage) (p : ℕ) (t : Thread) (step : Step) → IsSound script.shape s.events → IsSound script.shape (stepped p t step s).events →
       AllByRecursion (StampWithin script.shape.slots s.steps) s.events → AllByRecursion (StampWithin script.shape.slots (s.steps + 1)) (stepped p t step s).events
   step_within s p t step = event_stamped script.shape s.steps p (turned t (Some (found_by step s.words))).event s.events

@@ -1,4 +1,3 @@
-use Rattle.std.proofs.Common.{◌≡◌}
 use Rattle.arc_rule.specs.Places.{extent_of}
 use Rattle.arc.proofs.Reported.{threads_told, end_told, events_told, final_words, no_classes}
 use Rattle.arc.proofs.output.replay_text.Goals as goal

@@ -5,6 +5,7 @@ use Rattle.arc_check.proofs.text.Events.next_event.Given as goal
 
 abbrev pub invariant-reading : goal.invariant-reading
 invariant-reading l = record {
+  same : l.lines ≡ l.self.lines;
   said : events_from l.self.scope l.self.number l.self.ended (lines_of l.self.lines) ≡ events_from l.fn.self.scope l.fn.self.number l.fn.self.ended (lines_of l.fn.self.lines);
   scope : l.self.scope ≡ l.fn.self.scope;
   room : l.self.number + length (lines_of l.self.lines) ≤ l.fn.self.number + length (lines_of l.fn.self.lines);
