@@ -1,6 +1,5 @@
--- The operations of a thread, and what they may name.
-use Rattle.std.specs.Prelude.{ℕ, ◌==◌, ◌-◌, ◌+◌, ◌<◌, if◌then◌else◌, Bool, true, false, List, [], length, slice_get, Option, Some, None}
-use Rattle.std.specs.List.{count_by}
+-- The phases and operations of a thread, and what they may name.
+use Rattle.std.specs.Prelude.{ℕ, ◌==◌, ◌-◌, ◌+◌, ◌<◌, if◌then◌else◌, Bool, true, false, List, [], length, take, flat_map, sum_by, count_by, slice_get, Option, Some, None}
 use Rattle.arc_script.specs.declared.script.Op.{Op}
 use Rattle.arc_script.specs.declared.script.Op.TheVariants as op
 use Rattle.arc_script.specs.declared.script.ThreadDecl.{ThreadDecl}
@@ -10,17 +9,21 @@ use Rattle.arc_script.specs.declared.script.Script.{Script}
 abbrev pub declared_of : Script → ℕ → Option ThreadDecl
 declared_of script thread = if thread == 0 then None else slice_get script.threads (thread - 1)
 
-abbrev pub ops_in : Option (List Op) → List Op
-ops_in None = []
-ops_in (Some ops) = ops
+abbrev pub phases_in : Option ThreadDecl → List (List Op)
+phases_in None = []
+phases_in (Some decl) = decl.phases
 
-abbrev pub first_phase : Option ThreadDecl → List Op
-first_phase None = []
-first_phase (Some decl) = ops_in (slice_get decl.phases 0)
+-- the operations of each phase of the thread, in order; thread 0 has no phase
+abbrev pub phases_of : Script → ℕ → List (List Op)
+phases_of script thread = phases_in (declared_of script thread)
 
--- the operations of the thread
+-- the operations of the thread, phase by phase
 abbrev pub program_of : Script → ℕ → List Op
-program_of script thread = first_phase (declared_of script thread)
+program_of script thread = flat_map (λ ops. ops) (phases_of script thread)
+
+-- how many operations there are in the first phases
+abbrev pub ops_in_first : ℕ → List (List Op) → ℕ
+ops_in_first k phases = length (flat_map (λ ops. ops) (take k phases))
 
 abbrev pub count_of_vars : Option ThreadDecl → ℕ
 count_of_vars None = 0
@@ -34,16 +37,23 @@ abbrev pub is_new : Op → Bool
 is_new (op.New to class) = true
 is_new _ = false
 
--- a line for each operation, and one for the deinit of each object that it may make
-abbrev pub room_for : List Op → ℕ
-room_for ops = length ops + count_by is_new ops
+abbrev pub new_count_of : ThreadDecl → ℕ
+new_count_of decl = sum_by (λ (ops : List Op). count_by is_new ops) decl.phases
+
+-- how many objects the threads of the script may make
+abbrev pub new_count : Script → ℕ
+new_count script = sum_by new_count_of script.threads
+
+-- a line for each operation of the thread, and one for the deinit of each object that the script may make
+abbrev pub room_in : Script → ℕ → ℕ
+room_in script thread = length (program_of script thread) + new_count script
 
 -- an operation that is served, on variables that there are
 abbrev pub VarsFit : ℕ → Op → Type 0
 VarsFit vars (op.New to class) = to < vars
 VarsFit vars (op.Copy to from) = (to < vars) × (from < vars)
+VarsFit vars (op.Move to from) = (to < vars) × (from < vars)
 VarsFit vars (op.Drop var) = var < vars
-VarsFit vars (op.Move to from) = ⊥
 VarsFit vars (op.Unown to of) = ⊥
 VarsFit vars (op.Weak to of) = ⊥
 VarsFit vars (op.Load to of) = ⊥

@@ -1,5 +1,5 @@
 -- A thread's stepper: what it is after each word, and what it asks for then.
-use Rattle.std.specs.Prelude.{ℕ, Bool, true, false, ◌≡◌, ◌<◌, ◌≤◌, ◌+◌, nat_lt, not, ◌&&◌, ◌||◌, if◌then◌else◌, List, [], ◌∷◌, length, drop, All, slice_get, slice_index_or, slice_set, position, replicate, Option, Some, None, ⊤}
+use Rattle.std.specs.Prelude.{ℕ, Bool, true, false, ◌≡◌, ◌<◌, ◌≤◌, ◌+◌, ◌-◌, nat_lt, not, ◌&&◌, ◌||◌, if◌then◌else◌, List, [], ◌∷◌, length, take, drop, flat_map, All, slice_get, slice_index_or, slice_set, position, replicate, Option, Some, None, ⊤}
 use Rattle.std.specs.Option.{unwrap_or}
 use Rattle.arc_bits.specs.declared.packing.Word.{Word}
 use Rattle.arc_bits.specs.declared.packing.Word.TheVariants.{Counts}
@@ -40,7 +40,7 @@ use Rattle.arc_script.specs.declared.script.Op.{Op}
 use Rattle.arc_script.specs.declared.script.Op.TheVariants as op
 use Rattle.arc_script.specs.declared.script.Script.{Script}
 use Rattle.arc_ops.specs.Kept.{Kept, with_line}
-use Rattle.arc_ops.specs.Programs.{VarsFit, ClassFits, program_of, vars_of, room_for}
+use Rattle.arc_ops.specs.Programs.{VarsFit, ClassFits, phases_of, program_of, ops_in_first, vars_of, room_in}
 use Rattle.arc_ops.specs.declared.stepper.Held.{Held}
 use Rattle.arc_ops.specs.declared.stepper.Doing.{Doing}
 use Rattle.arc_ops.specs.declared.stepper.Doing.TheVariants.{Ready, Making, Copying, Dropping, Dying, Ended}
@@ -53,9 +53,13 @@ pub record Thread : Type 0 where
   pub shape : HeapShape
   -- its number
   pub thread : ℕ
+  -- the operations of each phase, and all of them, phase by phase
+  pub phases : List (List Op)
   pub program : List Op
   pub vars : List (Option Held)
-  -- the place of the operation that is under way, or is next
+  -- the phase that is under way, or is next
+  pub phase : ℕ
+  -- the place in the program of the operation that is under way, or is next
   pub index : ℕ
   pub doing : Doing
   -- what it says now
@@ -75,8 +79,10 @@ stepper_of script thread = record {
   layout = extent_of script.shape;
   shape = script.shape;
   thread = thread;
+  phases = phases_of script thread;
   program = program_of script thread;
   vars = replicate (vars_of script thread) None;
+  phase = 0;
   index = 0;
   doing = Ready;
   asked = moves.PhaseEnd;
@@ -84,7 +90,7 @@ stepper_of script thread = record {
   hands = 0;
   made = 0;
   event = None;
-  kept = record { lines = []; room = room_for (program_of script thread) };
+  kept = record { lines = []; room = room_in script thread };
 }
 
 abbrev pub value : List (Option Held) → ℕ → Option Held
@@ -120,9 +126,9 @@ drop_begun held t =
 
 -- ---- the next operation
 
--- an operation that asks for no step is done at once
-abbrev pub skipped : Thread → Thread
-skipped t = record t { index = t.index + 1; kept = with_line (record { operation = t.index + 1; answer = answers.Nil }) t.kept }
+-- an operation that asks for no step is done at once: its line, and the next one
+abbrev pub skipped : Answer → Thread → Thread
+skipped answer t = record t { index = t.index + 1; kept = with_line (record { operation = t.index + 1; answer = answer }) t.kept }
 
 abbrev pub creation_from : Thread → ObjectName → Creation
 creation_from t name = record { layout = t.layout; name = name; at = search.Start }
@@ -150,22 +156,36 @@ copy_begun to held t =
     copy_asks to held (strong_up_turned (copy_from t held) None)
     (strong_up_answer (copy_from t held) None) t
 
--- a copy of a nil reference makes the destination nil, and what that held is dropped
-abbrev pub begun_copy : ℕ → (from old : Option Held) → Thread → Thread → Thread
+-- a nil reference makes the destination nil, and what that held is dropped
+abbrev pub begun_nil : ℕ → (old : Option Held) → Thread → (rest : Thread → Thread) → Thread
+begun_nil to (Some old) t rest = drop_begun old (set_var to None (put answers.Nil (record t { first = true })))
+begun_nil to None t rest = rest (skipped answers.Nil t)
+
+abbrev pub begun_copy : ℕ → (from old : Option Held) → Thread → (rest : Thread → Thread) → Thread
 begun_copy to (Some held) old t rest = copy_begun to held (record t { first = true })
-begun_copy to None (Some old) t rest = drop_begun old (set_var to None (put answers.Nil (record t { first = true })))
-begun_copy to None None t rest = rest
+begun_copy to None old t rest = begun_nil to old t rest
 
-abbrev pub begun_drop : ℕ → Option Held → Thread → Thread → Thread
+-- the destination has the reference, and its variable is nil
+abbrev pub moved : (to from : ℕ) → Held → Thread → Thread
+moved to from held t = set_var from None (set_var to (Some held) t)
+
+-- a move asks for a step where the destination held a reference, which is dropped
+abbrev pub begun_move : (to from : ℕ) → (held old : Option Held) → Thread → (rest : Thread → Thread) → Thread
+begun_move to from (Some held) (Some old) t rest = drop_begun old (moved to from held (put answers.Ok (record t { first = true })))
+begun_move to from (Some held) None t rest = rest (moved to from held (skipped answers.Ok t))
+begun_move to from None old t rest = begun_nil to old t rest
+
+abbrev pub begun_drop : ℕ → Option Held → Thread → (rest : Thread → Thread) → Thread
 begun_drop v (Some held) t rest = drop_begun held (set_var v None (put answers.Ok (record t { first = true })))
-begun_drop v None t rest = rest
+begun_drop v None t rest = rest (skipped answers.Nil t)
 
--- the operation begins; where it asks for no step, rest is what comes of it
-abbrev pub begun_op : Op → Thread → Thread → Thread
+-- The operation begins. Where it asks for no step it is done at once, and rest goes on from the thread behind it.
+abbrev pub begun_op : Op → Thread → (rest : Thread → Thread) → Thread
 begun_op (op.New to class) t rest = make_begun to class (record t { first = true })
 begun_op (op.Copy to from) t rest = begun_copy to (value t.vars from) (value t.vars to) t rest
+begun_op (op.Move to from) t rest = begun_move to from (value t.vars from) (value t.vars to) t rest
 begun_op (op.Drop v) t rest = begun_drop v (value t.vars v) t rest
-begun_op _ t rest = rest
+begun_op _ t rest = rest (skipped answers.Nil t)
 
 abbrev pub scope_drop : ℕ → Option Held → Thread → Thread
 scope_drop v None t = t
@@ -183,13 +203,21 @@ is_held (Some held) = true
 abbrev pub scope_begun : Thread → Thread
 scope_begun t = scope_at (position is_held t.vars) t
 
-abbrev pub begun_at : List Op → Thread → Thread
-begun_at [] t = scope_begun t
-begun_at (o ∷ rest) t = begun_op o t (begun_at rest (skipped t))
+-- how many operations there are to the end of the phase
+abbrev pub phase_end : Thread → ℕ
+phase_end t = ops_in_first (t.phase + 1) t.phases
 
--- at the first operation of the rest that asks for a step
+-- the operations of the phase are done: the next phase is to begin, and behind the last one the scope ends
+abbrev pub phase_over : Thread → Thread
+phase_over t = if nat_lt (t.phase + 1) (length t.phases) then record t { doing = Ready; asked = moves.PhaseEnd; phase = t.phase + 1 } else scope_begun t
+
+abbrev pub begun_at : List Op → Thread → Thread
+begun_at [] t = phase_over t
+begun_at (o ∷ ops) t = begun_op o t (λ (behind : Thread). begun_at ops behind)
+
+-- at the first operation of the rest of the phase that asks for a step
 abbrev pub begun : Thread → Thread
-begun t = begun_at (drop t.index t.program) t
+begun t = begun_at (drop t.index (take (phase_end t) t.program)) t
 
 -- the operation, or a drop at the end of the scope, is over
 abbrev pub next_op : Thread → Thread
@@ -323,15 +351,19 @@ is_busy Ready = false
 is_busy Ended = false
 is_busy _ = true
 
--- the object isn't made yet, so the ones made are those of the operations before
+-- what came into its hands and what it made is of the operations before: each brings one reference and makes one object at most
+abbrev pub FewBefore : Thread → Type 0
+FewBefore t = (t.hands ≤ t.index) × (t.made ≤ t.index)
+
+-- the object isn't made yet
 abbrev pub MadeBefore : Thread → Search → Type 0
-MadeBefore t (search.Trying s) = t.made ≤ t.index
+MadeBefore t (search.Trying s) = FewBefore t
 MadeBefore t _ = ⊤
 
 -- a step of the plan that makes an object, and where the plan is then: it stores the name in the slot, or tries the next one
 abbrev pub StepGoesOn : Thread → ℕ → Search → Step → Type 0
-StepGoesOn t slot at (steps.Store place new) = (slot < t.layout.slots) × (at ≡ search.Naming slot) × (t.made ≤ t.index)
-StepGoesOn t slot at _ = (slot + 1 < t.layout.slots) × IsTryingSlot (slot + 1) at × (t.made ≤ t.index)
+StepGoesOn t slot at (steps.Store place new) = (slot < t.layout.slots) × (at ≡ search.Naming slot) × FewBefore t
+StepGoesOn t slot at _ = (slot + 1 < t.layout.slots) × IsTryingSlot (slot + 1) at × FewBefore t
 
 abbrev pub MakingGoesOn : Thread → ℕ → Search → Next NewObjectAnswer → Type 0
 MakingGoesOn t slot at (nexts.Step step) = StepGoesOn t slot at step
@@ -340,9 +372,9 @@ MakingGoesOn t slot at (nexts.Done NoSlot) = ⊤
 
 -- an operation of the program is under way, not a drop at the end of the scope
 abbrev pub IsInOperation : Thread → Doing → Type 0
-IsInOperation t Ready = t.made ≤ t.index
+IsInOperation t Ready = t.index < length t.program → FewBefore t
 IsInOperation t (Making to name slot plan) = (t.index < length t.program) × MadeBefore t plan.at
-IsInOperation t (Copying to held plan) = t.index < length t.program
+IsInOperation t (Copying to held plan) = (t.index < length t.program) × FewBefore t
 IsInOperation t _ = ⊤
 
 pub record IsStepper (t : Thread) : Type 0 where
@@ -353,10 +385,14 @@ pub record IsStepper (t : Thread) : Type 0 where
   pub thread : t.thread ≤ 64
   pub vars_fit : All (VarsFit (length t.vars)) t.program
   pub classes_fit : All (ClassFits (length t.shape.classes)) t.program
+  pub whole : t.program ≡ flat_map (λ ops. ops) t.phases
   pub few : length t.program ≤ 100000
   pub held : All (HeldFits t.layout.slots) t.vars
+  -- one of its phases, and 0 where it has none
+  pub phase : t.phase ≤ length t.phases - 1
   pub index : t.index ≤ length t.program
-  -- each operation before makes an object at most, and so does the one that is under way
+  -- each operation before brings a reference and makes an object at most, and so does the one that is under way
+  pub hands : t.hands ≤ t.index + 1
   pub made : t.made ≤ t.index + 1
   pub under_way : IsUnderWay t.layout t.shape (length t.vars) t.doing
   pub in_operation : IsInOperation t t.doing
@@ -373,6 +409,7 @@ in_operation t = is_busy t.doing && not t.first && nat_lt t.index (length t.prog
 abbrev pub asks : List (Option Held) → Op → Bool
 asks vars (op.New to class) = true
 asks vars (op.Copy to from) = is_held (value vars from) || is_held (value vars to)
+asks vars (op.Move to from) = is_held (value vars to)
 asks vars (op.Drop v) = is_held (value vars v)
 asks vars _ = false
 

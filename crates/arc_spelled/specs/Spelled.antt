@@ -18,19 +18,27 @@ use Rattle.arc_rule.specs.declared.step.Step.{Step}
 use Rattle.arc_rule.specs.declared.step.Step.TheVariants.{Load, Exchange}
 use Rattle.arc_script.specs.declared.script.Script.{Script}
 use Rattle.arc_script.specs.Valid.{IsScript}
-use Rattle.arc_programs.specs.Programs.{Hands}
+use Rattle.arc_programs.specs.Programs.{Hands, OpsDone}
 use Rattle.arc_programs.specs.ProgramsLines.{told}
 use Rattle.arc_programs.specs.ProgramsTied.{Spells}
 use Rattle.arc_ops.specs.declared.stepper.Move.TheVariants as moves
-use Rattle.arc_ops.specs.Programs.{program_of, vars_of, room_for}
+use Rattle.arc_ops.specs.Programs.{phases_of, program_of, ops_in_first, vars_of, room_in}
 use Rattle.arc_ops.specs.Served.{IsServed}
 use Rattle.arc_ops.specs.Thread.{Thread, stepper_of, takes}
 use Rattle.arc_spelled.specs.Shown.{Adds}
-use Rattle.arc_spelled.specs.StepperStands.{Work, StandsFor, StepperGoesOn}
+use Rattle.arc_spelled.specs.StepperStands.{Work, variables, StandsFor, StepperGoesOn}
 
 -- what a thread of the script works on
 abbrev pub work_of : Script → ℕ → Hands → Work
-work_of script p came = record { shape = script.shape; thread = p; program = program_of script p; count = vars_of script p; came = came }
+work_of script p came = record {
+  shape = script.shape;
+  thread = p;
+  phases = phases_of script p;
+  program = program_of script p;
+  count = vars_of script p;
+  room = room_in script p;
+  came = came;
+}
 
 -- A new stepper stands for no note.
 abbrev pub SteppersBegin : Type 0
@@ -44,14 +52,21 @@ SteppersGoOn = (script : Script) (p : ℕ) (came : Hands) (t : Thread) (last : O
 -- The notes spell the thread's program, and of their lines the stepper keeps the first ones, as many as it has room for.
 pub record IsSpelled (script : Script) (came : Hands) (p : ℕ) (t : Thread) (notes : List Note) : Type 0 where
   pub spelled : Spells script came p notes
-  pub first_lines : t.kept.lines ≡ take (room_for (program_of script p)) (told notes)
-  pub all_lines : length (told notes) ≤ room_for (program_of script p) → t.kept.lines ≡ told notes
+  pub first_lines : t.kept.lines ≡ take (room_in script p) (told notes)
+  pub all_lines : length (told notes) ≤ room_in script p → t.kept.lines ≡ told notes
 
 -- Where a stepper says that it has ended, its notes spell the program of its thread. No operation that is served takes a reference
 -- out of a cell, so whatever came out of cells, they spell it.
 abbrev pub EndedSteppersSpell : Type 0
 EndedSteppersSpell = (script : Script) (p : ℕ) (came any : Hands) (t : Thread) (now : List Note) → IsScript script → IsServed script → p ≤ length script.threads →
     StandsFor (work_of script p came) t now → t.asked ≡ moves.Ended → IsSpelled script any p t now
+
+-- Where a stepper says that a phase is over, or that it is to begin its first one, its notes spell the operations of the phases
+-- before, whatever came out of cells.
+abbrev pub ReadySteppersHaveDone : Type 0
+ReadySteppersHaveDone = (script : Script) (p : ℕ) (came any : Hands) (t : Thread) (now : List Note) → IsScript script → IsServed script → p ≤ length script.threads →
+    StandsFor (work_of script p came) t now → t.asked ≡ moves.PhaseEnd →
+    OpsDone script.shape p any (program_of script p) (vars_of script p) (ops_in_first t.phase (phases_of script p)) (variables t.vars) now
 
 -- the history with the event at its end, if one was told
 abbrev pub with_event_of : ℕ → Option Act → History → History

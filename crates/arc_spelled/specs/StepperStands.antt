@@ -1,5 +1,5 @@
 -- What a thread's stepper stands for: the notes that spell the thread's program up to where the stepper is.
-use Rattle.std.specs.Prelude.{ℕ, Bool, true, false, ◌≡◌, ◌+◌, ◌<◌, ◌≤◌, nat_lt, if◌then◌else◌, List, ◌∷◌, length, map, take, slice_get, All, Option, Some, None, ⊤}
+use Rattle.std.specs.Prelude.{ℕ, Bool, true, false, ◌≡◌, ◌+◌, ◌<◌, ◌≤◌, nat_lt, if◌then◌else◌, List, ◌∷◌, length, map, take, flat_map, slice_get, All, Option, Some, None, ⊤}
 use Rattle.arc_model.specs.declared.event.ObjectName.{ObjectName}
 use Rattle.arc_model.specs.declared.event.Act.TheVariants.{New}
 use Rattle.arc_model.specs.declared.shape.Kind.TheVariants.{Strong}
@@ -23,22 +23,26 @@ use Rattle.arc_ops.specs.declared.stepper.Doing.TheVariants.{Ready, Making, Copy
 use Rattle.arc_ops.specs.declared.stepper.Move.{Move}
 use Rattle.arc_ops.specs.declared.stepper.Move.TheVariants as moves
 use Rattle.arc_ops.specs.Kept.{Kept}
-use Rattle.arc_ops.specs.Programs.{room_for}
+use Rattle.arc_ops.specs.Programs.{ops_in_first}
 use Rattle.arc_ops.specs.Served.{IsServedOp}
 use Rattle.arc_ops.specs.Thread.{Thread, value, is_busy, turned}
 use Rattle.arc_spelled.specs.Shown.{Adds, with_event}
 use Rattle.arc_spelled.specs.CascadeStands.{CascadeStandsFor}
 
--- A thread's operations over so many variables, in a heap of this shape, and what each of its hands refers to when it comes.
+-- A thread's operations, phase by phase, over so many variables, in a heap of this shape, room for so many lines, and what each of
+-- its hands refers to when it comes.
 pub record Work : Type 0 where
   pub shape : HeapShape
   pub thread : ℕ
+  pub phases : List (List Op)
   pub program : List Op
   pub count : ℕ
+  pub room : ℕ
   pub came : Hands
 
--- the operations are served, and objects have no fields
+-- the program is that of its phases, its operations are served, and objects have no fields
 pub record IsServedWork (w : Work) : Type 0 where
+  pub whole : w.program ≡ flat_map (λ ops. ops) w.phases
   pub ops : All IsServedOp w.program
   pub without_fields : HasNoFields w.shape
 
@@ -132,10 +136,11 @@ StepperUpTo w i vars asked now (Dying c) = IsDying w i c asked vars now
 StepperUpTo w i vars asked now Ended = IsProgram w.shape w.thread w.came w.program w.count now
 
 -- what it works on
-pub record WorksOn (w : Work) (layout : Extent) (shape : HeapShape) (thread : ℕ) (program : List Op) : Type 0 where
+pub record WorksOn (w : Work) (layout : Extent) (shape : HeapShape) (thread : ℕ) (phases : List (List Op)) (program : List Op) : Type 0 where
   pub layout_is : layout ≡ extent_of w.shape
   pub shape_is : shape ≡ w.shape
   pub thread_is : thread ≡ w.thread
+  pub phases_is : phases ≡ w.phases
   pub program_is : program ≡ w.program
 
 -- the first lines of the notes, as many as there is room for
@@ -146,7 +151,7 @@ first_lines room now = record { lines = take room (told now); room = room }
 pub record IsCounted (w : Work) (hands made : ℕ) (kept : Kept) (now : List Note) : Type 0 where
   pub hands_are : hands ≡ hands_of now
   pub made_is : made ≡ made_of now
-  pub lines_are : kept ≡ first_lines (room_for w.program) now
+  pub lines_are : kept ≡ first_lines w.room now
 
 -- a line has the number of the operation that is under way
 abbrev pub number_at : Work → ℕ → ℕ
@@ -166,9 +171,21 @@ Asks Ready asked = asked ≡ moves.PhaseEnd
 Asks Ended asked = asked ≡ moves.Ended
 Asks _ asked = IsStep asked
 
+-- the operation at this place is one of the phase, or where there is none, the phase is the last one
+abbrev pub IsInPhaseIf : Bool → Work → (phase index : ℕ) → Type 0
+IsInPhaseIf true w phase index = index < ops_in_first (phase + 1) w.phases
+IsInPhaseIf false w phase index = length w.phases ≤ phase + 1
+
+-- What is under way is of the phase. Between phases the operations of the first ones are done.
+abbrev pub IsInPhase : Work → (phase index : ℕ) → Doing → Type 0
+IsInPhase w phase index Ready = index ≡ ops_in_first phase w.phases
+IsInPhase w phase index Ended = ⊤
+IsInPhase w phase index _ = IsInPhaseIf (nat_lt index (length w.program)) w phase index
+
 -- The stepper, at work on these operations, stands for the notes.
 pub record StandsFor (w : Work) (t : Thread) (now : List Note) : Type 0 where
-  pub works : WorksOn w t.layout t.shape t.thread t.program
+  pub works : WorksOn w t.layout t.shape t.thread t.phases t.program
+  pub in_phase : IsInPhase w t.phase t.index t.doing
   pub counts : IsCounted w t.hands t.made t.kept now
   pub number : IsNumberedIf (is_busy t.doing) w t.index now
   pub asks : Asks t.doing t.asked
