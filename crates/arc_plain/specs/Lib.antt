@@ -1,6 +1,2 @@
-pub mod Shown
-pub mod Named
-pub mod Histories
-pub mod Promises
-pub mod Replays
-pub mod Replaying
+pub mod Crews
+pub mod Left

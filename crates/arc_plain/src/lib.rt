@@ -1,11 +1,7 @@
 //! Plain words, and the replay of a script on them.
 #![tactic(auto)]
 
-mod replay;
-#[cfg(test)]
-mod tests;
 mod words;
 
 pub use arc_ops::{Stamped, ThreadLines};
-pub use replay::{Replay, replay_all};
 pub use words::PlainWords;
