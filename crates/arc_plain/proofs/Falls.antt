@@ -326,9 +326,51 @@ falls_at shape t words step intent d slots asked a u o = go d a u o
 pub falls : (shape : HeapShape) (t : Thread) (words : List ℕ) (step : Step) (intent : Intent) → IsStepper t → Asks shape t t.doing → t.asked ≡ moves.Step step intent → Falls t words step t.doing
 falls shape t words step intent s a asked = falls_at shape t words step intent t.doing s.slots asked a s.under_way s.in_operation
 
+-- a thread that waits for its next phase has nothing under way
+ready : (shape : HeapShape) (t : Thread) (d : Doing) → Asks shape t d → t.asked ≡ moves.PhaseEnd → d ≡ doings.Ready
+ready shape t d a asked = go d a
+  where
+    stepping : (step : Step) (intent : Intent) → t.asked ≡ moves.Step step intent → ⊥
+    stepping step intent h = cc
+
+    making : (name : ObjectName) (slot : ℕ) (x : Search) → SearchAsks shape t.asked name slot x → ⊥
+    making name slot search.Start h = h
+    making name slot (search.Trying s) h = stepping _ _ h.1
+    making name slot (search.Naming s) h = stepping _ _ h.1
+    making name slot search.Ended h = h
+
+    attempting : (s : ℕ) (intent : Intent) (x : AttemptAt) → AttemptAsks shape t.asked s intent x → ⊥
+    attempting s intent attempt.Start h = h
+    attempting s intent attempt.Loading h = stepping _ _ h
+    attempting s intent (attempt.Exchanging seen new) h = stepping _ _ h
+    attempting s intent attempt.Ended h = h
+
+    vacating : (s : ℕ) (x : Once) → VacateAsks shape t.asked s x → ⊥
+    vacating s once.Start h = h
+    vacating s once.Asked h = stepping _ _ h
+    vacating s once.Ended h = h
+
+    dying : (s : ℕ) (x : At) → CascadeAsks shape t.asked s x → ⊥
+    dying s at.Start h = h
+    dying s at.Entering h = stepping _ _ h
+    dying s at.Naming h = stepping _ _ h
+    dying s (at.Named name) h = h
+    dying s at.Leaving h = stepping _ _ h
+    dying s (at.Finishing p) h = attempting s _ p.at h.1
+    dying s (at.Vacating p) h = vacating s p.at h.1
+    dying s at.Ended h = h
+
+    go : (d : Doing) → Asks shape t d → d ≡ doings.Ready
+    go doings.Ready a = refl
+    go (doings.Making to name slot plan) a = absurd (making name slot plan.at a.1)
+    go (doings.Copying to held plan) a = absurd (attempting held.place _ plan.at a.1)
+    go (doings.Dropping held plan) a = absurd (attempting held.place _ plan.at a.1)
+    go (doings.Dying c) a = absurd (dying c.slot c.at a.1)
+    go doings.Ended a = absurd (let h : t.asked ≡ moves.Ended = a.0 in cc)
+
 -- A thread that waits for its next phase begins it.
-pub begins_phase : (shape : HeapShape) (t : Thread) → IsStepper t → t.doing ≡ doings.Ready → Comes t (turned t None) (4200 * units t)
-begins_phase shape t s ready = go t.doing ready
+pub begins_phase : (shape : HeapShape) (t : Thread) → t.layout.slots ≤ 4096 → Asks shape t t.doing → t.asked ≡ moves.PhaseEnd → Comes t (turned t None) (4200 * units t)
+begins_phase shape t slots asks asked = go t.doing (ready shape t t.doing asks asked)
   where
     go : (d : Doing) → d ≡ doings.Ready → Comes t (turned_at None d (quiet t)) (4200 * units t)
-    go d e = rw e (after_same t (quiet t) (begun (quiet t)) (4200 * units t) (4200 * units t) (record { layout = refl; phases = refl; program = refl; count = refl; phase = refl }) (begins (quiet t) s.slots) (omega arith))
+    go d e = rw e (after_same t (quiet t) (begun (quiet t)) (4200 * units t) (4200 * units t) (record { layout = refl; phases = refl; program = refl; count = refl; phase = refl }) (begins (quiet t) slots) (omega arith))

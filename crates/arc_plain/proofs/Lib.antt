@@ -1,2 +1,5 @@
-pub mod Walks
-pub mod Falls
+mod Assumed
+mod Lists
+mod Walks
+mod Falls
+mod Keeps

@@ -1,5 +1,5 @@
 -- A replay under way, as the contracts of its crew see it.
-use Rattle.std.specs.Prelude.{ℕ, Bool, true, false, ◌≡◌, ◌≢◌, ◌≤◌, ◌<◌, ◌+◌, ◌*◌, ◌^◌, List, [], length, map, count_by, slice_get, slice_set, slice_index_or, All, Option, Some, None}
+use Rattle.std.specs.Prelude.{ℕ, Bool, true, false, ◌≡◌, ◌≢◌, ◌≤◌, ◌<◌, ◌+◌, ◌*◌, ◌^◌, List, [], length, map, sum_by, slice_get, slice_set, slice_index_or, All, Option, Some, None}
 use Rattle.arc_script.specs.declared.script.Script.{Script}
 use Rattle.arc_script.specs.Valid.{IsScript}
 use Rattle.arc_rule.specs.declared.step.Step.{Step}
@@ -7,17 +7,27 @@ use Rattle.arc_ops.specs.Served.{IsServed}
 use Rattle.arc_ops.specs.Thread.{Thread, IsStepper, stepper_of, turned}
 use Rattle.arc_ops.specs.declared.stepper.Move.{Move}
 use Rattle.arc_ops.specs.declared.stepper.Move.TheVariants as moves
-use Rattle.arc_replays.specs.Stages.{Stage, Reached, IsSome, IsNone, IsNoneBelow, has_step, awaits_phase, begun_threads, stepped}
+use Rattle.arc_replays.specs.Stages.{Stage, Reached, IsSome, IsNone, IsNoneBelow, has_step, awaits_phase, begun_thread, begun_threads, stepped}
 
 -- the script, and the stage that its replay has come to
 pub record Progress : Type 0 where
   pub script : Script
   pub stage : Stage
 
+-- 1 for a step
+abbrev pub step_count : Move → ℕ
+step_count (moves.Step step intent) = 1
+step_count moves.PhaseEnd = 0
+step_count moves.Ended = 0
+
+-- how many threads have a step
+abbrev pub steps_asked : List Thread → ℕ
+steps_asked threads = sum_by (λ (t : Thread). step_count t.asked) threads
+
 -- what a crew keeps of its threads: what each asks for, and how many of them have a step
 pub record IsCrew (threads : List Thread) (asked : List Move) (busy : ℕ) : Type 0 where
   pub asked_is : asked ≡ map (λ (t : Thread). t.asked) threads
-  pub busy_is : busy ≡ count_by has_step threads
+  pub busy_is : busy ≡ steps_asked threads
   pub steppers : All IsStepper threads
 
 abbrev pub thread_at : ℕ → Progress → Thread
@@ -31,13 +41,13 @@ given p last c = record { script = c.script; stage = record c.stage { threads = 
 abbrev pub has_made : ℕ → Step → Progress → Progress
 has_made p step c = record { script = c.script; stage = stepped p (thread_at p c) step c.stage }
 
+-- thread p has begun its next phase, if it waited for it
+abbrev pub thread_begun : ℕ → Progress → Progress
+thread_begun p c = record { script = c.script; stage = record c.stage { threads = slice_set c.stage.threads p (begun_thread (thread_at p c)) } }
+
 -- the next phase has begun
 abbrev pub phase_begun : Progress → Progress
 phase_begun c = record { script = c.script; stage = record c.stage { begun = c.stage.begun + 1; threads = begun_threads c.stage.threads } }
-
-abbrev pub step_in : Move → Option Step
-step_in (moves.Step step intent) = Some step
-step_in _ = None
 
 -- a script that is served, at a stage that its replay comes to
 pub record IsUnderWay (c : Progress) : Type 0 where
