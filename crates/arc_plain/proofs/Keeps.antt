@@ -138,4 +138,5 @@ pub new_more : (script : Script) (n from : ℕ) → new_threads script n from ++
 new_more script zero from = ap (λ (k : ℕ). stepper_of script k ∷ []) (omega arith)
 new_more script (suc n) from =
     let same : from + suc n ≡ from + 1 + n = omega arith in
-    ap (λ (ts : List Thread). stepper_of script from ∷ ts) (ap (λ (k : ℕ). new_threads script n (from + 1) ++ stepper_of script k ∷ []) same ∙ new_more script n (from + 1))
+    let next : suc n + 1 ≡ suc (n + 1) = omega arith in
+    ap (λ (ts : List Thread). stepper_of script from ∷ ts) (ap (λ (k : ℕ). new_threads script n (from + 1) ++ stepper_of script k ∷ []) same ∙ new_more script n (from + 1)) ∙ ap (λ (k : ℕ). new_threads script k from) (sym next)

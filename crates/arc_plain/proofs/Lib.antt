@@ -1,5 +1,8 @@
 mod Assumed
-mod Lists
-mod Walks
+mod Alone
 mod Falls
 mod Keeps
+mod Lists
+mod Places
+mod Turns
+mod Walks

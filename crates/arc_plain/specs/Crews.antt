@@ -1,5 +1,5 @@
 -- A replay under way, as the contracts of its crew see it.
-use Rattle.std.specs.Prelude.{ℕ, Bool, true, false, ◌≡◌, ◌≢◌, ◌≤◌, ◌<◌, ◌+◌, ◌*◌, ◌^◌, List, [], length, map, sum_by, slice_get, slice_set, slice_index_or, All, Option, Some, None}
+use Rattle.std.specs.Prelude.{ℕ, Bool, true, false, ◌≡◌, ◌≢◌, ◌≤◌, ◌<◌, ◌+◌, ◌*◌, ◌^◌, List, [], length, drop, map, sum_by, slice_get, slice_set, slice_index_or, All, Option, Some, None}
 use Rattle.arc_script.specs.declared.script.Script.{Script}
 use Rattle.arc_script.specs.Valid.{IsScript}
 use Rattle.arc_rule.specs.declared.step.Step.{Step}
@@ -29,6 +29,7 @@ pub record IsCrew (threads : List Thread) (asked : List Move) (busy : ℕ) : Typ
   pub asked_is : asked ≡ map (λ (t : Thread). t.asked) threads
   pub busy_is : busy ≡ steps_asked threads
   pub steppers : All IsStepper threads
+  pub few : length threads ≤ 65
 
 abbrev pub thread_at : ℕ → Progress → Thread
 thread_at p c = slice_index_or c.stage.threads p (stepper_of c.script p)
@@ -40,6 +41,10 @@ given p last c = record { script = c.script; stage = record c.stage { threads = 
 -- thread p has made the step
 abbrev pub has_made : ℕ → Step → Progress → Progress
 has_made p step c = record { script = c.script; stage = stepped p (thread_at p c) step c.stage }
+
+-- the schedule's next place is used up
+abbrev pub place_used : Progress → Progress
+place_used c = record { script = c.script; stage = record c.stage { places = drop 1 c.stage.places } }
 
 -- thread p has begun its next phase, if it waited for it
 abbrev pub thread_begun : ℕ → Progress → Progress

@@ -5,7 +5,7 @@ ghost use Rattle.arc_script.specs.Valid.{IsScript};
 ghost use Rattle.arc_ops.specs.Served.{IsServed};
 ghost use Rattle.arc_ops.specs.Thread.{IsStepper, takes, turned, stepper_of};
 ghost use Rattle.arc_replays.specs.Stages.{IsSome, IsNone, has_step, awaits_phase, first_stage, new_threads, stamped};
-ghost use Rattle.arc_plain.specs.Crews.{Progress, IsUnderWay, IsInPhases, AreFollowed, MayGoOn, PlaceFollowed, PlacesFollowed, ThreadFinished, PhaseFinished, PhasesDone, IsDone, given, has_made, thread_begun, phase_begun, step_count, steps_asked, thread_at};
+ghost use Rattle.arc_plain.specs.Crews.{Progress, IsUnderWay, IsInPhases, AreFollowed, MayGoOn, PlaceFollowed, PlacesFollowed, ThreadFinished, PhaseFinished, PhasesDone, IsDone, given, has_made, place_used, thread_begun, phase_begun, step_count, steps_asked, thread_at};
 
 use crate::words::PlainWords;
 use arc_model::{Act, Event, Memory};
@@ -146,9 +146,27 @@ impl<'a> Crew<'a> {
 
     /// Whether a thread but thread 0 waits for its next phase.
     fn awaits_phase(&self) -> bool
-        ensures { (result ≡ true → IsSome awaits_phase self.now.stage.threads) × (result ≡ false → IsNone awaits_phase self.now.stage.threads) }
+        ensures some { result ≡ true → IsSome awaits_phase self.now.stage.threads }
+        ensures none { result ≡ false → IsNone awaits_phase self.now.stage.threads }
+        ensures steppers { All IsStepper self.now.stage.threads }
     {
-        self.steppers.len() > 1 && self.moves[1..].iter().any(|next| *next == Move::PhaseEnd)
+        for thread in 1..self.steppers.len() {
+            if self.waits(thread as u32) {
+                return true;
+            }
+        }
+        false
+    }
+
+    fn waits(&self, thread: u32) -> bool
+        requires { thread < length self.now.stage.threads }
+        ensures { result ≡ awaits_phase (thread_at thread self.now) }
+    {
+        match self.asks(thread) {
+            Move::PhaseEnd => true,
+            Move::Step { step: _, intent: _ } => false,
+            Move::Ended => false,
+        }
     }
 
     /// Each thread that waits for the next phase begins it, but thread 0.
@@ -176,7 +194,8 @@ impl<'a> Crew<'a> {
             Move::PhaseEnd => {
                 self.turn(thread, None);
             }
-            _ => {}
+            Move::Step { step: _, intent: _ } => {}
+            Move::Ended => {}
         }
     }
 
@@ -210,18 +229,27 @@ impl<'a> Crew<'a> {
         script.schedule.get(self.followed).copied()
     }
 
+    /// The schedule's next place is used up.
+    fn pass_place(&mut self)
+        requires { 1 ≤ length self.old.stage.places }
+        ensures { self.new ≡ place_used self.old }
+    {
+        self.followed += 1;
+    }
+
     /// The thread makes the step that it has. Where it has none, its place is used up.
     fn follow_place(&mut self, thread: u32) -> Result<(), AllocError>
         requires in_phases { IsInPhases self.old }
         requires next { slice_get self.old.stage.places 0 ≡ Some thread }
-        requires some { IsSome has_step self.old.stage.threads }
+        requires some { 1 ≤ steps_asked self.old.stage.threads }
         requires steps { self.old.stage.steps < 2 ^ 62 }
         ensures { OnOk result (PlaceFollowed self.old self.new) }
     {
-        self.followed += 1;
+        self.pass_place();
         match self.asks(thread) {
             Move::Step { step, intent: _ } => self.make_step(thread, step),
-            _ => Ok(()),
+            Move::PhaseEnd => Ok(()),
+            Move::Ended => Ok(()),
         }
     }
 
@@ -249,7 +277,8 @@ impl<'a> Crew<'a> {
         loop {
             match self.asks(thread) {
                 Move::Step { step, intent: _ } => self.make_step(thread, step)?,
-                _ => return Ok(()),
+                Move::PhaseEnd => return Ok(()),
+                Move::Ended => return Ok(()),
             }
         }
     }
@@ -257,7 +286,8 @@ impl<'a> Crew<'a> {
     /// What the thread asks for.
     fn asks(&self, thread: u32) -> Move
         requires { thread < length self.now.stage.threads }
-        ensures { result ≡ (thread_at thread self.now).asked }
+        ensures asked { result ≡ (thread_at thread self.now).asked }
+        ensures steppers { All IsStepper self.now.stage.threads }
     {
         self.moves[thread as usize]
     }
@@ -287,8 +317,9 @@ impl<'a> Crew<'a> {
         ensures steppers { All IsStepper self.new.stage.threads }
     {
         let place = thread as usize;
+        let before = count_of(self.asks(thread));
         let turn = self.steppers[place].next(last);
-        self.busy = count_of(turn.next) + (self.busy - count_of(self.moves[place]));
+        self.busy = count_of(turn.next) + (self.busy - before);
         self.moves[place] = turn.next;
         turn.event
     }
