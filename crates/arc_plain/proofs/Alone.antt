@@ -1,8 +1,8 @@
 -- A thread makes steps alone, until its phase has ended.
-use Rattle.std.proofs.Common.{◌≡◌, ◌≢◌, ℕ, zero, suc, ◌+◌, ◌-◌, ◌*◌, ◌≤◌, ◌<◌, ◌^◌, Bool, true, false, cond, eqb, List, [], ◌∷◌, length, get_or, set, Option, Some, None, refl, ap, ◌∙◌, sym, subst, arith}
+use Rattle.std.proofs.Common.{◌≡◌, ◌≢◌, ℕ, zero, suc, ◌+◌, ◌-◌, ◌*◌, ◌≤◌, ◌<◌, ◌^◌, Bool, true, false, cond, eqb, List, [], ◌∷◌, length, map, get_or, set, Option, Some, None, refl, ap, ◌∙◌, sym, subst, arith}
 use Rattle.std.specs.List.{AllByRecursion}
 use Rattle.std.specs.Prelude.{All, slice_get, slice_index, sum_by}
-use Rattle.std.proofs.lemmas.List.{length-set, get_or-set_same}
+use Rattle.std.proofs.lemmas.List.{length-map, length-set, get_or-set_same}
 use Rattle.std.proofs.lemmas.List.Sums.{sum_by-cons}
 use Rattle.arc_model.specs.Shapes.{HeapShape}
 use Rattle.arc_rule.specs.Extents.{Extent}
@@ -16,6 +16,7 @@ use Rattle.arc_plan.specs.declared.slots.Making.TheVariants as search
 use Rattle.arc_cells.specs.declared.cascade.At.{At}
 use Rattle.arc_cells.specs.declared.cascade.At.TheVariants as at
 use Rattle.arc_script.specs.declared.script.ThreadDecl.{ThreadDecl}
+use Rattle.arc_script.specs.declared.script.VarDecl.{VarDecl}
 use Rattle.arc_script.specs.declared.script.Script.{Script}
 use Rattle.arc_script.specs.Valid.{IsScript, IsThread}
 use Rattle.arc_ops.specs.Programs.{vars_of, count_of_vars}
@@ -28,7 +29,7 @@ use Rattle.arc_ops.specs.Thread.{Thread, IsStepper, stepper_of, turned}
 use Rattle.arc_replays.specs.Stages.{Stage, Reached, MayStep, IsNoneBelow, has_step, is_step, is_phase_end, awaits_phase, stepped}
 use Rattle.arc_replays.specs.Stages.Reached.{by_number, last_step}
 use Rattle.arc_plain.specs.Crews.{Progress, IsUnderWay, CameOn, MayGoOn, ThreadFinished, thread_at, has_made}
-use Rattle.arc_plain.specs.Left.{held_unit, units, busy_units, search_left, attempt_left, cascade_left, doing_left, left}
+use Rattle.arc_plain.specs.Left.{held_unit, count_at, search_left, attempt_left, cascade_left, doing_left, left}
 use Rattle.arc_plain.proofs.Assumed.{threads_are_at_work}
 use Rattle.arc_plain.proofs.Lists.{set_apart}
 use Rattle.arc_plain.proofs.Walks.{IsPhase, unit_few}
@@ -64,21 +65,24 @@ cascade_few words at.Entering = omega arith
 cascade_few words at.Naming = omega arith
 cascade_few words (at.Named name) = omega arith
 cascade_few words at.Leaving = omega arith
-cascade_few words (at.Finishing p) = let h = attempt_few (slice_index words _) p.at in omega arith
+cascade_few words (at.Finishing p) = let h = attempt_few (count_at words p.layout p.slot) p.at in omega arith
 cascade_few words (at.Vacating p) = omega arith
 cascade_few words at.Ended = omega arith
 
 doing_few : (words : List ℕ) (t : Thread) (d : Doing) → t.layout.slots ≤ 4096 → length t.program ≤ 100000 → length t.vars ≤ 256 → doing_left words t d ≤ 2 ^ 40
 doing_few words t doings.Ready slots program vars = omega arith
 doing_few words t (doings.Making to name slot plan) slots program vars = let h = held_few t.vars in let k = search_few t.layout.slots plan.at in omega arith
-doing_few words t (doings.Copying to held plan) slots program vars = let h = held_few t.vars in let k = attempt_few (slice_index words _) plan.at in omega arith
-doing_few words t (doings.Dropping held plan) slots program vars = let h = held_few t.vars in let k = attempt_few (slice_index words _) plan.at in omega arith
+doing_few words t (doings.Copying to held plan) slots program vars = let h = held_few t.vars in let k = attempt_few (count_at words plan.layout plan.slot) plan.at in omega arith
+doing_few words t (doings.Dropping held plan) slots program vars = let h = held_few t.vars in let k = attempt_few (count_at words plan.layout plan.slot) plan.at in omega arith
 doing_few words t (doings.Dying c) slots program vars = let h = held_few t.vars in let k = cascade_few words c.at in omega arith
 doing_few words t doings.Ended slots program vars = omega arith
 
 declared_few : (classes : _) (globals : _) (ts : List ThreadDecl) (i : ℕ) → AllByRecursion (IsThread classes globals) ts → count_of_vars (slice_get ts i) ≤ 256
 declared_few classes globals [] i all = omega arith
-declared_few classes globals (t ∷ ts) zero all = all.0.vars.names.few
+declared_few classes globals (t ∷ ts) zero all =
+    let few = all.0.vars.names.few in
+    let long : length (map (λ (v : VarDecl). v.name) t.vars) ≡ length t.vars = length-map t.vars (λ (v : VarDecl). v.name) in
+    omega arith
 declared_few classes globals (t ∷ ts) (suc i) all = declared_few classes globals ts i all.1
 
 vars_few : (script : Script) (p : ℕ) → IsScript script → vars_of script p ≤ 256
@@ -171,6 +175,10 @@ alone_on p before c step intent a asked small steppers =
     reached : (n : ℕ) → p ≡ n → Reached c.script (has_made p step c).stage
     reached zero e = subst (λ (k : ℕ). MayStep c.stage k (thread_at p c) step intent → Reached c.script (stepped k (thread_at p c) step c.stage)) (sym e) (λ m. last_step step intent a.under_way.reached m) (may_step c p step intent a.under_way a.within asked small)
     reached (suc n) e = let m = a.may (is_asked (thread_at p c).asked step intent asked) (omega arith) in by_number step intent a.under_way.reached m.0 (omega arith) m.1 (may_step c p step intent a.under_way a.within asked small)
+
+pub alone_made : (p : ℕ) (before c c' : Progress) (step : Step) (intent : Intent) → Alone p before c → (thread_at p c).asked ≡ moves.Step step intent → slice_index c.stage.words (place_of step) < 2 ^ 64 → c' ≡ has_made p step c → All IsStepper c'.stage.threads →
+    Alone p before c' × (left c'.stage.words (thread_at p c') < left c.stage.words (thread_at p c))
+alone_made p before c c' step intent a asked small is steppers = rw is (alone_on p before c step intent a asked small (rw is at steppers))
 
 -- the thread has no step
 pub alone_last : (p : ℕ) (before c : Progress) → Alone p before c → is_step (thread_at p c).asked ≡ false → ThreadFinished p before c

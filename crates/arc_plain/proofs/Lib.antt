@@ -3,6 +3,7 @@ mod Alone
 mod Falls
 mod Keeps
 mod Lists
+mod Order
 mod Places
 mod Turns
 mod Walks

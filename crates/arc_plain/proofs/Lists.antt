@@ -1,5 +1,5 @@
 -- What a list holds after one element of it was set.
-use Rattle.std.proofs.Common.{◌≡◌, ◌≢◌, ℕ, zero, suc, ◌+◌, ◌≤◌, ◌<◌, Bool, true, false, cond, List, [], ◌∷◌, length, set, Option, Some, refl, ap, ◌∙◌, sym, arith}
+use Rattle.std.proofs.Common.{◌≡◌, ◌≢◌, ℕ, zero, suc, ◌+◌, ◌≤◌, ◌<◌, Bool, true, false, cond, List, [], ◌∷◌, length, drop, set, Option, Some, None, refl, ap, ◌∙◌, sym, arith}
 use Rattle.std.specs.Prelude.{slice_get, sum_by}
 use Rattle.std.proofs.lemmas.List.Sums.{sum_by-cons}
 
@@ -31,3 +31,17 @@ pub none_counts : {X : Type 0} (f : X → ℕ) (xs : List X) (i : ℕ) (x : X) �
 none_counts f [] i x h at = absurd (cc)
 none_counts f (y ∷ xs) zero x h at = let k = sum_by-cons f y xs in let same : y ≡ x = cc in let e = ap f same in omega arith
 none_counts f (y ∷ xs) (suc i) x h at = none_counts f xs i x (let k = sum_by-cons f y xs in omega arith) at
+
+pub drop_next : {X : Type 0} (n : ℕ) (xs : List X) → drop (n + 1) xs ≡ drop 1 (drop n xs)
+drop_next zero xs = refl
+drop_next (suc n) [] = refl
+drop_next (suc n) (x ∷ xs) = drop_next n xs
+
+-- lists with the same element at each place
+pub same_elements : {X : Type 0} (xs ys : List X) → ((i : ℕ) → slice_get xs i ≡ slice_get ys i) → xs ≡ ys
+same_elements [] [] h = refl
+same_elements [] (y ∷ ys) h = absurd (let e = h 0 in cc)
+same_elements (x ∷ xs) [] h = absurd (let e = h 0 in cc)
+same_elements (x ∷ xs) (y ∷ ys) h =
+    let first : x ≡ y = let e = h 0 in cc in
+    ap (λ (z : _). z ∷ xs) first ∙ ap (λ (zs : List _). y ∷ zs) (same_elements xs ys (λ i. h (suc i)))

@@ -16,7 +16,7 @@ use Rattle.arc_ops.specs.Thread.{Thread, IsStepper, stepper_of, takes, turned}
 use Rattle.arc_replays.specs.Laws.{IsWhole, MayBeMade}
 use Rattle.arc_replays.specs.Stages.{Stage, Reached, MayStep, IsSome, IsNone, has_step, is_step, is_phase_end, awaits_phase, stepped}
 use Rattle.arc_replays.specs.Stages.Reached.{makes, passes}
-use Rattle.arc_plain.specs.Crews.{Progress, IsUnderWay, IsInPhases, PlaceFollowed, PlacesFollowed, CameOn, thread_at, has_made, place_used, steps_asked, step_count}
+use Rattle.arc_plain.specs.Crews.{Progress, IsUnderWay, IsInPhases, AreFollowed, PlaceFollowed, thread_at, has_made, place_used, steps_asked, step_count}
 use Rattle.arc_plain.proofs.Assumed.{stages_are_whole, steps_may_be_made}
 use Rattle.arc_plain.proofs.Lists.{set_there, set_apart, some_counts, none_counts}
 use Rattle.arc_plain.proofs.Keeps.{places_fit}
@@ -111,3 +111,20 @@ place_passed c p i next some idle =
       came = record { script = refl; begun = refl; steps = omega arith };
       fewer = omega arith;
     }
+
+pub place_made_on : (c u c' : Progress) (p : ℕ) (step : Step) (intent : Intent) → IsInPhases c → slice_get c.stage.places 0 ≡ Some p → u ≡ place_used c → (thread_at p c).asked ≡ moves.Step step intent → slice_index u.stage.words (place_of step) < 2 ^ 64 → c' ≡ has_made p step u → All IsStepper c'.stage.threads →
+    PlaceFollowed c c'
+place_made_on c u c' p step intent i next used asked small made steppers =
+    let is : c' ≡ has_made p step (place_used c) = made ∙ ap (λ (x : Progress). has_made p step x) used in
+    rw is (place_made c p step intent i next asked (rw used at small) (rw is at steppers))
+
+-- no thread has a step
+pub idle_followed : (c : Progress) → steps_asked c.stage.threads ≡ 0 → AreFollowed c
+idle_followed c h = λ some. absurd (let none = counts_not some.thread.asked (none_counts (λ (t : Thread). step_count t.asked) c.stage.threads some.place some.thread h some.there) in let has = some.passes in cc)
+
+pub places_left : (ps : List ℕ) (p : ℕ) → slice_get ps 0 ≡ Some p → 1 ≤ length ps
+places_left ps p e = let long : length ps ≡ suc (length (drop 1 ps)) = ap (λ (x : List ℕ). length x) (headed ps p e) in omega arith
+
+pub none_left : (ps : List ℕ) → slice_get ps 0 ≡ None → ps ≡ []
+none_left [] e = refl
+none_left (p ∷ ps) e = absurd (cc)

@@ -231,7 +231,8 @@ impl<'a> Crew<'a> {
 
     /// The schedule's next place is used up.
     fn pass_place(&mut self)
-        requires { 1 ≤ length self.old.stage.places }
+        requires some { 1 ≤ length self.old.stage.places }
+        requires few { length self.old.script.schedule ≤ 1000000 }
         ensures { self.new ≡ place_used self.old }
     {
         self.followed += 1;

@@ -50,6 +50,7 @@ impl PlainWords {
                 word
             }
             Step::Store { place, new } => {
+                let _before = self.words[place as usize];
                 self.words[place as usize] = new;
                 0
             }
