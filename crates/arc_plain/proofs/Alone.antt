@@ -127,7 +127,7 @@ alone_first p c u lt may = record {
   begun_once = λ h w. h w;
 }
 
-came_to : (k n : ℕ) (m : Move) → is_phase_end m ≡ true → IsPhase k m n → 1 ≤ n
+pub came_to : (k n : ℕ) (m : Move) → is_phase_end m ≡ true → IsPhase k m n → 1 ≤ n
 came_to k n (moves.Step s i) e h = absurd (cc)
 came_to k n moves.PhaseEnd e h = omega arith
 came_to k n moves.Ended e h = absurd (cc)

@@ -1,5 +1,5 @@
 -- What a list holds after one element of it was set.
-use Rattle.std.proofs.Common.{◌≡◌, ◌≢◌, ℕ, zero, suc, ◌+◌, ◌≤◌, ◌<◌, Bool, true, false, cond, List, [], ◌∷◌, length, drop, set, Option, Some, None, refl, ap, ◌∙◌, sym, arith}
+use Rattle.std.proofs.Common.{◌≡◌, ◌≢◌, ℕ, zero, suc, ◌+◌, ◌≤◌, ◌<◌, Bool, true, false, cond, List, [], ◌∷◌, length, drop, set, Option, Some, None, refl, ap, ◌∙◌, sym, arith, add-one}
 use Rattle.std.specs.Prelude.{slice_get, sum_by}
 use Rattle.std.proofs.lemmas.List.Sums.{sum_by-cons}
 
@@ -34,8 +34,8 @@ none_counts f (y ∷ xs) (suc i) x h at = none_counts f xs i x (let k = sum_by-c
 
 pub drop_next : {X : Type 0} (n : ℕ) (xs : List X) → drop (n + 1) xs ≡ drop 1 (drop n xs)
 drop_next zero xs = refl
-drop_next (suc n) [] = refl
-drop_next (suc n) (x ∷ xs) = drop_next n xs
+drop_next (suc n) [] = ap (λ (k : ℕ). drop k []) (add-one (suc n))
+drop_next (suc n) (x ∷ xs) = ap (λ (k : ℕ). drop k (x ∷ xs)) (add-one (suc n)) ∙ (ap (λ (k : ℕ). drop k xs) (sym (add-one n)) ∙ drop_next n xs)
 
 -- lists with the same element at each place
 pub same_elements : {X : Type 0} (xs ys : List X) → ((i : ℕ) → slice_get xs i ≡ slice_get ys i) → xs ≡ ys

@@ -7,14 +7,18 @@ use Rattle.std.proofs.lemmas.List.{length-set, length-map, set-get_or}
 use Rattle.std.proofs.lemmas.Option.{slice_get_within, slice_get-map, slice_get_past}
 use Rattle.arc_script.specs.declared.script.Script.{Script}
 use Rattle.arc_script.specs.Valid.{IsScript}
+use Rattle.arc_script.specs.declared.script.Op.{Op}
+use Rattle.arc_ops.specs.Served.{IsServed}
 use Rattle.arc_ops.specs.declared.stepper.Move.{Move}
 use Rattle.arc_ops.specs.declared.stepper.Move.TheVariants as moves
 use Rattle.arc_ops.specs.Thread.{Thread, IsStepper, stepper_of, takes, turned}
-use Rattle.arc_replays.specs.Stages.{Stage, Reached, IsSome, IsNone, IsNoneBelow, has_step, is_step, is_phase_end, awaits_phase, begun_thread, begun_threads}
-use Rattle.arc_replays.specs.Stages.Reached.{begins}
-use Rattle.arc_plain.specs.Crews.{Progress, IsUnderWay, IsInPhases, AreFollowed, CameOn, MayGoOn, ThreadFinished, PhaseFinished, thread_at, thread_begun, phase_begun}
+use Rattle.arc_replays.specs.Stages.{Stage, Reached, IsSome, IsNone, IsNoneBelow, has_step, is_step, is_phase_end, awaits_phase, begun_thread, begun_threads, first_stage, new_threads}
+use Rattle.arc_replays.specs.Stages.Reached.{new, begins, last}
+use Rattle.arc_plain.specs.Crews.{Progress, IsUnderWay, IsInPhases, AreFollowed, CameOn, MayGoOn, ThreadFinished, PlacesFollowed, PhaseFinished, PhasesDone, IsDone, thread_at, thread_begun, phase_begun}
 use Rattle.arc_plain.proofs.Assumed.{stages_are_whole, phases_may_begin, phases_left}
-use Rattle.arc_plain.proofs.Keeps.{waits}
+use Rattle.arc_plain.proofs.Keeps.{waits, ended, turns, new_is, all_keep}
+use Rattle.arc_plain.proofs.Turns.{new_steppers}
+use Rattle.arc_plain.proofs.Alone.{came_to}
 use Rattle.arc_plain.proofs.Lists.{set_there, set_apart, same_elements}
 use Rattle.arc_plain.proofs.Places.{there, is_at}
 
@@ -142,3 +146,140 @@ begun_in_phases c i none some steppers =
       };
       first_waits = rw (first_begun c.stage.threads (stepper_of c.script 0)) i.first_waits;
     }
+
+pub beginning_done : (n : ℕ) (before c : Progress) → length c.stage.threads ≤ n → Beginning n before c → record { script = c.script; stage = record c.stage { begun = c.stage.begun + 1 } } ≡ phase_begun before
+beginning_done n before c all b =
+    ap (λ (x : Progress). one_more x.script x.stage (x.stage.begun + 1) c.stage.threads) b.c_is ∙ ap (λ (ts : List Thread). one_more before.script before.stage (before.stage.begun + 1) ts) (beginning_last n before c all b)
+  where
+    one_more : Script → Stage → ℕ → List Thread → Progress
+    one_more script s begun threads = record { script = script; stage = record s { begun = begun; threads = threads } }
+
+-- ---- all phases
+
+-- what holds where a phase may begin
+pub record Between (before c : Progress) : Type 0 where
+  pub in_phases : IsInPhases c
+  pub script : c.script ≡ before.script
+  pub none : IsNone has_step c.stage.threads
+  pub begun : c.stage.begun ≤ 64
+  pub bound : c.stage.steps + length c.stage.places ≤ 1000000 + c.stage.begun * 2 ^ 46
+
+between_new : (script : Script) → IsScript script → IsServed script → Between (record { script = script; stage = first_stage script }) (record { script = script; stage = first_stage script })
+between_new script valid served =
+    let few = valid.few_places in
+    record {
+      in_phases = record { under_way = record { script = valid; served = served; reached = new; steppers = new_steppers script (length script.threads + 1) 0 valid served (omega arith) }; first_waits = first (length script.threads + 1) };
+      script = refl;
+      none = λ p t p1 at. ap (λ (x : Thread). has_step x) (new_is script (length script.threads + 1) p t at);
+      begun = omega arith;
+      bound = omega arith;
+    }
+  where
+    first : (n : ℕ) → awaits_phase (get_or (new_threads script n 0) 0 (stepper_of script 0)) ≡ true
+    first zero = refl
+    first (suc n) = refl
+
+pub between_first : (c : Progress) → IsScript c.script → IsServed c.script → c.stage ≡ first_stage c.script → Between c c
+between_first c valid served e = subst (λ (s : Stage). Between (record { script = c.script; stage = s }) (record { script = c.script; stage = s })) (sym e) (between_new c.script valid served)
+
+pub between_on : (before c b f e : Progress) → Between before c → IsSome awaits_phase c.stage.threads → b ≡ phase_begun c → PlacesFollowed b f → PhaseFinished f e → Between before e × (64 - e.stage.begun < 64 - c.stage.begun)
+between_on before c b f e i some is p q =
+    let left = phase_left c i.in_phases.under_way some in
+    let began : b.stage.begun ≡ c.stage.begun + 1 = ap (λ (x : Progress). x.stage.begun) is in
+    let steps : b.stage.steps ≡ c.stage.steps = ap (λ (x : Progress). x.stage.steps) is in
+    let places : length b.stage.places ≡ length c.stage.places = ap (λ (x : Progress). length x.stage.places) is in
+    let followed = p.came.steps in
+    let finished = q.came.steps in
+    let same : e.stage.begun ≡ c.stage.begun + 1 = q.came.begun ∙ (p.came.begun ∙ began) in
+    let bound = i.bound in
+    (
+      record {
+        in_phases = q.in_phases;
+        script = q.came.script ∙ (p.came.script ∙ (ap (λ (x : Progress). x.script) is ∙ i.script));
+        none = q.none;
+        begun = omega arith;
+        bound = omega arith;
+      },
+      omega arith,
+    )
+
+pub between_last : (before c : Progress) → Between before c → IsNone awaits_phase c.stage.threads → PhasesDone before c
+between_last before c i none = let begun = i.begun in let bound = i.bound in record { in_phases = i.in_phases; script = i.script; none = i.none; no_phase = none; few = omega arith }
+
+-- ---- thread 0
+
+some_threads : (c : Progress) → IsUnderWay c → 0 < length c.stage.threads
+some_threads c u = let long = threads_long c u in omega arith
+
+pub first_takes : (before c : Progress) → PhasesDone before c → awaits_phase (thread_at 0 c) ≡ true → takes (thread_at 0 c) None
+first_takes before c d h =
+    let u = d.in_phases.under_way in
+    phases_may_begin c.script c.stage 0 (thread_at 0 c) u.script u.served u.reached (there c 0 (some_threads c u)) (waits (thread_at 0 c).asked h)
+
+begun_now : (t : Thread) → awaits_phase t ≡ true → begun_thread t ≡ turned t None
+begun_now t h = ap (λ (b : Bool). cond b (turned t None) t) h
+
+pub first_under_way : (before c c' : Progress) → PhasesDone before c → c' ≡ thread_begun 0 c → All IsStepper c'.stage.threads → IsUnderWay c'
+first_under_way before c c' d is steppers = rw is (record {
+    script = u.script;
+    served = u.served;
+    reached = subst (λ (t : Thread). Reached c.script (record c.stage { threads = slice_set c.stage.threads 0 t })) (sym (begun_now (thread_at 0 c) d.in_phases.first_waits))
+        (last u.reached d.none d.no_phase (there c 0 (some_threads c u)) d.in_phases.first_waits (first_takes before c d d.in_phases.first_waits));
+    steppers = rw is at steppers;
+  })
+  where
+    u : IsUnderWay c
+    u = d.in_phases.under_way
+
+pub first_there : (before c c' : Progress) → PhasesDone before c → c' ≡ thread_begun 0 c → 0 < length c'.stage.threads
+first_there before c c' d is = let some = some_threads c d.in_phases.under_way in let same : length c'.stage.threads ≡ length c.stage.threads = ap (λ (x : Progress). length x.stage.threads) is ∙ length-set c.stage.threads 0 (begun_thread (thread_at 0 c)) in omega arith
+
+-- thread 0 has no phase, so it never waits for a second one
+never_waits : (c : Progress) → IsUnderWay c → 0 < length c.stage.threads → (awaits_phase (thread_at 0 c) ≡ true → 1 ≤ (thread_at 0 c).phase) → awaits_phase (thread_at 0 c) ≡ true → ⊥
+never_waits c u lt h w =
+    let s = (u.steppers 0 (stepper_of c.script 0) lt).phase in
+    let k = (all_keep c.script u.script u.served c.stage u.reached 0 (thread_at 0 c) (there c 0 lt)).phases in
+    let none : length (thread_at 0 c).phases ≡ 0 = ap (λ (ps : List (List Op)). length ps) k in
+    let some = h w in
+    omega arith
+
+pub all_done : (before c b c' : Progress) → PhasesDone before c → b ≡ thread_begun 0 c → ThreadFinished 0 b c' → IsDone before c'
+all_done before c b c' d is t = record {
+    script = t.came.script ∙ (ap (λ (x : Progress). x.script) is ∙ d.script);
+    under_way = t.under_way;
+    ended = λ p x at. dite (ℕ_discrete p 0) (λ e. first x (subst (λ (k : ℕ). slice_get c'.stage.threads k ≡ Some x) e at)) (λ ne. other p x ne at);
+    few = let few = d.few in
+        let steps : b.stage.steps ≡ c.stage.steps = ap (λ (y : Progress). y.stage.steps) is in
+        let places : length b.stage.places ≡ length c.stage.places = ap (λ (y : Progress). length y.stage.places) is in
+        let more = t.came.steps in
+        omega arith;
+  }
+  where
+    u : IsUnderWay c
+    u = d.in_phases.under_way
+
+    other : (p : ℕ) (x : Thread) → p ≢ 0 → slice_get c'.stage.threads p ≡ Some x → x.asked ≡ moves.Ended
+    other p x ne at =
+        let there : slice_get c.stage.threads p ≡ Some x =
+            sym (set_apart c.stage.threads 0 p (begun_thread (thread_at 0 c)) ne) ∙ (sym (ap (λ (y : Progress). slice_get y.stage.threads p) is) ∙ (sym (t.others p ne) ∙ at)) in
+        ended x.asked (d.none p x (omega arith) there) (d.no_phase p x (omega arith) there)
+
+    begun_at : thread_at 0 b ≡ turned (thread_at 0 c) None
+    begun_at =
+        is_at b 0 (begun_thread (thread_at 0 c)) (ap (λ (y : Progress). slice_get y.stage.threads 0) is ∙ set_there c.stage.threads 0 (begun_thread (thread_at 0 c)) (some_threads c d.in_phases.under_way)) ∙
+        begun_now (thread_at 0 c) d.in_phases.first_waits
+
+    later : awaits_phase (thread_at 0 b) ≡ true → 1 ≤ (thread_at 0 b).phase
+    later h =
+        let comes = turns c.script c.stage 0 (thread_at 0 c) d.in_phases.under_way.script d.in_phases.under_way.served d.in_phases.under_way.reached (there c 0 (some_threads c d.in_phases.under_way)) d.in_phases.first_waits in
+        rw begun_at (came_to (thread_at 0 c).phase (turned (thread_at 0 c) None).phase (turned (thread_at 0 c) None).asked (rw begun_at at h) comes.phase)
+
+    first : (x : Thread) → slice_get c'.stage.threads 0 ≡ Some x → x.asked ≡ moves.Ended
+    first x at =
+        let same = is_at c' 0 x at in
+        let lt = slice_get_within c'.stage.threads 0 x at in
+        subst (λ (y : Thread). y.asked ≡ moves.Ended) same (ended (thread_at 0 c').asked t.done (no_wait (is_phase_end (thread_at 0 c').asked) refl lt))
+      where
+        no_wait : (w : Bool) → is_phase_end (thread_at 0 c').asked ≡ w → 0 < length c'.stage.threads → is_phase_end (thread_at 0 c').asked ≡ false
+        no_wait true e lt = absurd (never_waits c' t.under_way lt (t.begun_once later) e)
+        no_wait false e lt = e

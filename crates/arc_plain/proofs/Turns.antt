@@ -43,7 +43,7 @@ crew_turned threads asked busy p u d next a b k lt is stepper a_is b_is =
       few = rw length-set few;
     }
 
-new_long : (script : Script) (n from : ℕ) → length (new_threads script n from) ≡ n
+pub new_long : (script : Script) (n from : ℕ) → length (new_threads script n from) ≡ n
 new_long script zero from = refl
 new_long script (suc n) from = ap suc (new_long script n (from + 1))
 
@@ -55,12 +55,12 @@ new_idle : (script : Script) (n from : ℕ) → steps_asked (new_threads script 
 new_idle script zero from = refl
 new_idle script (suc n) from = let h = new_idle script n (from + 1) in let k = sum_by-cons (λ (u : Thread). step_count u.asked) (stepper_of script from) (new_threads script n (from + 1)) in omega arith
 
-new_steppers : (script : Script) (n from : ℕ) → IsScript script → IsServed script → from + n ≤ length script.threads + 1 → All IsStepper (new_threads script n from)
+pub new_steppers : (script : Script) (n from : ℕ) → IsScript script → IsServed script → from + n ≤ length script.threads + 1 → All IsStepper (new_threads script n from)
 new_steppers script zero from valid served le k d lt = absurd (omega arith)
 new_steppers script (suc n) from valid served le zero d lt = makes_stepper script from valid served (omega arith)
 new_steppers script (suc n) from valid served le (suc k) d lt = new_steppers script n (from + 1) valid served (omega arith) k d (omega arith)
 
-pub crew_new : (script : Script) → IsScript script → IsServed script → IsCrew (new_threads script (length script.threads + 1) 0) (replicate (length script.threads + 1) moves.PhaseEnd) 0
+crew_new : (script : Script) → IsScript script → IsServed script → IsCrew (new_threads script (length script.threads + 1) 0) (replicate (length script.threads + 1) moves.PhaseEnd) 0
 crew_new script valid served =
     let few = valid.few_threads in
     let long = new_long script (length script.threads + 1) 0 in
@@ -70,3 +70,8 @@ crew_new script valid served =
       steppers = new_steppers script (length script.threads + 1) 0 valid served (omega arith);
       few = omega arith;
     }
+
+pub crew_new_is : (script : Script) (threads : List Thread) (asked : List Move) (n : ℕ) → IsScript script → IsServed script → threads ≡ new_threads script (length script.threads + 1) 0 → asked ≡ replicate n moves.PhaseEnd → n ≡ length threads → IsCrew threads asked 0
+crew_new_is script threads asked n valid served e f long =
+    let count : n ≡ length script.threads + 1 = long ∙ (ap (λ (ts : List Thread). length ts) e ∙ new_long script (length script.threads + 1) 0) in
+    rw (e, f, count) (crew_new script valid served)

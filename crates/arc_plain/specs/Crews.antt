@@ -113,7 +113,7 @@ pub record PhasesDone (before c : Progress) : Type 0 where
   pub script : c.script ≡ before.script
   pub none : IsNone has_step c.stage.threads
   pub no_phase : IsNone awaits_phase c.stage.threads
-  pub few : c.stage.steps ≤ 2 ^ 54
+  pub few : c.stage.steps + length c.stage.places ≤ 2 ^ 54
 
 -- The replay came to its end.
 pub record IsDone (before c : Progress) : Type 0 where
