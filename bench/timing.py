@@ -7,13 +7,12 @@ import time
 
 TOP = os.path.dirname(os.path.dirname(os.path.abspath(__file__)))
 PROGRAM = os.path.join(TOP, "crates", "arc", "out", "arc")
-SMALL = os.path.join(TOP, "examples", "smallest-life.arc")
 
 
 def build():
-    """The start script builds the program where it isn't there."""
-    with open(SMALL, "rb") as small:
-        subprocess.run([os.path.join(TOP, "arc"), "replay"], stdin=small, stdout=subprocess.DEVNULL, check=True)
+    """The start script proves the program where it isn't there."""
+    if not os.path.exists(PROGRAM):
+        subprocess.run([os.path.join(TOP, "arc"), "--prove"], stdin=subprocess.DEVNULL, check=True)
 
 
 def once(words, text, wanted):

@@ -6,8 +6,8 @@ use Rattle.arc_check.specs.EventTexts.{HistoryText, history_of}
 use Rattle.arc_check.specs.Verdicts.{AreLegal}
 use Rattle.arc_judged.specs.Written.{written}
 use Rattle.arc_judged.proofs.Legal.{legal_behind, is_counted, none_is_illegal, none_is_refused}
-use Rattle.arc.specs.declared.command.Command.{Command}
-use Rattle.arc.specs.declared.command.Command.TheVariants as command
+use Rattle.arc_command.specs.declared.command.Command.{Command}
+use Rattle.arc_command.specs.declared.command.Command.TheVariants as command
 use Rattle.arc.specs.Outputs.{AreAll, IsOutput, IsRefusal, legal_text}
 use Rattle.arc.specs.Judged.{HadReplay}
 

@@ -1,4 +1,3 @@
-pub mod LongNumbers
 pub mod Reported
 pub mod Printed
 pub mod Judged

@@ -16,9 +16,11 @@ use Rattle.arc_script.specs.declared.answer.Line.{Line}
 use Rattle.arc_script.specs.declared.script.Script.{Script}
 use Rattle.arc_script.specs.Valid.{IsScript}
 use Rattle.arc_ops.specs.declared.told.Stamped.{Stamped}
+use Rattle.arc_ops.specs.declared.told.ThreadLines.{ThreadLines}
 use Rattle.arc_plain.specs.declared.replay.Replay.{Replay}
-use Rattle.arc_plain.specs.Named.{AnswerFits, LineFits, ActFits}
-use Rattle.arc_plain.specs.Replays.{AreEmpty, IsReplay}
+use Rattle.arc_replays.specs.Named.{AnswerFits, LineFits, ActFits}
+use Rattle.arc_replays.specs.Empty.{AreEmpty}
+use Rattle.arc_plain.specs.Replays.{IsReplay}
 use Rattle.arc_report.specs.Lines.{AnswerHasClass, LinesHaveClasses, ThreadsHaveClasses}
 use Rattle.arc_report.specs.Events.{ActIsNamed, EventIsNamed}
 use Rattle.arc_report.specs.Words.{word_at, is_taken, AreFinalWords, EntryIsThere, ObjectsHaveClasses}
@@ -89,13 +91,11 @@ classes_count script valid = ap length valid.heading.of_classes ∙ simp length-
 
 pub threads_told : (script : Script) (r : Replay) → IsScript script → IsReplay script r → ThreadsHaveClasses (length script.classes) r.threads.items
 threads_told script r valid told =
-    let lines = subst (λ n. LinesHaveClasses n told.first.kept.lines) (classes_count script valid) (lines_named _ _ told.lines_fit) in
-    rw told.threads (lines, tt)
+    subst (λ n. ThreadsHaveClasses n r.threads.items) (classes_count script valid)
+    (recursion_from_All (λ (t : ThreadLines). LinesHaveClasses (length script.shape.classes) t.lines) r.threads.items (λ k d h. lines_named _ _ (told.lines_fit k d h)))
 
 pub end_told : (script : Script) (r : Replay) → IsScript script → IsReplay script r → LinesHaveClasses (length script.classes) r.end.items
-end_told script r valid told =
-    let lines = subst (λ n. LinesHaveClasses n told.last.kept.lines) (classes_count script valid) (lines_named _ _ told.end_fits) in
-    rw told.end lines
+end_told script r valid told = subst (λ n. LinesHaveClasses n r.end.items) (classes_count script valid) (lines_named _ _ told.end_fits)
 
 pub events_told : (script : Script) (r : Replay) → IsScript script → IsReplay script r → AllByRecursion (EventIsNamed (length script.classes) (length script.globals)) r.events.items
 events_told script r valid told =

@@ -1,4 +1,3 @@
-pub mod Commands
 pub mod Statuses
 pub mod Outputs
 pub mod Printed

@@ -1,7 +1,7 @@
 -- What a command writes, and why it has nothing to write.
 use Rattle.std.specs.Prelude.{◌≡◌, ℕ, ◌+◌, ◌⊎◌, ◌≤◌, Bool, true, false, List, ◌++◌, length, Option, Some, None, Ok, Err, IsOk, IsErr, ⊤, codes}
 use Rattle.std.specs.Fmt.{decimal}
-use Rattle.arc_io.specs.Causes.{Rose}
+use Rattle.arc_io.specs.Causes.{next_count}
 use Rattle.arc_io.specs.Moved.{Took}
 use Rattle.std.specs.Io.KnownBytes.{IsAtEnd}
 use Rattle.arc_script.specs.declared.script.Script.{Script}
@@ -17,9 +17,9 @@ use Rattle.arc_model.specs.declared.event.Illegal.{Illegal}
 use Rattle.arc_model.specs.declared.event.Illegal.TheVariants as illegal
 use Rattle.arc_check.specs.EventTexts.{HistoryText, history_of}
 use Rattle.arc_check.specs.Verdicts.{AreLegal, IsFirstIllegal}
-use Rattle.arc.specs.Commands.{limit_of}
-use Rattle.arc.specs.declared.command.Command.{Command}
-use Rattle.arc.specs.declared.command.Command.TheVariants as command
+use Rattle.arc_command.specs.Commands.{limit_of}
+use Rattle.arc_command.specs.declared.command.Command.{Command}
+use Rattle.arc_command.specs.declared.command.Command.TheVariants as command
 use Rattle.arc.specs.declared.output.Fault.{Fault}
 use Rattle.arc.specs.declared.output.Fault.TheVariants as fault
 
@@ -124,7 +124,7 @@ RefusesText c fault.Memory text = Unit {0}
 
 -- why a command has no output, by what was read and how often the source had failed
 abbrev pub IsCause : Command → Fault → Option (List ℕ) → Option (List ℕ) → ℕ → ℕ → Type 0
-IsCause c fault.Read old new before now = Rose before now
+IsCause c fault.Read old new before now = now ≡ next_count before
 IsCause c fault.TooLong old new before now = Took old new (limit_of (Some c) + 1)
 IsCause c (fault.Refused line why) old new before now = IsRefusal c old line why × IsAtEnd new
 IsCause c fault.Memory old new before now = Unit {0}

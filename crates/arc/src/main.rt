@@ -2,26 +2,21 @@
 #![tactic(auto)]
 
 mod calls;
-mod command;
-mod number;
 mod output;
 mod status;
-mod words;
 
+use arc_command::{HostLine, words_of};
 use arc_io::{StdSink, StdSource};
 use calls::arc_plain_top;
-use status::Status;
 use std::process::ExitCode;
-use words::words_of;
 
 fn main(rt: HostRuntime) -> ExitCode {
-    let Ok(words) = words_of(&rt) else {
-        return ExitCode::from(Status::Memory as u8);
-    };
-    let mut source = StdSource::new(rt.stdin());
-    let mut sink = StdSink::new(rt.stdout());
-    let status = arc_plain_top(rt.alloc(), &words, &mut source, &mut sink);
-    ExitCode::from(status as u8)
+    arc_plain_top(
+        rt.alloc(),
+        &words_of(&HostLine::new(&rt)),
+        &mut StdSource::new(rt.stdin()),
+        &mut StdSink::new(rt.stdout()),
+    )
 }
 
 #[cfg(test)]

@@ -5,10 +5,10 @@ ghost use Rattle.arc_script.specs.Valid.{IsScript};
 ghost use Rattle.arc_script.specs.Canonical.{canonical};
 ghost use Rattle.arc_storm.specs.Storm.{storm_script};
 ghost use Rattle.arc_ops.specs.Served.{IsServed};
-ghost use Rattle.arc.specs.Commands.{CountFits, reads, limit_of};
+ghost use Rattle.arc_command.specs.Commands.{CountFits, reads, limit_of};
 ghost use Rattle.arc.specs.Outputs.{TellsReplay, TellsOf, illegal_number, legal_text, illegal_text, TellsVerdict, IsOutput, RefusesText, IsCause};
 
-use crate::command::Command;
+use arc_command::Command;
 use arc_check::{CheckFault, Verdict, check};
 use arc_io::{InFault, Source, read_all};
 use arc_model::{Illegal, Memory};
@@ -141,6 +141,7 @@ fn judged<S: Source>(alloc: Global, source: &mut S) -> Result<Output, Fault>
     ensures fault { IfErr result (λ e. IsCause Command.Check e (S.left source.old) (S.left source.new) (S.faults source.old) (S.faults source.new)) }
     ensures end { OnOk result (IsAtEnd (S.left source.new)) }
     ensures within { (result ≡ Err Fault.TooLong → ⊥) → TookAtMost (S.left source.old) (S.left source.new) HISTORY_LIMIT }
+    ensures uncounted { (result ≡ Err Fault.Read → ⊥) → S.faults source.new ≡ S.faults source.old }
 {
     match read_all(alloc, source, HISTORY_LIMIT) {
         Ok(text) => verdict_line(alloc, &text),
@@ -156,6 +157,7 @@ fn replayed<S: Source>(alloc: Global, source: &mut S) -> Result<Output, Fault>
     ensures fault { IfErr result (λ e. IsCause Command.Replay e (S.left source.old) (S.left source.new) (S.faults source.old) (S.faults source.new)) }
     ensures end { OnOk result (IsAtEnd (S.left source.new)) }
     ensures within { (result ≡ Err Fault.TooLong → ⊥) → TookAtMost (S.left source.old) (S.left source.new) LIMIT }
+    ensures uncounted { (result ≡ Err Fault.Read → ⊥) → S.faults source.new ≡ S.faults source.old }
 {
     match read_all(alloc, source, LIMIT) {
         Ok(text) => match output_of_text(alloc, &text) {
@@ -181,6 +183,7 @@ pub fn output_of<S: Source>(
     ensures reading { IfErr result (λ e. e ≢ Fault.Memory → reads command ≡ true) }
     ensures judging { IfOk result (λ o. o.legal ≡ false → command ≡ Command.Check) }
     ensures within { (result ≡ Err Fault.TooLong → ⊥) → TookAtMost (S.left source.old) (S.left source.new) (limit_of (Some command)) }
+    ensures uncounted { (result ≡ Err Fault.Read → ⊥) → S.faults source.new ≡ S.faults source.old }
     ensures unread { reads command ≡ false → source.new ≡ source.old }
 {
     match command {

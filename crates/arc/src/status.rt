@@ -1,20 +1,49 @@
-/// How a call of the program ended, and the status that the program ends with. This project's own.
+ghost use Rattle.std.specs.Prelude.{◌≡◌};
+ghost use Rattle.arc.specs.Statuses.{number_of, EndsWith};
+
+use std::process::ExitCode;
+
+/// How a call of the program ended. This project's own.
 #[derive(Clone, Copy, Debug, PartialEq, Eq)]
 pub enum Status {
     /// The whole output went out.
-    Done = 0,
+    Done,
     /// A history has an event that isn't legal.
-    NotLegal = 1,
+    NotLegal,
     /// The words of the command line ask for nothing that there is.
-    Usage = 2,
+    Usage,
     /// The input failed.
-    ReadFault = 3,
+    ReadFault,
     /// The output failed, and a part of it went out.
-    WriteFault = 4,
+    WriteFault,
     /// The input is no script, or one that isn't served.
-    Refused = 5,
+    Refused,
     /// The input is longer than the limit.
-    TooLong = 6,
+    TooLong,
     /// No memory was found.
-    Memory = 7,
+    Memory,
+}
+
+impl Status {
+    fn number(self) -> u8
+        ensures { result ≡ number_of self }
+    {
+        match self {
+            Status::Done => 0,
+            Status::NotLegal => 1,
+            Status::Usage => 2,
+            Status::ReadFault => 3,
+            Status::WriteFault => 4,
+            Status::Refused => 5,
+            Status::TooLong => 6,
+            Status::Memory => 7,
+        }
+    }
+
+    /// What the program ends with, by the table of statuses.
+    pub fn code(self) -> ExitCode
+        ensures { EndsWith result self }
+    {
+        ExitCode::from(self.number())
+    }
 }

@@ -14,8 +14,8 @@ use Rattle.arc_model.specs.declared.memory.Memory.{Memory}
 use Rattle.arc_model.specs.declared.event.Illegal.{Illegal}
 use Rattle.arc_model.specs.History.{History, judge, IsLegal}
 use Rattle.arc_script.specs.Grammar.{Refusal}
-use Rattle.arc_heap.specs.Index.{Index}
-use Rattle.arc_heap.specs.Stands.{thread_count, StandsFor, IsInRange, IsCellInRange, IsOriginInRange}
+use Rattle.arc_heap_judge.specs.Index.{Index}
+use Rattle.arc_heap_judge.specs.Stands.{thread_count, StandsFor, IsInRange, IsCellInRange, IsOriginInRange}
 use Rattle.arc_check.specs.declared.line.EventLine.{EventLine}
 use Rattle.arc_check.specs.declared.judge.Breach.{Breach}
 use Rattle.arc_check.specs.Scopes.{Naming}

@@ -5,8 +5,8 @@ use Rattle.arc_model.specs.declared.event.Illegal.{Illegal}
 use Rattle.arc_model.specs.declared.memory.Memory.{Memory}
 use Rattle.arc_model.specs.History.{History, judge, IsLegal}
 use Rattle.arc_script.specs.Grammar.{Refusal}
-use Rattle.arc_heap.specs.Index.{Index}
-use Rattle.arc_heap.specs.Stands.{StandsFor}
+use Rattle.arc_heap_judge.specs.Index.{Index}
+use Rattle.arc_heap_judge.specs.Stands.{StandsFor}
 use Rattle.arc_check.specs.declared.fault.CheckFault.{CheckFault}
 use Rattle.arc_check.specs.declared.line.EventLine.{EventLine}
 use Rattle.arc_check.specs.declared.judge.Breach.{Breach}

@@ -1,6 +1,6 @@
 ghost use Rattle.std.specs.Prelude.{◌≡◌, ◌≤◌, ◌<◌, ℕ, length};
 ghost use Rattle.arc_model.specs.History.{History};
-ghost use Rattle.arc_heap.specs.Stands.{StandsFor, IsInRange, thread_count};
+ghost use Rattle.arc_heap_judge.specs.Stands.{StandsFor, IsInRange, thread_count};
 ghost use Rattle.arc_check.specs.EventTexts.{history_of};
 ghost use Rattle.arc_check.specs.Verdicts.{Judges, Checks, verdict_of};
 

@@ -17,19 +17,19 @@ use Rattle.arc_model.specs.CellLaws.{cell_next}
 use Rattle.arc_model.specs.Own.{ends_hand, brings_hand, brought}
 use Rattle.arc_model.specs.History.{History, heap_after, brings, IsLegal}
 use Rattle.arc_model.proofs.CellSpots.{cells_after}
-use Rattle.arc_heap.specs.declared.counted.Place.{Place}
-use Rattle.arc_heap.specs.declared.counted.Counted.{Counted}
-use Rattle.arc_heap.specs.declared.counted.Held.{Held}
-use Rattle.arc_heap.specs.declared.slots.Owner.{Owner}
-use Rattle.arc_heap.specs.declared.slots.Owner.TheVariants.{Claim}
-use Rattle.arc_heap.specs.Counting.{at_place, placed, row_of, pushed, count_in, raised, most, with_one_more}
-use Rattle.arc_heap.specs.Freeing.{Freed, owner_at, taken, freed}
-use Rattle.arc_heap.specs.Index.{Index, cell_at, next_of}
+use Rattle.arc_heap_index.specs.declared.counted.Place.{Place}
+use Rattle.arc_heap_index.specs.declared.counted.Counted.{Counted}
+use Rattle.arc_heap_index.specs.declared.counted.Held.{Held}
+use Rattle.arc_heap_index.specs.declared.slots.Owner.{Owner}
+use Rattle.arc_heap_index.specs.declared.slots.Owner.TheVariants.{Claim}
+use Rattle.arc_heap_index.specs.Counting.{at_place, placed, row_of, pushed, count_in, raised, most, with_one_more}
+use Rattle.arc_heap_index.specs.Freeing.{Freed, owner_at, taken, freed}
+use Rattle.arc_heap_judge.specs.Index.{Index, cell_at, next_of}
 use Rattle.arc_heap.specs.Moving.{reach_more, reach_less, joins, after_act}
-use Rattle.arc_heap.specs.Stands.{IsCounted, is_so, is_object, claimants, claimant, hands_of, spot_of, IsCellInRange, Tells, StandsFor}
-use Rattle.arc_heap.proofs.Places.{length-at_place}
-use Rattle.arc_heap.proofs.Rows.{row-same, row-other, row-length}
-use Rattle.arc_heap.proofs.Told.{true≢false, LikeHeld}
+use Rattle.arc_heap_judge.specs.Stands.{IsCounted, is_so, is_object, claimants, claimant, hands_of, spot_of, IsCellInRange, Tells, StandsFor}
+use Rattle.arc_heap_index.proofs.Places.{length-at_place}
+use Rattle.arc_heap_index.proofs.Rows.{row-same, row-other, row-length}
+use Rattle.arc_heap_judge.proofs.Told.{true≢false, LikeHeld}
 use Rattle.arc_heap.proofs.Holders.{count-push, hands-length, raised-up}
 use Rattle.arc_heap.proofs.Spots.{ids-placed}
 use Rattle.arc_heap.proofs.Tellings.{Reaches, Idles, tells-lists, reach-more-ok}

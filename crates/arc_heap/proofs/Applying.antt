@@ -22,20 +22,21 @@ use Rattle.arc_model.specs.History.{History, heap_after, sight, judge, next_hand
 use Rattle.arc_model.proofs.Basics.{AreMet, met, met-split}
 use Rattle.arc_model.proofs.Others.{spot-find}
 use Rattle.arc_model.proofs.Tally.{gains-present, gains-absent}
-use Rattle.arc_heap.specs.declared.counted.Held.{Held}
+use Rattle.arc_heap_index.specs.declared.counted.Held.{Held}
 use Rattle.arc_heap.specs.declared.refusal.Refusal.{Refusal}
-use Rattle.arc_heap.specs.declared.slots.Owner.{Owner}
-use Rattle.arc_heap.specs.declared.slots.Owner.TheVariants.{Object as ObjectOwner, Claim}
-use Rattle.arc_heap.specs.Counting.{placed}
-use Rattle.arc_heap.specs.Freeing.{owner_at, object_in}
-use Rattle.arc_heap.specs.Index.{Index, hand_at, cell_at, origin_at, hold, in_slot, with_entry, found_at, next_of}
-use Rattle.arc_heap.specs.Judging.{is_claim_of, verdict}
+use Rattle.arc_heap_index.specs.declared.slots.Owner.{Owner}
+use Rattle.arc_heap_index.specs.declared.slots.Owner.TheVariants.{Object as ObjectOwner, Claim}
+use Rattle.arc_heap_index.specs.Counting.{placed}
+use Rattle.arc_heap_index.specs.Freeing.{owner_at, object_in}
+use Rattle.arc_heap_judge.specs.Index.{Index, hand_at, cell_at, origin_at, hold, in_slot, with_entry, found_at, next_of}
+use Rattle.arc_heap_judge.specs.Judging.{is_claim_of, verdict}
 use Rattle.arc_heap.specs.Moving.{after_act, after_event, joins, joins_own, leaves, finishes, vacates, goes_away, sided}
-use Rattle.arc_heap.specs.Stands.{IsCounted, IsInRange, Refuses, Answers, AppliesAfter, StandsFor}
-use Rattle.arc_heap.proofs.Told.{true≢false, FoundAt, found_owner, found_none, LikeHeld, AreHeld}
-use Rattle.arc_heap.proofs.Finding.{find_only, placed_spot}
-use Rattle.arc_heap.proofs.Judges.{hand-held, origin-held, counted_list, claims-same, entry-same, slot-same}
-use Rattle.arc_heap.proofs.Verdicts.{judged-is}
+use Rattle.arc_heap_judge.specs.Stands.{IsCounted, IsInRange, StandsFor}
+use Rattle.arc_heap.specs.Applied.{Refuses, Answers, AppliesAfter}
+use Rattle.arc_heap_judge.proofs.Told.{true≢false, FoundAt, found_owner, found_none, LikeHeld, AreHeld}
+use Rattle.arc_heap_judge.proofs.Finding.{find_only, placed_spot}
+use Rattle.arc_heap_judge.proofs.Judges.{hand-held, origin-held, counted_list, claims-same, entry-same, slot-same}
+use Rattle.arc_heap_judge.proofs.Verdicts.{judged-is}
 use Rattle.arc_heap.proofs.Owners.{none-owner}
 use Rattle.arc_heap.proofs.Standing.{Steps, standing}
 use Rattle.arc_heap.proofs.Acts.{steps_still, steps_claim, steps_back, steps_join}
@@ -63,10 +64,10 @@ there-held z ix heap None (Some q) like e = absurd like
 there-held z ix heap (Some v) (Some q) like e = (v, q, refl, like)
 
 -- a slot or an entry that is in an object
-owned-object : (ix : Index) (heap : Heap) → Rattle.arc_heap.specs.Stands.Tells ix heap → (test : Object → Bool) (owner : Option Owner) → ((i : ℕ) → Rattle.arc_heap.specs.Stands.is_so test (slice_get heap.objects i) ≡ Rattle.arc_heap.specs.Stands.is_object i owner) → is_some (find test heap.objects) ≡ true → (i : ℕ) × (d : FoundAt ix heap test i) × (found_at ix.objects (object_in owner) ≡ Some (record { object = i; counted = d.counted }))
+owned-object : (ix : Index) (heap : Heap) → Rattle.arc_heap_judge.specs.Stands.Tells ix heap → (test : Object → Bool) (owner : Option Owner) → ((i : ℕ) → Rattle.arc_heap_judge.specs.Stands.is_so test (slice_get heap.objects i) ≡ Rattle.arc_heap_judge.specs.Stands.is_object i owner) → is_some (find test heap.objects) ≡ true → (i : ℕ) × (d : FoundAt ix heap test i) × (found_at ix.objects (object_in owner) ≡ Some (record { object = i; counted = d.counted }))
 owned-object ix heap t test None so e = true≢false (sym e ∙ ap is_some (found_none ix heap test None so refl))
 owned-object ix heap t test (Some (Claim q)) so e = true≢false (sym e ∙ ap is_some (found_none ix heap test (Some (Claim q)) so refl))
-owned-object ix heap t test (Some (ObjectOwner i)) so e = let d = found_owner ix heap t test (Some (ObjectOwner i)) so i refl in (i, d, ap (Rattle.arc_heap.specs.Index.with_object i) d.like.in_index)
+owned-object ix heap t test (Some (ObjectOwner i)) so e = let d = found_owner ix heap t test (Some (ObjectOwner i)) so i refl in (i, d, ap (Rattle.arc_heap_judge.specs.Index.with_object i) d.like.in_index)
 
 passes-at : (ix : Index) (heap : Heap) (test other : Object → Bool) (i : ℕ) (d : FoundAt ix heap test i) → passes other (find test heap.objects) ≡ true → other d.object ≡ true
 passes-at ix heap test other i d e = sym (ap (passes other) (find_only test heap.objects i d.object d.only)) ∙ e

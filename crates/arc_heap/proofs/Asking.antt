@@ -12,15 +12,16 @@ use Rattle.arc_model.specs.WellFormed.{IsWhole, tally}
 use Rattle.arc_model.specs.History.{History, heap_after}
 use Rattle.arc_model.proofs.Courses.{well_formed}
 use Rattle.arc_model.proofs.Tally.{tally-in, tally-out}
-use Rattle.arc_heap.specs.declared.counted.Counted.{Counted}
-use Rattle.arc_heap.specs.declared.counted.Due.TheVariants as due
-use Rattle.arc_heap.specs.declared.counted.Debt.{Debt}
-use Rattle.arc_heap.specs.Counting.{count_in, is_alive}
-use Rattle.arc_heap.specs.Index.{Index}
+use Rattle.arc_heap_index.specs.declared.counted.Counted.{Counted}
+use Rattle.arc_heap_index.specs.declared.counted.Due.TheVariants as due
+use Rattle.arc_heap_index.specs.declared.counted.Debt.{Debt}
+use Rattle.arc_heap_index.specs.Counting.{count_in, is_alive}
+use Rattle.arc_heap_judge.specs.Index.{Index}
 use Rattle.arc_heap.specs.Asked.{is_due_deinit, life_told, lived, held_in}
-use Rattle.arc_heap.specs.Stands.{IsCounted, AreCounted, owed_of, named, life_in, holders_in, StandsFor}
-use Rattle.arc_heap.proofs.Told.{true≢false}
-use Rattle.arc_heap.proofs.Judges.{alive, counted_list}
+use Rattle.arc_heap_judge.specs.Stands.{IsCounted, AreCounted, owed_of, StandsFor}
+use Rattle.arc_heap.specs.Applied.{named, life_in, holders_in}
+use Rattle.arc_heap_judge.proofs.Told.{true≢false}
+use Rattle.arc_heap_judge.proofs.Judges.{alive, counted_list}
 use Rattle.arc_heap.proofs.Slotted.{same_length}
 
 -- the same object in both
@@ -92,7 +93,7 @@ due-is : (c : Option Debt) (o : Option Rattle.arc_model.specs.Heaps.Owed) → ow
 due-is None o e = ap (is_duty Deinit) e
 due-is (Some d) o e = go d.due ∙ ap (is_duty Deinit) e
   where
-    go : (a : Rattle.arc_heap.specs.declared.counted.Due.Due) → Rattle.arc_heap.specs.Counting.same_due a due.Deinit ≡ Rattle.arc_model.specs.Holders.same_duty (Rattle.arc_heap.specs.Stands.duty_of_due a) Deinit
+    go : (a : Rattle.arc_heap_index.specs.declared.counted.Due.Due) → Rattle.arc_heap_index.specs.Counting.same_due a due.Deinit ≡ Rattle.arc_model.specs.Holders.same_duty (Rattle.arc_heap_judge.specs.Stands.duty_of_due a) Deinit
     go due.Deinit = refl
     go due.Vacating = refl
     go due.Gone = refl

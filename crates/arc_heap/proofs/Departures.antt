@@ -14,19 +14,19 @@ use Rattle.arc_model.specs.History.{History, heap_after, IsLegal}
 use Rattle.arc_model.proofs.Courses.{well_formed}
 use Rattle.arc_model.proofs.Stages.{dying-facts, gone-facts}
 use Rattle.arc_model.proofs.Tally.{tally-in}
-use Rattle.arc_heap.specs.declared.counted.Counted.{Counted}
-use Rattle.arc_heap.specs.declared.counted.Held.{Held}
-use Rattle.arc_heap.specs.declared.slots.Owner.{Owner}
-use Rattle.arc_heap.specs.declared.slots.Owner.TheVariants.{Object as ObjectOwner, Claim}
-use Rattle.arc_heap.specs.Counting.{placed, row_of, put_at, with_one_less, without_strongs, without_unowneds, entered}
-use Rattle.arc_heap.specs.Freeing.{Freed, owner_at, taken, changed}
-use Rattle.arc_heap.specs.Index.{Index}
+use Rattle.arc_heap_index.specs.declared.counted.Counted.{Counted}
+use Rattle.arc_heap_index.specs.declared.counted.Held.{Held}
+use Rattle.arc_heap_index.specs.declared.slots.Owner.{Owner}
+use Rattle.arc_heap_index.specs.declared.slots.Owner.TheVariants.{Object as ObjectOwner, Claim}
+use Rattle.arc_heap_index.specs.Counting.{placed, row_of, put_at, with_one_less, without_strongs, without_unowneds, entered}
+use Rattle.arc_heap_index.specs.Freeing.{Freed, owner_at, taken, changed}
+use Rattle.arc_heap_judge.specs.Index.{Index}
 use Rattle.arc_heap.specs.Moving.{reach_less, leaves, entry_goes, finishes, goes_away, claims_if, sided}
-use Rattle.arc_heap.specs.Stands.{IsCounted, is_so, is_object, claimants, claimant, hands_of, Tells, StandsFor}
-use Rattle.arc_heap.proofs.Places.{length-at_place}
-use Rattle.arc_heap.proofs.Rows.{row-same, row-other}
-use Rattle.arc_heap.proofs.Told.{true≢false, LikeHeld, FoundAt}
-use Rattle.arc_heap.proofs.Finding.{placed_spot, placed_only}
+use Rattle.arc_heap_judge.specs.Stands.{IsCounted, is_so, is_object, claimants, claimant, hands_of, Tells, StandsFor}
+use Rattle.arc_heap_index.proofs.Places.{length-at_place}
+use Rattle.arc_heap_index.proofs.Rows.{row-same, row-other}
+use Rattle.arc_heap_judge.proofs.Told.{true≢false, LikeHeld, FoundAt}
+use Rattle.arc_heap_judge.proofs.Finding.{placed_spot, placed_only}
 use Rattle.arc_heap.proofs.Holders.{hands-without, length-without}
 use Rattle.arc_heap.proofs.Spots.{ids-placed}
 use Rattle.arc_heap.proofs.Tellings.{Reaches, Idles, placed-here, placed-other, slot-kept, entry-kept, owner-slot, reach-still, tells-changed, reach-less-ok}
@@ -168,8 +168,8 @@ to-claims p true Weak None o heap e = rw e refl
 to-claims p true Weak (Some n) o heap e = rw e refl
 to-claims p false k entry o heap e = refl
 
-came-put : (p h q : ℕ) (hands : List (List (Option Rattle.arc_heap.specs.declared.counted.Place.Place))) → length (row_of q (put_at p h None hands)) ≡ length (row_of q hands) + cond (eqb p q && false) 1 0
-came-put p h q hands = Rattle.arc_heap.proofs.Rows.row-length p q (placed h None) hands (λ row. length-at_place h (λ _. None) row) ∙ came-none p q (length (row_of q hands))
+came-put : (p h q : ℕ) (hands : List (List (Option Rattle.arc_heap_index.specs.declared.counted.Place.Place))) → length (row_of q (put_at p h None hands)) ≡ length (row_of q hands) + cond (eqb p q && false) 1 0
+came-put p h q hands = Rattle.arc_heap_index.proofs.Rows.row-length p q (placed h None) hands (λ row. length-at_place h (λ _. None) row) ∙ came-none p q (length (row_of q hands))
 
 -- a release
 pub steps_drop : (ix : Index) (h : History) (p n : ℕ) (last : Bool) (w : Held) (o : Object) → p < length ix.marks → StandsFor ix h → IsLegal ix.shape (record { thread = p; act = acts.Drop n last } ∷ h) → LikeHeld (Hand p n) ix (heap_after h) w o → Steps ix (leaves p n last (Some w) ix) p (acts.Drop n last) (heap_after h) (effect p (acts.Drop n last) (heap_after h))
@@ -197,7 +197,7 @@ steps_drop ix h p n last w o within st legal like =
     c : Counted
     c = with_one_less p w.place.kind last w.counted
 
-    hands : List (List (Option Rattle.arc_heap.specs.declared.counted.Place.Place))
+    hands : List (List (Option Rattle.arc_heap_index.specs.declared.counted.Place.Place))
     hands = put_at p n None ix.hands
 
     reach : List (List ℕ)

@@ -18,15 +18,15 @@ use Rattle.arc_model.proofs.CellSpots.{cells_after}
 use Rattle.arc_model.proofs.Courses.{well_formed}
 use Rattle.arc_model.proofs.Fields.{names-once, one-name}
 use Rattle.arc_model.proofs.Tally.{same-id, same-refl}
-use Rattle.arc_heap.specs.declared.counted.Place.{Place}
-use Rattle.arc_heap.specs.declared.counted.Counted.{Counted}
-use Rattle.arc_heap.specs.Counting.{at_place, placed, row_of, place_at, put_at, pushed, raised, most}
-use Rattle.arc_heap.specs.Index.{Index, hand_at, cell_at, hold, next_of}
+use Rattle.arc_heap_index.specs.declared.counted.Place.{Place}
+use Rattle.arc_heap_index.specs.declared.counted.Counted.{Counted}
+use Rattle.arc_heap_index.specs.Counting.{at_place, placed, row_of, place_at, put_at, pushed, raised, most}
+use Rattle.arc_heap_judge.specs.Index.{Index, hand_at, cell_at, hold, next_of}
 use Rattle.arc_heap.specs.Moving.{cell_becomes, put_hand}
-use Rattle.arc_heap.specs.Stands.{spot_of, IsCellInRange, Tells, StandsFor}
-use Rattle.arc_heap.proofs.Places.{length-at_place}
-use Rattle.arc_heap.proofs.Rows.{put-same, put-row, put-other, row-length}
-use Rattle.arc_heap.proofs.Told.{true≢false, counted_at}
+use Rattle.arc_heap_judge.specs.Stands.{spot_of, IsCellInRange, Tells, StandsFor}
+use Rattle.arc_heap_index.proofs.Places.{length-at_place}
+use Rattle.arc_heap_index.proofs.Rows.{put-same, put-row, put-other, row-length}
+use Rattle.arc_heap_judge.proofs.Told.{true≢false, counted_at}
 use Rattle.arc_heap.proofs.Acts.{build}
 use Rattle.arc_heap.proofs.Slotted.{named-counts}
 use Rattle.arc_heap.proofs.Swaps.{stands_at, some-inj}
@@ -217,11 +217,11 @@ held-at ix heap t z (Some w) e some =
     record { at = w; place_is = refl; spot_is = sym e; counted = f.0; in_index = f.1.in_index }
 
 pub hold-is : (ix : Index) (heap : Heap) (z : Holder) (place : Option Place) (d : HeldAt ix heap z place) → hold ix place ≡ Some (record { place = d.at; counted = d.counted })
-hold-is ix heap z place d = ap (hold ix) d.place_is ∙ ap (Rattle.arc_heap.specs.Index.with_place d.at) d.in_index
+hold-is ix heap z place d = ap (hold ix) d.place_is ∙ ap (Rattle.arc_heap_judge.specs.Index.with_place d.at) d.in_index
 
 -- the slot of an object, by what an index tells
 pub slot-within : (ix : Index) (heap : Heap) → Tells ix heap → length ix.slots.states ≡ ix.shape.slots → (i : ℕ) (o : Object) → slice_get heap.objects i ≡ Some o → (u : ℕ) → o.slot ≡ Some u → u < ix.shape.slots
-slot-within ix heap t many i o here u slot = let own = Rattle.arc_heap.proofs.Departures.slot-owned ix heap t i o u here slot in let l = Rattle.arc_heap.proofs.Owners.owner-within ix.slots u (Rattle.arc_heap.specs.declared.slots.Owner.TheVariants.Object i) own in omega arith
+slot-within ix heap t many i o here u slot = let own = Rattle.arc_heap.proofs.Departures.slot-owned ix heap t i o u here slot in let l = Rattle.arc_heap.proofs.Owners.owner-within ix.slots u (Rattle.arc_heap_index.specs.declared.slots.Owner.TheVariants.Object i) own in omega arith
 
 pub no-hand-cell : (heap : Heap) (c : CellName) (r : ℕ) → is_hand_of r (cell heap c) ≡ false
 no-hand-cell heap (cells.Field s f) r = refl
@@ -230,7 +230,7 @@ no-hand-cell heap (cells.Global g) r = refl
 pub row-within : (hands : List (List (Option Place))) (p n : ℕ) (w : Place) → place_at p n hands ≡ Some w → n < length (row_of p hands)
 row-within hands p n w e = go (slice_get (row_of p hands) n) refl e
   where
-    go : (x : Option (Option Place)) → slice_get (row_of p hands) n ≡ x → Rattle.arc_heap.specs.Counting.flat x ≡ Some w → n < length (row_of p hands)
+    go : (x : Option (Option Place)) → slice_get (row_of p hands) n ≡ x → Rattle.arc_heap_index.specs.Counting.flat x ≡ Some w → n < length (row_of p hands)
     go None f e = absurd (cc)
     go (Some x) f e = slice_get_within (row_of p hands) n x f
 

@@ -9,14 +9,14 @@ use Rattle.arc_model.specs.Shapes.{HeapShape}
 use Rattle.arc_model.specs.Heaps.{Heap}
 use Rattle.arc_model.specs.Holders.{is_slot_taken, is_entry_taken}
 use Rattle.arc_model.specs.Ranges.{FieldsFit}
-use Rattle.arc_heap.specs.declared.counted.Place.{Place}
-use Rattle.arc_heap.specs.declared.model.Mark.{Mark}
-use Rattle.arc_heap.specs.declared.slots.SlotState.TheVariants.{Free}
-use Rattle.arc_heap.specs.Counting.{row_of}
-use Rattle.arc_heap.specs.Freeing.{Freed, AreFree, owner_in, owner_at, is_seen}
-use Rattle.arc_heap.specs.Fresh.{IsBlankTable, AreZero, AreMarked}
-use Rattle.arc_heap.specs.Index.{Index, mark_of, no_mark}
-use Rattle.arc_heap.specs.Stands.{claimant, is_object, spot_of, Looks, StandsFor}
+use Rattle.arc_heap_index.specs.declared.counted.Place.{Place}
+use Rattle.arc_heap_index.specs.declared.mark.Mark.{Mark}
+use Rattle.arc_heap_index.specs.declared.slots.SlotState.TheVariants.{Free}
+use Rattle.arc_heap_index.specs.Counting.{row_of}
+use Rattle.arc_heap_index.specs.Freeing.{Freed, AreFree, owner_in, owner_at, is_seen}
+use Rattle.arc_heap_index.specs.Fresh.{IsBlankTable, AreZero, AreMarked}
+use Rattle.arc_heap_judge.specs.Index.{Index, mark_of, no_mark}
+use Rattle.arc_heap_judge.specs.Stands.{claimant, is_object, spot_of, Looks, StandsFor}
 
 no-owner : (n : ℕ) (all : Freed) → AreFree n all → (s : ℕ) → owner_at s all ≡ None
 no-owner n all a s = elim (slice_get_cases all.states s).1 [
@@ -97,6 +97,6 @@ fresh shape threads hands table reach marks slots entries h c r m s e few = reco
       | inr ne ↦ h.each p (omega arith)
     ]
 
-    cell : (d : Rattle.arc_model.specs.declared.event.CellName.CellName) → spot_of (Rattle.arc_heap.specs.Index.cell_at (record { shape = shape; hands = hands; cells = table; reach = reach; objects = []; marks = marks; slots = slots; entries = entries }) d) ≡ Rattle.arc_model.specs.Lookup.spot (Rattle.arc_model.specs.Cells.cell Rattle.arc_model.specs.Heaps.empty d) Rattle.arc_model.specs.Heaps.empty
+    cell : (d : Rattle.arc_model.specs.declared.event.CellName.CellName) → spot_of (Rattle.arc_heap_judge.specs.Index.cell_at (record { shape = shape; hands = hands; cells = table; reach = reach; objects = []; marks = marks; slots = slots; entries = entries }) d) ≡ Rattle.arc_model.specs.Lookup.spot (Rattle.arc_model.specs.Cells.cell Rattle.arc_model.specs.Heaps.empty d) Rattle.arc_model.specs.Heaps.empty
     cell (cells.Field u f) = ap spot_of (c.blank u f)
     cell (cells.Global g) = ap spot_of (c.blank shape.slots g)

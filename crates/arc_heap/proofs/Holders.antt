@@ -6,9 +6,9 @@ use Rattle.std.proofs.lemmas.Bool.{lt-ltb}
 use Rattle.arc_model.specs.Heaps.{Holder}
 use Rattle.arc_model.specs.Holders.{same_holder, is_hand_of, is_in, without, renamed}
 use Rattle.arc_model.proofs.Tally.{same-eq}
-use Rattle.arc_heap.specs.Counting.{raised}
-use Rattle.arc_heap.specs.Stands.{hands_of}
-use Rattle.arc_heap.proofs.Told.{true≢false}
+use Rattle.arc_heap_index.specs.Counting.{raised}
+use Rattle.arc_heap_judge.specs.Stands.{hands_of}
+use Rattle.arc_heap_judge.proofs.Told.{true≢false}
 
 pub hands-cons : (p : ℕ) (x : Holder) (xs : List Holder) → hands_of p (x ∷ xs) ≡ cond (is_hand_of p x) 1 0 + hands_of p xs
 hands-cons p x xs = sum_by-cons (λ y. cond (is_hand_of p y) 1 0) x xs

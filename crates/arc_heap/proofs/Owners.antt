@@ -6,14 +6,14 @@ use Rattle.std.proofs.lemmas.Bool.{cases_eq, ne_eqb, eqb-true}
 use Rattle.std.proofs.lemmas.Option.{slice_get_within}
 use Rattle.arc_model.specs.Heaps.{Claimed}
 use Rattle.arc_model.specs.Holders.{claims_it}
-use Rattle.arc_heap.specs.declared.slots.Owner.{Owner}
-use Rattle.arc_heap.specs.declared.slots.SlotState.{SlotState}
-use Rattle.arc_heap.specs.declared.slots.SlotState.TheVariants.{Taken, Free}
-use Rattle.arc_heap.specs.Counting.{placed}
-use Rattle.arc_heap.specs.Freeing.{Freed, owner_in, owner_at, taken, changed, freed}
-use Rattle.arc_heap.specs.Stands.{claimants}
-use Rattle.arc_heap.proofs.Places.{slice_get-at_place-same, slice_get-at_place-other, length-at_place}
-use Rattle.arc_heap.proofs.Told.{true≢false}
+use Rattle.arc_heap_index.specs.declared.slots.Owner.{Owner}
+use Rattle.arc_heap_index.specs.declared.slots.SlotState.{SlotState}
+use Rattle.arc_heap_index.specs.declared.slots.SlotState.TheVariants.{Taken, Free}
+use Rattle.arc_heap_index.specs.Counting.{placed}
+use Rattle.arc_heap_index.specs.Freeing.{Freed, owner_in, owner_at, taken, changed, freed}
+use Rattle.arc_heap_judge.specs.Stands.{claimants}
+use Rattle.arc_heap_index.proofs.Places.{slice_get-at_place-same, slice_get-at_place-other, length-at_place}
+use Rattle.arc_heap_judge.proofs.Told.{true≢false}
 use Rattle.arc_heap.proofs.Standing.{SlotStep, SlotSteps}
 
 state-within : (states : List SlotState) (s : ℕ) → s < length states → (st : SlotState) × (slice_get states s ≡ Some st)
@@ -58,11 +58,11 @@ taken-steps all s x = record {
 
 -- changed
 pub changed-is : (all : Freed) (s : ℕ) (x y : Owner) → owner_at s all ≡ Some y → changed s x all ≡ taken s x all
-changed-is all s x y h = ap (λ o. Rattle.arc_heap.specs.Freeing.changed_by o s x all) h
+changed-is all s x y h = ap (λ o. Rattle.arc_heap_index.specs.Freeing.changed_by o s x all) h
 
 -- freed
 pub freed-is : (all : Freed) (s : ℕ) (y : Owner) → owner_at s all ≡ Some y → freed s all ≡ record { states = placed s (Free all.frees) all.states; frees = all.frees + 1 }
-freed-is all s y h = ap (λ o. Rattle.arc_heap.specs.Freeing.freed_by o s all) h
+freed-is all s y h = ap (λ o. Rattle.arc_heap_index.specs.Freeing.freed_by o s all) h
 
 pub freed-here : (all : Freed) (s : ℕ) (y : Owner) → owner_at s all ≡ Some y → owner_at s (freed s all) ≡ None
 freed-here all s y h = ap (owner_at s) (freed-is all s y h) ∙ ap owner_in (state-placed all.states s (Free all.frees) (owner-within all s y h))

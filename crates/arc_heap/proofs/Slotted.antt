@@ -25,18 +25,18 @@ use Rattle.arc_model.proofs.Others.{spot-held}
 use Rattle.arc_model.proofs.Stages.{vacating-facts, duty-apart}
 use Rattle.arc_model.proofs.Tally.{tally-in, id-refl}
 use Rattle.arc_model.proofs.Basics.{empty-is}
-use Rattle.arc_heap.specs.declared.counted.Counted.{Counted}
-use Rattle.arc_heap.specs.declared.model.Mark.{Mark}
-use Rattle.arc_heap.specs.declared.slots.Owner.TheVariants.{Object as ObjectOwner}
-use Rattle.arc_heap.specs.Counting.{at_place, placed, row_of, pushed, place_at, raised, most, vacated_by, without_slot, tally_raised}
-use Rattle.arc_heap.specs.Freeing.{owner_at, taken, freed, object_in}
-use Rattle.arc_heap.specs.Index.{Index, cell_at, mark_of, next_of, no_mark}
+use Rattle.arc_heap_index.specs.declared.counted.Counted.{Counted}
+use Rattle.arc_heap_index.specs.declared.mark.Mark.{Mark}
+use Rattle.arc_heap_index.specs.declared.slots.Owner.TheVariants.{Object as ObjectOwner}
+use Rattle.arc_heap_index.specs.Counting.{at_place, placed, row_of, pushed, place_at, raised, most, vacated_by, without_slot, tally_raised}
+use Rattle.arc_heap_index.specs.Freeing.{owner_at, taken, freed, object_in}
+use Rattle.arc_heap_judge.specs.Index.{Index, cell_at, mark_of, next_of, no_mark}
 use Rattle.arc_heap.specs.Moving.{vacates, made_new, counted_new}
-use Rattle.arc_heap.specs.Stands.{IsCounted, AreCounted, is_so, is_object, claimant, hands_of, spot_of, IsCellInRange, StandsFor}
-use Rattle.arc_heap.proofs.Places.{length-at_place, slice_get-append-last, get_or-at_place-same, get_or-at_place-other}
-use Rattle.arc_heap.proofs.Rows.{past_end, tally-same, tally-row, tally-other, row-length}
-use Rattle.arc_heap.proofs.Told.{true≢false, FoundAt, found_none}
-use Rattle.arc_heap.proofs.Finding.{placed_only, find_none}
+use Rattle.arc_heap_judge.specs.Stands.{IsCounted, AreCounted, is_so, is_object, claimant, hands_of, spot_of, IsCellInRange, StandsFor}
+use Rattle.arc_heap_index.proofs.Places.{length-at_place, slice_get-append-last, get_or-at_place-same, get_or-at_place-other}
+use Rattle.arc_heap_index.proofs.Rows.{past_end, tally-same, tally-row, tally-other, row-length}
+use Rattle.arc_heap_judge.proofs.Told.{true≢false, FoundAt, found_none}
+use Rattle.arc_heap_judge.proofs.Finding.{placed_only, find_none}
 use Rattle.arc_heap.proofs.Holders.{length-without, hands-cons, raised-up}
 use Rattle.arc_heap.proofs.Tellings.{placed-here, placed-other, entry-kept, slot-owner, tells-changed}
 use Rattle.arc_heap.proofs.Owners.{taken-here, taken-other, taken-steps, freed-here, freed-other, freed-steps}
@@ -157,7 +157,7 @@ steps_vacate ix h p s st legal i d owes =
       | inr ne ↦ ap claimant (freed-other ix.slots s u (ObjectOwner i) owner ne) ∙ st.tells.unclaimed u
     ]
 
-    reach : (r u j : ℕ) → r < length ix.marks → u < ix.shape.slots → is_object j (owner_at u (freed s ix.slots)) ≡ true → Rattle.arc_heap.specs.Counting.tally_at r u ix.reach ≡ hands_of r (strong_in (slice_get (placed i (left_slot p d.object.entry (owing_none (record d.object { slot = None }))) (heap_after h).objects) j))
+    reach : (r u j : ℕ) → r < length ix.marks → u < ix.shape.slots → is_object j (owner_at u (freed s ix.slots)) ≡ true → Rattle.arc_heap_index.specs.Counting.tally_at r u ix.reach ≡ hands_of r (strong_in (slice_get (placed i (left_slot p d.object.entry (owing_none (record d.object { slot = None }))) (heap_after h).objects) j))
     reach r u j l m own = elim (cases_eq s u) [
       | inl at ↦ true≢false (sym own ∙ ap (λ v. is_object j (owner_at v (freed s ix.slots))) (sym at) ∙ ap (is_object j) empty)
       | inr ne ↦
@@ -171,7 +171,7 @@ steps_vacate ix h p s st legal i d owes =
         same-slot : {a b : ℕ} → Some a ≡ Some b → a ≡ b
         same-slot e = cc
 
-    idle : (r u : ℕ) → r < length ix.marks → u < ix.shape.slots → owner_at u (freed s ix.slots) ≡ None → Rattle.arc_heap.specs.Counting.tally_at r u ix.reach ≡ 0
+    idle : (r u : ℕ) → r < length ix.marks → u < ix.shape.slots → owner_at u (freed s ix.slots) ≡ None → Rattle.arc_heap_index.specs.Counting.tally_at r u ix.reach ≡ 0
     idle r u l m free = elim (cases_eq s u) [
       | inl at ↦ rw (← at) (st.tells.reach r s i l (rw (← at) at m) (ap (is_object i) owner ∙ eq-eqb i i refl) ∙ ap (λ w. hands_of r (strong_in w)) d.like.in_heap ∙ ap (hands_of r) (empty-is d.object.strong facts.strong))
       | inr ne ↦ st.tells.idle r u l m (sym (freed-other ix.slots s u (ObjectOwner i) owner ne) ∙ free)
@@ -193,7 +193,7 @@ steps_vacate ix h p s st legal i d owes =
     cell_ok (cells.Global g) range = st.points.cells (cells.Global g) range ∙ sym (cells_after ix.shape h (record { thread = p; act = acts.Vacate s }) (cell (heap_after h) (cells.Global g)) legal refl)
     cell_ok (cells.Field u f) range = st.points.cells (cells.Field u f) range ∙ elim (cases_eq s u) [
       | inl at ↦ rw (← at) (
-          ap (λ w. spot (Field (id_of w) f) (heap_after h)) (Rattle.arc_heap.proofs.Finding.find_only (in_the_slot s) (heap_after h).objects i d.object d.only)
+          ap (λ w. spot (Field (id_of w) f) (heap_after h)) (Rattle.arc_heap_judge.proofs.Finding.find_only (in_the_slot s) (heap_after h).objects i d.object d.only)
           ∙ was_nil f
           ∙ sym (ap (λ w. spot (Field (id_of w) f) (effect p (acts.Vacate s) (heap_after h))) (ap (find (in_the_slot s)) objs ∙ find_none (in_the_slot s) (placed i q (heap_after h).objects) (λ j r there. ap (is_so (in_the_slot s)) (sym there) ∙ slots s j ∙ ap (is_object j) empty))
           ∙ no-zero-field ix.shape (λ r. next_hand r (record { thread = p; act = acts.Vacate s } ∷ h)) (effect p (acts.Vacate s) (heap_after h)) (well_formed ix.shape (record { thread = p; act = acts.Vacate s } ∷ h) legal) f))
@@ -333,13 +333,13 @@ steps_new ix h p k c s within range st legal next free = record {
     columns : s < length (row_of p ix.reach)
     columns = let e = st.sized.reach_rows p within in omega arith
 
-    away : (r u : ℕ) → (s ≡ u → ⊥) → Rattle.arc_heap.specs.Counting.tally_at r u (tally_raised (most ix.shape.caps.wide) p s ix.reach) ≡ Rattle.arc_heap.specs.Counting.tally_at r u ix.reach
+    away : (r u : ℕ) → (s ≡ u → ⊥) → Rattle.arc_heap_index.specs.Counting.tally_at r u (tally_raised (most ix.shape.caps.wide) p s ix.reach) ≡ Rattle.arc_heap_index.specs.Counting.tally_at r u ix.reach
     away r u ne = elim (cases_eq p r) [
       | inl same ↦ rw (← same) (tally-other p s u (raised (most ix.shape.caps.wide)) ix.reach rows ne)
       | inr apart ↦ tally-row p r s u (raised (most ix.shape.caps.wide)) ix.reach apart
     ]
 
-    first : (r : ℕ) → r < length ix.marks → Rattle.arc_heap.specs.Counting.tally_at r s (tally_raised (most ix.shape.caps.wide) p s ix.reach) ≡ cond (eqb p r) 1 0
+    first : (r : ℕ) → r < length ix.marks → Rattle.arc_heap_index.specs.Counting.tally_at r s (tally_raised (most ix.shape.caps.wide) p s ix.reach) ≡ cond (eqb p r) 1 0
     first r l = elim (cases_eq p r) [
       | inl same ↦ rw (← same) (tally-same p s (raised (most ix.shape.caps.wide)) ix.reach rows columns ∙ ap (raised (most ix.shape.caps.wide)) (st.tells.idle p s within range free) ∙ raised-up (most ix.shape.caps.wide) 0 (omega arith) ∙ sym (ap (λ b. cond {A = ℕ} b 1 0) (eq-eqb p p refl)))
       | inr apart ↦ tally-row p r s s (raised (most ix.shape.caps.wide)) ix.reach apart ∙ st.tells.idle r s l range free ∙ sym (ap (λ b. cond {A = ℕ} b 1 0) (ne_eqb p r apart))
@@ -348,7 +348,7 @@ steps_new ix h p k c s within range st legal next free = record {
     last-owner : (j : ℕ) → is_object j (Some (ObjectOwner (length ix.objects))) ≡ true → length (heap_after h).objects ≡ j
     last-owner j e = sym len ∙ eqb-true (length ix.objects) j e
 
-    reach : (r u j : ℕ) → r < length ix.marks → u < ix.shape.slots → is_object j (owner_at u (taken s (ObjectOwner (length ix.objects)) ix.slots)) ≡ true → Rattle.arc_heap.specs.Counting.tally_at r u (tally_raised (most ix.shape.caps.wide) p s ix.reach) ≡ hands_of r (strong_in (slice_get ((heap_after h).objects ++ made p k c s (heap_after h).objects ∷ []) j))
+    reach : (r u j : ℕ) → r < length ix.marks → u < ix.shape.slots → is_object j (owner_at u (taken s (ObjectOwner (length ix.objects)) ix.slots)) ≡ true → Rattle.arc_heap_index.specs.Counting.tally_at r u (tally_raised (most ix.shape.caps.wide) p s ix.reach) ≡ hands_of r (strong_in (slice_get ((heap_after h).objects ++ made p k c s (heap_after h).objects ∷ []) j))
     reach r u j l m own = elim (cases_eq s u) [
       | inl same ↦ rw (← same) (first r l ∙ sym (ap (λ w. hands_of r (strong_in w)) (there j (last-owner j (sym (ap (is_object j) now) ∙ rw (← same) at own))) ∙ one-hand p r k))
       | inr ne ↦
@@ -356,7 +356,7 @@ steps_new ix h p k c s within range st legal next free = record {
           away r u ne ∙ st.tells.reach r u j l m before ∙ ap (λ w. hands_of r (strong_in w)) (sym (past_end (heap_after h).objects o j (λ at. true≢false (sym before ∙ sym (st.tells.slots u j) ∙ ap (is_so (in_the_slot u)) (absent j at)))))
     ]
 
-    idle : (r u : ℕ) → r < length ix.marks → u < ix.shape.slots → owner_at u (taken s (ObjectOwner (length ix.objects)) ix.slots) ≡ None → Rattle.arc_heap.specs.Counting.tally_at r u (tally_raised (most ix.shape.caps.wide) p s ix.reach) ≡ 0
+    idle : (r u : ℕ) → r < length ix.marks → u < ix.shape.slots → owner_at u (taken s (ObjectOwner (length ix.objects)) ix.slots) ≡ None → Rattle.arc_heap_index.specs.Counting.tally_at r u (tally_raised (most ix.shape.caps.wide) p s ix.reach) ≡ 0
     idle r u l m none = elim (cases_eq s u) [
       | inl same ↦ let n : None ≡ Some (ObjectOwner (length ix.objects)) = sym none ∙ ap (λ v. owner_at v (taken s (ObjectOwner (length ix.objects)) ix.slots)) (sym same) ∙ now in absurd (cc)
       | inr ne ↦ away r u ne ∙ st.tells.idle r u l m (sym (taken-other ix.slots s u (ObjectOwner (length ix.objects)) ne) ∙ none)

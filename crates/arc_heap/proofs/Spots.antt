@@ -17,7 +17,7 @@ use Rattle.arc_model.specs.Own.{ends_hand, brings_hand}
 use Rattle.arc_model.proofs.Tally.{same-eq}
 use Rattle.arc_model.proofs.Courses.{hand-cell}
 use Rattle.arc_model.proofs.Others.{spot-end, made-apart}
-use Rattle.arc_heap.specs.Counting.{placed}
+use Rattle.arc_heap_index.specs.Counting.{placed}
 
 -- z is in the same lists
 abbrev SameIn : Holder → Object → Object → Type 0

@@ -15,20 +15,20 @@ use Rattle.arc_model.specs.Lookup.{spot}
 use Rattle.arc_model.specs.Own.{ends_hand, brings_hand, brought}
 use Rattle.arc_model.specs.History.{History, heap_after, brings, is_of, ever_since, next_hand, IsLegal}
 use Rattle.arc_model.proofs.Own.{own_gains, own_ends}
-use Rattle.arc_heap.specs.declared.counted.Place.{Place}
-use Rattle.arc_heap.specs.declared.model.Mark.{Mark}
-use Rattle.arc_heap.specs.declared.slots.Owner.{Owner}
-use Rattle.arc_heap.specs.declared.slots.SlotState.{SlotState}
-use Rattle.arc_heap.specs.declared.slots.SlotState.TheVariants.{Taken, Free}
-use Rattle.arc_heap.specs.Counting.{row_of, place_at, put_at, pushed}
-use Rattle.arc_heap.specs.Freeing.{Freed, owner_in, is_seen}
-use Rattle.arc_heap.specs.Index.{Index, hand_at, cell_at, mark_of, next_of, no_mark}
+use Rattle.arc_heap_index.specs.declared.counted.Place.{Place}
+use Rattle.arc_heap_index.specs.declared.mark.Mark.{Mark}
+use Rattle.arc_heap_index.specs.declared.slots.Owner.{Owner}
+use Rattle.arc_heap_index.specs.declared.slots.SlotState.{SlotState}
+use Rattle.arc_heap_index.specs.declared.slots.SlotState.TheVariants.{Taken, Free}
+use Rattle.arc_heap_index.specs.Counting.{row_of, place_at, put_at, pushed}
+use Rattle.arc_heap_index.specs.Freeing.{Freed, owner_in, is_seen}
+use Rattle.arc_heap_judge.specs.Index.{Index, hand_at, cell_at, mark_of, next_of, no_mark}
 use Rattle.arc_heap.specs.Moving.{ticked}
-use Rattle.arc_heap.specs.Stands.{spot_of, IsCellInRange, Tells, Looks, IsSized, StandsFor}
-use Rattle.arc_heap.proofs.Places.{length-at_place, get_or-at_place-same, get_or-at_place-other}
-use Rattle.arc_heap.proofs.Rows.{pushed-same, pushed-row, pushed-other, put-gone, put-row, put-other}
-use Rattle.arc_heap.proofs.Told.{true≢false, some-inj}
-use Rattle.arc_heap.proofs.Judges.{entry-same, slot-same}
+use Rattle.arc_heap_judge.specs.Stands.{spot_of, IsCellInRange, Tells, Looks, IsSized, StandsFor}
+use Rattle.arc_heap_index.proofs.Places.{length-at_place, get_or-at_place-same, get_or-at_place-other}
+use Rattle.arc_heap_index.proofs.Rows.{pushed-same, pushed-row, pushed-other, put-gone, put-row, put-other}
+use Rattle.arc_heap_judge.proofs.Told.{true≢false, some-inj}
+use Rattle.arc_heap_judge.proofs.Judges.{entry-same, slot-same}
 use Rattle.arc_heap.proofs.Spots.{Apart, hand-stays}
 
 -- the table of hands after an act

@@ -10,13 +10,13 @@ use Rattle.arc_model.specs.Cells.{cell}
 use Rattle.arc_model.specs.Effects.{effect, becomes}
 use Rattle.arc_model.specs.History.{History, heap_after, brings}
 use Rattle.arc_model.proofs.Courses.{hand-cell}
-use Rattle.arc_heap.specs.declared.counted.Place.{Place}
-use Rattle.arc_heap.specs.Counting.{placed, row_of, place_at, put_at, pushed, most}
-use Rattle.arc_heap.specs.Index.{Index, hand_at, cell_at, hold, next_of}
+use Rattle.arc_heap_index.specs.declared.counted.Place.{Place}
+use Rattle.arc_heap_index.specs.Counting.{placed, row_of, place_at, put_at, pushed, most}
+use Rattle.arc_heap_judge.specs.Index.{Index, hand_at, cell_at, hold, next_of}
 use Rattle.arc_heap.specs.Moving.{reach_more, reach_less, hand_comes, hand_goes, cell_becomes, goes_in, comes_out, swapped}
-use Rattle.arc_heap.specs.Stands.{spot_of, Tells, IsSized}
-use Rattle.arc_heap.proofs.Places.{length-at_place}
-use Rattle.arc_heap.proofs.Rows.{put-row, put-other, put-gone, pushed-same, pushed-row, pushed-other, row-length}
+use Rattle.arc_heap_judge.specs.Stands.{spot_of, Tells, IsSized}
+use Rattle.arc_heap_index.proofs.Places.{length-at_place}
+use Rattle.arc_heap_index.proofs.Rows.{put-row, put-other, put-gone, pushed-same, pushed-row, pushed-other, row-length}
 use Rattle.arc_heap.proofs.Spots.{renamed-spot}
 use Rattle.arc_heap.proofs.Acts.{came-none, came-one, reach_more-length, reach_more-rows, reach_less-length, reach_less-rows}
 use Rattle.arc_heap.proofs.Swaps.{some-inj, tells-comes, tells-goes}

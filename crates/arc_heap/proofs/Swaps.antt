@@ -9,14 +9,14 @@ use Rattle.arc_model.specs.Cells.{same_kind}
 use Rattle.arc_model.specs.Effects.{becomes}
 use Rattle.arc_model.specs.Lookup.{Spot, spot, spot_in, further}
 use Rattle.arc_model.proofs.Tally.{renamed-absent}
-use Rattle.arc_heap.specs.declared.counted.Place.{Place}
-use Rattle.arc_heap.specs.declared.counted.Counted.{Counted}
-use Rattle.arc_heap.specs.Counting.{placed, most}
-use Rattle.arc_heap.specs.Index.{Index}
+use Rattle.arc_heap_index.specs.declared.counted.Place.{Place}
+use Rattle.arc_heap_index.specs.declared.counted.Counted.{Counted}
+use Rattle.arc_heap_index.specs.Counting.{placed, most}
+use Rattle.arc_heap_judge.specs.Index.{Index}
 use Rattle.arc_heap.specs.Moving.{reach_more, reach_less}
-use Rattle.arc_heap.specs.Stands.{IsCounted, hands_of, Tells, IsSized}
-use Rattle.arc_heap.proofs.Told.{LikeFound, counted_at}
-use Rattle.arc_heap.proofs.Finding.{placed_spot}
+use Rattle.arc_heap_judge.specs.Stands.{IsCounted, hands_of, Tells, IsSized}
+use Rattle.arc_heap_judge.proofs.Told.{LikeFound, counted_at}
+use Rattle.arc_heap_judge.proofs.Finding.{placed_spot}
 use Rattle.arc_heap.proofs.Holders.{hands-renamed, hands-length, length-renamed, hands-cons}
 use Rattle.arc_heap.proofs.Tellings.{Reaches, Idles, tells-lists, reach-more-ok, reach-less-ok}
 

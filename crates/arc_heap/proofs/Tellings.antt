@@ -10,18 +10,18 @@ use Rattle.arc_model.specs.Heaps.{Object, Heap}
 use Rattle.arc_model.specs.Holders.{in_slot as in_the_slot, has_entry, is_number, made_by}
 use Rattle.arc_model.specs.Cells.{same_kind}
 use Rattle.arc_model.specs.Laws.{strong_in}
-use Rattle.arc_heap.specs.declared.counted.Place.{Place}
-use Rattle.arc_heap.specs.declared.counted.Counted.{Counted}
-use Rattle.arc_heap.specs.declared.slots.Owner.{Owner}
-use Rattle.arc_heap.specs.declared.slots.Owner.TheVariants.{Object as ObjectOwner, Claim}
-use Rattle.arc_heap.specs.Counting.{at_place, placed, row_of, tally_at, raised, most}
-use Rattle.arc_heap.specs.Freeing.{Freed, owner_at}
-use Rattle.arc_heap.specs.Index.{Index}
+use Rattle.arc_heap_index.specs.declared.counted.Place.{Place}
+use Rattle.arc_heap_index.specs.declared.counted.Counted.{Counted}
+use Rattle.arc_heap_index.specs.declared.slots.Owner.{Owner}
+use Rattle.arc_heap_index.specs.declared.slots.Owner.TheVariants.{Object as ObjectOwner, Claim}
+use Rattle.arc_heap_index.specs.Counting.{at_place, placed, row_of, tally_at, raised, most}
+use Rattle.arc_heap_index.specs.Freeing.{Freed, owner_at}
+use Rattle.arc_heap_judge.specs.Index.{Index}
 use Rattle.arc_heap.specs.Moving.{reach_more, reach_less}
-use Rattle.arc_heap.specs.Stands.{IsCounted, AreCounted, is_so, is_object, claimants, claimant, hands_of, Tells, IsSized}
-use Rattle.arc_heap.proofs.Places.{slice_get-at_place-same, slice_get-at_place-other}
-use Rattle.arc_heap.proofs.Rows.{tally-same, tally-row, tally-other}
-use Rattle.arc_heap.proofs.Told.{true≢false, LikeFound}
+use Rattle.arc_heap_judge.specs.Stands.{IsCounted, AreCounted, is_so, is_object, claimants, claimant, hands_of, Tells, IsSized}
+use Rattle.arc_heap_index.proofs.Places.{slice_get-at_place-same, slice_get-at_place-other}
+use Rattle.arc_heap_index.proofs.Rows.{tally-same, tally-row, tally-other}
+use Rattle.arc_heap_judge.proofs.Told.{true≢false, LikeFound}
 use Rattle.arc_heap.proofs.Holders.{raised-up}
 
 -- the object at a place, and the others

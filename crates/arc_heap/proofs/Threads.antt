@@ -9,17 +9,17 @@ use Rattle.arc_model.specs.declared.event.Event.{Event}
 use Rattle.arc_model.specs.declared.event.Illegal.{Illegal}
 use Rattle.arc_model.specs.declared.shape.Kind.{Kind}
 use Rattle.arc_model.specs.declared.shape.Kind.TheVariants.{Strong, Unowned, Weak}
-use Rattle.arc_heap.specs.declared.counted.Place.{Place}
-use Rattle.arc_heap.specs.declared.counted.Held.{Held}
-use Rattle.arc_heap.specs.declared.counted.Found.{Found}
-use Rattle.arc_heap.specs.declared.model.Mark.{Mark}
+use Rattle.arc_heap_index.specs.declared.counted.Place.{Place}
+use Rattle.arc_heap_index.specs.declared.counted.Held.{Held}
+use Rattle.arc_heap_index.specs.declared.counted.Found.{Found}
+use Rattle.arc_heap_index.specs.declared.mark.Mark.{Mark}
 use Rattle.arc_heap.specs.declared.refusal.Refusal.{Refusal}
 use Rattle.arc_heap.specs.declared.refusal.Refusal.TheVariants as refusals
-use Rattle.arc_heap.specs.Counting.{raised}
-use Rattle.arc_heap.specs.Index.{Index, hand_at, cell_at, origin_at, hold, in_slot, with_entry, mark_of}
+use Rattle.arc_heap_index.specs.Counting.{raised}
+use Rattle.arc_heap_judge.specs.Index.{Index, hand_at, cell_at, origin_at, hold, in_slot, with_entry, mark_of}
 use Rattle.arc_heap.specs.Moving.{joins, joins_own, entry_goes, object_becomes, hand_goes, leaves, cell_becomes, put_hand, goes_in, comes_out, swapped, sided, finishes, vacates, goes_away, after_act, after_event}
-use Rattle.arc_heap.specs.Stands.{Answers}
-use Rattle.arc_heap.proofs.Places.{length-at_place}
+use Rattle.arc_heap.specs.Applied.{Answers}
+use Rattle.arc_heap_index.proofs.Places.{length-at_place}
 
 abbrev pub Keeps : Index → Index → Type 0
 Keeps new old = (new.shape ≡ old.shape) × (length new.marks ≡ length old.marks)
@@ -41,7 +41,7 @@ entry ix p false k m = (refl, refl)
 
 leave : (ix : Index) (p h : ℕ) (last : Bool) (w : Option Held) → Keeps (leaves p h last w ix) ix
 leave ix p h last None = (refl, refl)
-leave ix p h last (Some w) = entry (object_becomes w.place.object (Rattle.arc_heap.specs.Counting.with_one_less p w.place.kind last w.counted) (hand_goes p h (Some w) ix)) p last w.place.kind w.counted.entry
+leave ix p h last (Some w) = entry (object_becomes w.place.object (Rattle.arc_heap_index.specs.Counting.with_one_less p w.place.kind last w.counted) (hand_goes p h (Some w) ix)) p last w.place.kind w.counted.entry
 
 side : (ix : Index) (e : ℕ) (w : Option Found) → Keeps (sided e w ix) ix
 side ix e None = (refl, refl)

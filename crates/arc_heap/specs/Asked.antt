@@ -3,15 +3,15 @@ use Rattle.std.specs.Prelude.{ℕ, Bool, false, ◌==◌, not, if◌then◌else�
 use Rattle.arc_model.specs.declared.event.Life.{Life}
 use Rattle.arc_model.specs.declared.event.Life.TheVariants.{Live, Deiniting, Deinited, Freed, Dead}
 use Rattle.arc_model.specs.declared.shape.Kind.{Kind}
-use Rattle.arc_heap.specs.declared.counted.Due.TheVariants as due
-use Rattle.arc_heap.specs.declared.counted.Debt.{Debt}
-use Rattle.arc_heap.specs.declared.counted.Counted.{Counted}
-use Rattle.arc_heap.specs.Counting.{count_in, is_alive}
+use Rattle.arc_heap_index.specs.declared.counted.Due.TheVariants as due
+use Rattle.arc_heap_index.specs.declared.counted.Debt.{Debt}
+use Rattle.arc_heap_index.specs.declared.counted.Counted.{Counted}
+use Rattle.arc_heap_index.specs.Counting.{count_in, is_alive}
 
 -- a deinit is owed
 abbrev pub is_due_deinit : Option Debt → Bool
 is_due_deinit None = false
-is_due_deinit (Some d) = Rattle.arc_heap.specs.Counting.same_due d.due due.Deinit
+is_due_deinit (Some d) = Rattle.arc_heap_index.specs.Counting.same_due d.due due.Deinit
 
 abbrev pub lived : Counted → Life
 lived c =

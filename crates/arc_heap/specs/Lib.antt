@@ -1,8 +1,3 @@
-pub mod Counting
-pub mod Freeing
-pub mod Index
-pub mod Judging
-pub mod Moving
-pub mod Fresh
+pub mod Applied
 pub mod Asked
-pub mod Stands
+pub mod Moving

@@ -8,15 +8,15 @@ use Rattle.arc_model.specs.declared.event.Act.TheVariants as acts
 use Rattle.arc_model.specs.declared.event.Event.{Event}
 use Rattle.arc_model.specs.declared.shape.Kind.{Kind}
 use Rattle.arc_model.specs.declared.shape.Kind.TheVariants.{Strong, Unowned, Weak}
-use Rattle.arc_heap.specs.declared.counted.Place.{Place}
-use Rattle.arc_heap.specs.declared.counted.Counted.{Counted}
-use Rattle.arc_heap.specs.declared.counted.Held.{Held}
-use Rattle.arc_heap.specs.declared.counted.Found.{Found}
-use Rattle.arc_heap.specs.declared.model.Mark.{Mark}
-use Rattle.arc_heap.specs.declared.slots.Owner.TheVariants.{Object, Claim}
-use Rattle.arc_heap.specs.Counting.{placed, at_place, put_at, pushed, raised, most, tally_raised, tally_lowered, with_one_more, with_one_less, without_strongs, without_slot, without_unowneds, entered}
-use Rattle.arc_heap.specs.Freeing.{taken, freed, changed}
-use Rattle.arc_heap.specs.Index.{Index, hand_at, cell_at, origin_at, hold, in_slot, with_entry, mark_of}
+use Rattle.arc_heap_index.specs.declared.counted.Place.{Place}
+use Rattle.arc_heap_index.specs.declared.counted.Counted.{Counted}
+use Rattle.arc_heap_index.specs.declared.counted.Held.{Held}
+use Rattle.arc_heap_index.specs.declared.counted.Found.{Found}
+use Rattle.arc_heap_index.specs.declared.mark.Mark.{Mark}
+use Rattle.arc_heap_index.specs.declared.slots.Owner.TheVariants.{Object, Claim}
+use Rattle.arc_heap_index.specs.Counting.{placed, at_place, put_at, pushed, raised, most, tally_raised, tally_lowered, with_one_more, with_one_less, without_strongs, without_slot, without_unowneds, entered}
+use Rattle.arc_heap_index.specs.Freeing.{taken, freed, changed}
+use Rattle.arc_heap_judge.specs.Index.{Index, hand_at, cell_at, origin_at, hold, in_slot, with_entry, mark_of}
 
 -- p has one more, or one less, strong hand of the object in a slot
 abbrev pub reach_more : ℕ → ℕ → Kind → Option ℕ → List (List ℕ) → List (List ℕ)

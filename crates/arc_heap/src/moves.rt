@@ -3,27 +3,27 @@
 ghost use Rattle.std.specs.Prelude.{◌≡◌, OnOk, OnErr, IsOk, true, Some, None, is_some};
 ghost use Rattle.arc_model.specs.declared.event.Act.{Act};
 ghost use Rattle.arc_model.specs.declared.event.Got.{Got};
-ghost use Rattle.arc_heap.specs.Stands.{grows};
-ghost use Rattle.arc_heap.specs.Counting.{most as most_of};
-ghost use Rattle.arc_heap.specs.Index.{hand_at, cell_at, origin_at, hold as held, in_slot, with_entry as of_entry};
+ghost use Rattle.arc_heap.specs.Applied.{grows};
+ghost use Rattle.arc_heap_index.specs.Counting.{most as most_of};
+ghost use Rattle.arc_heap_judge.specs.Index.{hand_at, cell_at, origin_at, hold as held, in_slot, with_entry as of_entry};
 ghost use Rattle.arc_heap.specs.Moving.{reach_more, reach_less, hand_comes, hand_goes, object_becomes, joins as joined, joins_own, leaves as left, entry_goes, cell_becomes as cell_after, put_hand, goes_in, comes_out, swapped, made_new, placed_new, with_made, sided, finishes, vacates, goes_away, claims_if, after_act, ticked};
 
-use crate::counted::{
-    Counted, Found, Held, Place, enter, finish, go, most, one_less, one_more, raised, vacate,
+use crate::model::ModelHeap;
+use arc_heap_index::{
+    Counted, Found, Held, Mark, Owner, Place, enter, finish, go, most, one_less, one_more, raised,
+    vacate,
 };
-use crate::model::{Mark, ModelHeap};
-use crate::slots::Owner;
 use arc_model::{Act, CellName, Got, Kind, Memory, ObjectId, Origin};
 
 impl ModelHeap {
     fn raise(&mut self, thread: u32, kind: Kind, slot: Option<u32>)
         ensures { self.new ≡ record self.old { reach = reach_more (most_of self.old.shape.caps.wide) thread kind slot self.old.reach } }
     {
-        let limit = most(self.shape.caps().wide());
+        let limit = most(self.index.shape.caps().wide());
         match kind {
             Kind::Strong => match slot {
                 None => {}
-                Some(slot) => self.reach.raise(thread, slot, limit),
+                Some(slot) => self.index.reach.raise(thread, slot, limit),
             },
             _ => {}
         }
@@ -35,7 +35,7 @@ impl ModelHeap {
         match kind {
             Kind::Strong => match slot {
                 None => {}
-                Some(slot) => self.reach.lower(thread, slot),
+                Some(slot) => self.index.reach.lower(thread, slot),
             },
             _ => {}
         }
@@ -45,7 +45,7 @@ impl ModelHeap {
         ensures ok { OnOk result (self.new ≡ hand_comes thread (Some w) self.old) }
         ensures err { OnErr result (self.new ≡ self.old) }
     {
-        self.hands.push(thread, Some(w.place))?;
+        self.index.hands.push(thread, Some(w.place))?;
         self.raise(thread, w.place.kind, w.counted.slot);
         Ok(())
     }
@@ -53,16 +53,16 @@ impl ModelHeap {
     fn go_away(&mut self, thread: u32, hand: u32, w: Held)
         ensures { self.new ≡ hand_goes thread hand (Some w) self.old }
     {
-        self.hands.put(thread, hand, None);
+        self.index.hands.put(thread, hand, None);
         self.lower(thread, w.place.kind, w.counted.slot);
     }
 
-    #[tactic(auto, using(crate::proofs::Places::places))]
+    #[tactic(auto, using(arc_heap_index::proofs::Places::places))]
     fn set_object(&mut self, object: usize, counted: Counted)
         ensures { self.new ≡ object_becomes object counted self.old }
     {
-        if object < self.objects.len() {
-            self.objects[object] = counted;
+        if object < self.index.objects.len() {
+            self.index.objects[object] = counted;
         }
     }
 
@@ -70,7 +70,7 @@ impl ModelHeap {
         ensures ok { OnOk result (self.new ≡ joined thread kind (Some w) self.old) }
         ensures err { OnErr result (self.new ≡ self.old) }
     {
-        let wide = self.shape.caps().wide();
+        let wide = self.index.shape.caps().wide();
         let there = Held {
             place: Place {
                 object: w.place.object,
@@ -90,7 +90,7 @@ impl ModelHeap {
             match kind {
                 Kind::Weak => match entry {
                     None => {}
-                    Some(entry) => self.entries.change(entry, Owner::Claim(thread)),
+                    Some(entry) => self.index.entries.change(entry, Owner::Claim(thread)),
                 },
                 _ => {}
             }
@@ -112,10 +112,10 @@ impl ModelHeap {
         ensures { self.new ≡ cell_after cell place self.old }
     {
         match cell {
-            CellName::Field { slot, field } => self.cells.put(slot, field, place),
+            CellName::Field { slot, field } => self.index.cells.put(slot, field, place),
             CellName::Global(number) => {
-                let row = self.shape.slots();
-                self.cells.put(row, number, place);
+                let row = self.index.shape.slots();
+                self.index.cells.put(row, number, place);
             }
         }
     }
@@ -125,7 +125,7 @@ impl ModelHeap {
     {
         match put {
             None => None,
-            Some(hand) => self.hand(thread, hand),
+            Some(hand) => self.index.hand(thread, hand),
         }
     }
 
@@ -147,7 +147,7 @@ impl ModelHeap {
     {
         match put {
             None => {}
-            Some(hand) => match self.hold(self.hand(thread, hand)) {
+            Some(hand) => match self.index.hold(self.index.hand(thread, hand)) {
                 None => {}
                 Some(w) => self.go_away(thread, hand, w),
             },
@@ -165,7 +165,7 @@ impl ModelHeap {
         ensures err { OnErr result ((is_some took ≡ true) × (self.new ≡ self.old)) }
     {
         let there = self.put_place(thread, put);
-        let w = self.hold(self.cell(cell));
+        let w = self.index.hold(self.index.cell(cell));
         self.take_out(thread, took, w)?;
         self.put_in(thread, put);
         self.set_cell(cell, there);
@@ -208,7 +208,7 @@ impl ModelHeap {
             None => {}
             Some(w) => {
                 self.set_object(w.object, enter(entry, w.counted));
-                self.entries.change(entry, Owner::Object(w.object));
+                self.index.entries.change(entry, Owner::Object(w.object));
             }
         }
     }
@@ -229,7 +229,7 @@ impl ModelHeap {
             None => {}
             Some(w) => {
                 self.set_object(w.object, vacate(thread, w.counted));
-                self.slots.free(slot);
+                self.index.slots.free(slot);
             }
         }
     }
@@ -242,7 +242,7 @@ impl ModelHeap {
             Some(w) => {
                 self.set_object(w.object, go(last, w.counted));
                 if last {
-                    self.entries.change(entry, Owner::Claim(thread));
+                    self.index.entries.change(entry, Owner::Claim(thread));
                 }
             }
         }
@@ -252,17 +252,17 @@ impl ModelHeap {
         ensures ok { OnOk result (self.new ≡ after_act self.old thread (Act.Claim entry)) }
         ensures err { OnErr result (self.new ≡ self.old) }
     {
-        self.entries.take(entry, Owner::Claim(thread))?;
+        self.index.entries.take(entry, Owner::Claim(thread))?;
         Ok(())
     }
 
-    #[tactic(auto, using(crate::proofs::Places::places))]
+    #[tactic(auto, using(arc_heap_index::proofs::Places::places))]
     fn set_made(&mut self, thread: u32, number: u32)
         ensures { self.new ≡ record self.old { marks = with_made thread number self.old.marks } }
     {
-        if (thread as usize) < self.marks.len() {
-            let mark = self.marks[thread as usize];
-            self.marks[thread as usize] = Mark {
+        if (thread as usize) < self.index.marks.len() {
+            let mark = self.index.marks[thread as usize];
+            self.index.marks[thread as usize] = Mark {
                 made: number,
                 ..mark
             };
@@ -270,7 +270,7 @@ impl ModelHeap {
     }
 
     // The hand and the slot of a new object, or nothing.
-    #[tactic(auto, using(crate::proofs::Places::takes_back))]
+    #[tactic(auto, using(arc_heap_index::proofs::Places::takes_back))]
     fn place_new(&mut self, thread: u32, object: usize, slot: u32) -> Result<(), Memory>
         ensures ok { OnOk result (self.new ≡ placed_new thread object slot self.old) }
         ensures err { OnErr result (self.new ≡ self.old) }
@@ -279,11 +279,11 @@ impl ModelHeap {
             object,
             kind: Kind::Strong,
         };
-        self.hands.push(thread, Some(place))?;
-        match self.slots.take(slot, Owner::Object(object)) {
+        self.index.hands.push(thread, Some(place))?;
+        match self.index.slots.take(slot, Owner::Object(object)) {
             Ok(()) => Ok(()),
             Err(_) => {
-                self.hands.pop(thread);
+                self.index.hands.pop(thread);
                 Err(Memory)
             }
         }
@@ -294,9 +294,9 @@ impl ModelHeap {
         ensures ok { OnOk result (self.new ≡ made_new thread hand class slot self.old) }
         ensures err { OnErr result (self.new ≡ self.old) }
     {
-        let number = raised(hand, self.mark(thread).made);
-        let limit = most(self.shape.caps().wide());
-        let object = self.objects.as_slice().len();
+        let number = raised(hand, self.index.mark(thread).made);
+        let limit = most(self.index.shape.caps().wide());
+        let object = self.index.objects.as_slice().len();
         let counted = Counted {
             id: ObjectId { thread, number },
             class,
@@ -307,15 +307,15 @@ impl ModelHeap {
             unowned: 1,
             weak: 1,
         };
-        self.objects.push(counted)?;
+        self.index.objects.push(counted)?;
         match self.place_new(thread, object, slot) {
             Err(_) => {
-                let _ = self.objects.pop();
+                let _ = self.index.objects.pop();
                 Err(Memory)
             }
             Ok(()) => {
                 self.set_made(thread, number);
-                self.reach.raise(thread, slot, limit);
+                self.index.reach.raise(thread, slot, limit);
                 Ok(())
             }
         }
@@ -327,7 +327,7 @@ impl ModelHeap {
     {
         match got {
             Got::Hand(_) => {
-                let w = self.hold(self.hand(thread, of));
+                let w = self.index.hold(self.index.hand(thread, of));
                 self.form(thread, Kind::Strong, w)
             }
             Got::Dead => Ok(()),
@@ -339,7 +339,7 @@ impl ModelHeap {
         ensures ok { OnOk result (self.new ≡ joins_own thread (held self.old (origin_at self.old thread from)) self.old) }
         ensures err { OnErr result (self.new ≡ self.old) }
     {
-        let w = self.hold(self.origin(thread, from));
+        let w = self.index.hold(self.index.origin(thread, from));
         self.copy(thread, w)
     }
 
@@ -347,7 +347,7 @@ impl ModelHeap {
         ensures ok { OnOk result (self.new ≡ joined thread kind (held self.old (hand_at self.old thread of)) self.old) }
         ensures err { OnErr result (self.new ≡ self.old) }
     {
-        let w = self.hold(self.hand(thread, of));
+        let w = self.index.hold(self.index.hand(thread, of));
         self.form(thread, kind, w)
     }
 
@@ -355,7 +355,7 @@ impl ModelHeap {
         ensures ok { OnOk result (self.new ≡ after_act self.old thread (Act.Drop hand last)) }
         ensures err { IsOk result }
     {
-        let w = self.hold(self.hand(thread, hand));
+        let w = self.index.hold(self.index.hand(thread, hand));
         self.drop_hand(thread, hand, last, w);
         Ok(())
     }
@@ -364,7 +364,7 @@ impl ModelHeap {
         ensures ok { OnOk result (self.new ≡ sided entry (in_slot self.old slot) self.old) }
         ensures err { IsOk result }
     {
-        let w = self.slot_object(slot);
+        let w = self.index.slot_object(slot);
         self.side(entry, w);
         Ok(())
     }
@@ -374,7 +374,7 @@ impl ModelHeap {
         ensures err { IsOk result }
     {
         let _ = thread;
-        self.entries.free(entry);
+        self.index.entries.free(entry);
         Ok(())
     }
 
@@ -382,7 +382,7 @@ impl ModelHeap {
         ensures ok { OnOk result (self.new ≡ after_act self.old thread (Act.Finish slot last)) }
         ensures err { IsOk result }
     {
-        let w = self.slot_object(slot);
+        let w = self.index.slot_object(slot);
         self.end_deinit(thread, last, w);
         Ok(())
     }
@@ -391,7 +391,7 @@ impl ModelHeap {
         ensures ok { OnOk result (self.new ≡ after_act self.old thread (Act.Vacate slot)) }
         ensures err { IsOk result }
     {
-        let w = self.slot_object(slot);
+        let w = self.index.slot_object(slot);
         self.leave_slot(thread, slot, w);
         Ok(())
     }
@@ -400,7 +400,7 @@ impl ModelHeap {
         ensures ok { OnOk result (self.new ≡ after_act self.old thread (Act.Gone entry last)) }
         ensures err { IsOk result }
     {
-        let w = self.entry_object(entry);
+        let w = self.index.entry_object(entry);
         self.leave_entry(thread, entry, last, w);
         Ok(())
     }
@@ -439,15 +439,15 @@ impl ModelHeap {
     }
 
     /// The thread's last event is now.
-    #[tactic(auto, using(crate::proofs::Places::places))]
+    #[tactic(auto, using(arc_heap_index::proofs::Places::places))]
     pub(crate) fn tick(&mut self, thread: u32)
         ensures { self.new ≡ ticked thread self.old }
     {
-        let slots = self.slots.frees();
-        let entries = self.entries.frees();
-        if (thread as usize) < self.marks.len() {
-            let mark = self.marks[thread as usize];
-            self.marks[thread as usize] = Mark {
+        let slots = self.index.slots.frees();
+        let entries = self.index.entries.frees();
+        if (thread as usize) < self.index.marks.len() {
+            let mark = self.index.marks[thread as usize];
+            self.index.marks[thread as usize] = Mark {
                 made: mark.made,
                 slots,
                 entries,

@@ -1,6 +1,6 @@
 ghost use Rattle.std.specs.Prelude.{◌≡◌, ◌+◌, ◌≤◌, vec_len, IfOk, OnOk, OnErr, IfSome, IsErrOf};
 ghost use Rattle.std.specs.Io.KnownBytes.{Appends, IsAtEnd};
-ghost use Rattle.arc_io.specs.Causes.{Rose, HasCause};
+ghost use Rattle.arc_io.specs.Causes.{Rose, HasCause, CountsFault, next_count};
 ghost use Rattle.arc_io.specs.Moved.{Took, TookAtMost, AppendsPrefix};
 
 use crate::traits::{Failed, Sink, Source};
@@ -24,7 +24,7 @@ pub enum InFault {
 ///
 /// # Errors
 ///
-/// `Read` where the source failed, and then its count of faults rose. `TooLong` where `limit` plus 1 bytes were
+/// `Read` where the source failed, and then its count of faults rose by one. `TooLong` where `limit` plus 1 bytes were
 /// taken. `Memory` where none was found; at most `limit` bytes were taken then.
 pub fn read_all<S: Source>(alloc: Global, source: &mut S, limit: usize) -> Result<Vec<u8>, InFault>
     ensures bytes { IfOk result (λ v. IfSome (S.left source.old) (λ left. v.items ≡ left)) }
@@ -37,6 +37,10 @@ pub fn read_all<S: Source>(alloc: Global, source: &mut S, limit: usize) -> Resul
 
     ensures later { S.faults source.old ≤ S.faults source.new }
     ensures fault { IsErrOf result InFault.Read → Rose (S.faults source.old) (S.faults source.new) }
+
+    // One fault was counted exactly where the source failed, and none where it gave all or too many bytes.
+    ensures counted { IsErrOf result InFault.Read → S.faults source.new ≡ next_count (S.faults source.old) }
+    ensures uncounted { (result ≡ Err InFault.Read → ⊥) → S.faults source.new ≡ S.faults source.old }
 {
     let mut bytes = Vec::new(alloc);
     let mut chunk = [0u8; CHUNK];
@@ -65,12 +69,13 @@ pub fn read_all<S: Source>(alloc: Global, source: &mut S, limit: usize) -> Resul
 ///
 /// # Errors
 ///
-/// `Failed` where the sink failed, and then its count of faults rose. A prefix of the bytes was appended, and not
+/// `Failed` where the sink failed, and then its count of faults rose by one. A prefix of the bytes was appended, and not
 /// all of them.
 pub fn write_all<K: Sink>(sink: &mut K, bytes: &[u8]) -> Result<(), Failed>
     ensures ok { OnOk result (Appends (K.taken sink.old) (K.taken sink.new) bytes.now) }
     ensures prefix { OnErr result (AppendsPrefix (K.taken sink.old) (K.taken sink.new) bytes.now) }
     ensures cause { HasCause (K.faults sink.old) (K.faults sink.new) result }
+    ensures count { CountsFault (K.faults sink.old) (K.faults sink.new) result }
 {
     let mut at = 0;
     while at < bytes.len() {

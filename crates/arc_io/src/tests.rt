@@ -1,6 +1,5 @@
-ghost use Rattle.std.specs.Prelude.{◌≤◌, IfOk};
-
 use super::*;
+use std::alloc::{AllocError, Global};
 use std::io;
 use std::test::*;
 
@@ -12,16 +11,6 @@ fn a_source_is_read_in_pieces_up_to_the_limit(rt: HostRuntime) -> Result<(), Fai
     assert_eq!(rt; bytes.as_slice(), b"hello".as_slice());
     let mut source = MemSource::new(b"hello".to_vec(alloc)?, Vec::new(alloc), 2);
     assert!(rt; matches!(read_all(alloc, &mut source, 4), Err(InFault::TooLong)));
-    Ok(())
-}
-
-#[test]
-fn a_third_read_that_fails_takes_nothing(rt: HostRuntime) -> Result<(), Fail> {
-    let alloc = rt.alloc();
-    let mut source = MemSource::new(b"hello".to_vec(alloc)?, vec![in alloc; 3]?, 2);
-    assert!(rt; matches!(read_all(alloc, &mut source, 9), Err(InFault::Read)));
-    let rest = read_all(alloc, &mut source, 9).ok().ok_or("a fault")?;
-    assert_eq!(rt; rest.as_slice(), b"o".as_slice());
     Ok(())
 }
 
@@ -50,37 +39,102 @@ fn a_sink_whose_room_is_used_up_fails(rt: HostRuntime) -> Result<(), Fail> {
     Ok(())
 }
 
-/// Gives and takes two bytes a call, and fails, or takes nothing, at the third.
-#[derive(Drop)]
-struct Failing {
-    calls: usize,
-    takes_nothing: bool,
+/// The bytes that a reader gives in all: each byte tells its place.
+fn told_bytes(alloc: Global, count: usize) -> Result<Vec<u8>, AllocError> {
+    (0..count).map(|at| (at % 251) as u8).collect(alloc)
 }
 
-impl Failing {
-    fn next(&mut self, room: usize) -> io::Result<usize>
-        ensures { IfOk result (λ n. n ≤ room) }
-    {
+/// Gives bytes, at most so many a call, and fails at the call of this number, and at no other.
+#[derive(Drop)]
+struct FailsOnce<'a> {
+    bytes: &'a [u8],
+    most: usize,
+    failing: u32,
+    calls: u32,
+}
+
+impl io::Read for FailsOnce<'_> {
+    fn read(&mut self, into: &mut [u8]) -> io::Result<usize> {
         self.calls = self.calls.saturating_add(1);
-        if self.calls < 3 {
-            return Ok(room.min(2));
+        if self.calls == self.failing {
+            return Err(io::Error::from(io::ErrorKind::Other));
         }
-        if self.takes_nothing {
+        let count = self.most.min(into.len()).min(self.bytes.len());
+        let (given, rest) = self.bytes.split_at(count);
+        into[..count].copy_from_slice(given);
+        self.bytes = rest;
+        Ok(count)
+    }
+}
+
+#[test]
+fn a_reader_that_fails_at_each_call_in_turn_goes_on(rt: HostRuntime) -> Result<(), Fail> {
+    let alloc = rt.alloc();
+    let all = told_bytes(alloc, 10_000)?;
+    for (failing, before) in [(1, 0), (2, 4096), (3, 8192), (4, 10_000)] {
+        let mut source = StdSource::new(FailsOnce {
+            bytes: all.as_slice(),
+            most: 5000,
+            failing,
+            calls: 0,
+        });
+        assert!(rt;
+            matches!(read_all(alloc, &mut source, 10_000), Err(InFault::Read)),
+            "at call {failing}"
+        );
+        let rest = read_all(alloc, &mut source, 10_000)
+            .ok()
+            .ok_or("a second fault")?;
+        assert!(rt;
+            Some(rest.as_slice()) == all.get(before..),
+            "behind call {failing}"
+        );
+    }
+    Ok(())
+}
+
+#[test]
+fn a_piece_of_more_than_64_kib_is_read_in_one_call(rt: HostRuntime) -> Result<(), Fail> {
+    let alloc = rt.alloc();
+    let all = told_bytes(alloc, 70_000)?;
+    let mut source = StdSource::new(FailsOnce {
+        bytes: all.as_slice(),
+        most: 70_000,
+        failing: 1,
+        calls: 0,
+    });
+    let mut piece = vec![in alloc; 0u8; 70_000]?;
+    assert!(rt; source.read(&mut piece) == Err(Failed));
+    assert!(rt; source.read(&mut piece) == Ok(70_000));
+    assert!(rt; piece == all);
+    assert!(rt; source.read(&mut piece) == Ok(0));
+    Ok(())
+}
+
+/// Takes bytes, at most so many a call, and at the call of this number fails, or takes nothing.
+#[derive(Drop)]
+struct StopsOnce<'a> {
+    taken: &'a mut Vec<u8>,
+    most: usize,
+    stopping: u32,
+    fails: bool,
+    calls: u32,
+}
+
+impl io::Write for StopsOnce<'_> {
+    fn write(&mut self, piece: &[u8]) -> io::Result<usize> {
+        self.calls = self.calls.saturating_add(1);
+        if self.calls == self.stopping && self.fails {
+            return Err(io::Error::from(io::ErrorKind::Other));
+        }
+        if self.calls == self.stopping {
             return Ok(0);
         }
-        Err(io::Error::from(io::ErrorKind::Other))
-    }
-}
-
-impl io::Read for Failing {
-    fn read(&mut self, into: &mut [u8]) -> io::Result<usize> {
-        self.next(into.len())
-    }
-}
-
-impl io::Write for Failing {
-    fn write(&mut self, piece: &[u8]) -> io::Result<usize> {
-        self.next(piece.len())
+        let count = self.most.min(piece.len());
+        match self.taken.extend_from_slice(&piece[..count]) {
+            Ok(()) => Ok(count),
+            Err(_) => Err(io::Error::from(io::ErrorKind::OutOfMemory)),
+        }
     }
 
     fn flush(&mut self) -> io::Result<()> {
@@ -89,23 +143,32 @@ impl io::Write for Failing {
 }
 
 #[test]
-fn a_reader_and_a_writer_that_fail_in_mid_stream(rt: HostRuntime) -> Result<(), Fail> {
+fn a_writer_that_stops_at_each_call_in_turn_goes_on(rt: HostRuntime) -> Result<(), Fail> {
     let alloc = rt.alloc();
-    let mut source = StdSource::new(Failing {
-        calls: 0,
-        takes_nothing: false,
-    });
-    assert!(rt; matches!(read_all(alloc, &mut source, 9), Err(InFault::Read)));
-    for takes_nothing in [false, true] {
-        let mut sink = StdSink::new(Failing {
+    let all = told_bytes(alloc, 150_000)?;
+    for (stopping, before, fails) in [
+        (1, 0, true),
+        (2, 70_000, true),
+        (3, 140_000, true),
+        (1, 0, false),
+        (2, 70_000, false),
+        (3, 140_000, false),
+    ] {
+        let mut taken = Vec::new(alloc);
+        let mut sink = StdSink::new(StopsOnce {
+            taken: &mut taken,
+            most: 70_000,
+            stopping,
+            fails,
             calls: 0,
-            takes_nothing,
         });
-        assert!(rt; write_all(&mut sink, b"1234").is_ok());
-        assert!(rt; write_all(&mut sink, b"5").is_err());
+        assert!(rt; write_all(&mut sink, &all).is_err(), "at call {stopping}");
+        let rest = all.get(before..).ok_or("fewer bytes")?;
+        assert!(rt;
+            write_all(&mut sink, rest).is_ok(),
+            "behind call {stopping}"
+        );
+        assert!(rt; taken == all, "behind call {stopping}");
     }
-    let mut source = StdSource::new(b"hello".as_slice());
-    let bytes = read_all(alloc, &mut source, 5).ok().ok_or("a fault")?;
-    assert_eq!(rt; bytes.as_slice(), b"hello".as_slice());
     Ok(())
 }

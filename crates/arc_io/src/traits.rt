@@ -2,7 +2,7 @@ ghost use Rattle.std.specs.Prelude.{ℕ, ◌<◌, List, length, IfOk};
 ghost use Rattle.std.specs.declared.option.Option.{Option};
 ghost use Rattle.std.specs.Io.{ReadsAtMost, WritesAtMost};
 ghost use Rattle.std.specs.Io.KnownBytes.{ReadConsumes, WriteAppends};
-ghost use Rattle.arc_io.specs.Causes.{HasCause};
+ghost use Rattle.arc_io.specs.Causes.{HasCause, CountsFault};
 
 /// The answer of a source or a sink whose outside failed. Its count of faults has risen.
 /// This project's own.
@@ -23,11 +23,12 @@ pub trait Source {
     ///
     /// # Errors
     ///
-    /// `Failed` where the count of faults rose in this call. Nothing was taken.
+    /// `Failed` where the count of faults rose by one in this call, and it rises at no other answer. Nothing was taken.
     fn read(&mut self, into: &mut [u8]) -> Result<usize, Failed>
         ensures bound { ReadsAtMost result into.new }
         ensures bytes { ReadConsumes (left self.old) (left self.new) result into.new }
-        ensures cause { HasCause (faults self.old) (faults self.new) result };
+        ensures cause { HasCause (faults self.old) (faults self.new) result }
+        ensures count { CountsFault (faults self.old) (faults self.new) result };
 }
 
 /// Bytes that go out, such as a report. This project's own.
@@ -42,10 +43,11 @@ pub trait Sink {
     ///
     /// # Errors
     ///
-    /// `Failed` where the count of faults rose in this call. Nothing was taken.
+    /// `Failed` where the count of faults rose by one in this call, and it rises at no other answer. Nothing was taken.
     fn write(&mut self, piece: &[u8]) -> Result<usize, Failed>
         ensures bound { WritesAtMost result piece.now }
         ensures progress { IfOk result (λ n. 0 < length piece.now → 0 < n) }
         ensures bytes { WriteAppends (taken self.old) (taken self.new) result piece.now }
-        ensures cause { HasCause (faults self.old) (faults self.new) result };
+        ensures cause { HasCause (faults self.old) (faults self.new) result }
+        ensures count { CountsFault (faults self.old) (faults self.new) result };
 }

@@ -11,7 +11,7 @@ use Rattle.arc_script.specs.Grammar.{Refusal}
 use Rattle.arc_ops.specs.Served.{IsServed}
 use Rattle.arc_ops.specs.declared.told.Stamped.{Stamped}
 use Rattle.arc_plain.specs.declared.replay.Replay.{Replay}
-use Rattle.arc_plain.specs.Histories as plain
+use Rattle.arc_replays.specs.Histories as replays
 use Rattle.arc_plain.specs.Replays.{IsReplay}
 use Rattle.arc_report.specs.History.{history}
 use Rattle.arc_check.specs.declared.fault.CheckFault.{CheckFault}
@@ -30,13 +30,13 @@ use Rattle.arc_judged.proofs.Reports.{replay_before}
 use Rattle.arc_judged.proofs.Events.{replay_fits}
 
 -- the events in order tell the history that has the newest first
-told_is : (h : History) (n : ℕ) (events : List Stamped) → told_after h (numbered n (map unlined events)) ≡ plain.history_of (reverse events) ++ h
+told_is : (h : History) (n : ℕ) (events : List Stamped) → told_after h (numbered n (map unlined events)) ≡ replays.history_of (reverse events) ++ h
 told_is h n [] = refl
 told_is h n (e ∷ events) =
     told_is (e.event ∷ h) (n + 1) events
-    ∙ sym (ap (λ (es : List Stamped). plain.history_of es ++ h) (reverse-append (e ∷ []) events)
+    ∙ sym (ap (λ (es : List Stamped). replays.history_of es ++ h) (reverse-append (e ∷ []) events)
     ∙ ap (λ (es : History). es ++ h) (map-append (λ (s : Stamped). s.event) (reverse events) (e ∷ []))
-    ∙ append_assoc (plain.history_of (reverse events)) (e.event ∷ []) h)
+    ∙ append_assoc (replays.history_of (reverse events)) (e.event ∷ []) h)
 
 count_is : (n : ℕ) (events : List Stamped) → length events ≡ length (numbered n (map unlined events))
 count_is n [] = refl
@@ -47,7 +47,7 @@ events_of s r = told_of s r.events.items
 
 are_legal : (s : Script) (r : Replay) → IsReplay s r → AreLegal (events_of s r) (length r.events.items)
 are_legal s r replay =
-    let same = told_is [] (first_line s.classes s.globals) r.events.items ∙ append-nil (plain.history_of (reverse r.events.items)) in
+    let same = told_is [] (first_line s.classes s.globals) r.events.items ∙ append-nil (replays.history_of (reverse r.events.items)) in
     (subst (IsLegal s.shape) (sym same) replay.history.legal, count_is (first_line s.classes s.globals) r.events.items)
 
 read_so : (said : Result HistoryText Refusal) (t : HistoryText) (n : ℕ) → said ≡ Ok t → AreLegal t n → IsOkAnd said (λ (t : HistoryText). AreLegal t n)

@@ -1,7 +1,7 @@
+pub mod Slots
+pub mod Hands
+pub mod Stamps
+pub mod Events
 pub mod Lines
 pub mod Reports
-pub mod Hands
-pub mod Steppers
-pub mod Placed
-pub mod Events
 pub mod Legal

@@ -1,6 +1,6 @@
 -- The report of a replay goes before a history text.
-use Rattle.std.proofs.Common.{◌≡◌, ℕ, zero, suc, ◌-◌, ◌<◌, Bool, true, false, cond, eqb, ◌&&◌, List, [], ◌∷◌, ◌++◌, length, map, refl, sym, ap, subst, ◌∙◌, append_assoc, arith}
-use Rattle.std.specs.Prelude.{not, codes}
+use Rattle.std.proofs.Common.{◌≡◌, ℕ, zero, suc, ◌-◌, ◌<◌, Bool, true, false, cond, eqb, ◌&&◌, List, [], ◌∷◌, ◌++◌, length, map, get_or, refl, sym, ap, subst, ◌∙◌, append_assoc, arith}
+use Rattle.std.specs.Prelude.{not, codes, All}
 use Rattle.std.specs.List.{AllByRecursion, flat_map}
 use Rattle.std.specs.Fmt.{decimal}
 use Rattle.std.proofs.lemmas.List.{length-map}
@@ -18,8 +18,9 @@ use Rattle.arc_script.specs.declared.script.Script.{Script}
 use Rattle.arc_script.specs.Valid.{name_at, class_names, IsScript}
 use Rattle.arc_ops.specs.declared.told.ThreadLines.{ThreadLines}
 use Rattle.arc_plain.specs.declared.replay.Replay.{Replay}
-use Rattle.arc_plain.specs.Named.{LineFits}
-use Rattle.arc_plain.specs.Replays.{AreEmpty, IsReplay}
+use Rattle.arc_replays.specs.Empty.{AreEmpty}
+use Rattle.arc_replays.specs.Named.{LineFits}
+use Rattle.arc_plain.specs.Replays.{IsReplay}
 use Rattle.arc_report.specs.Names.{object_text}
 use Rattle.arc_report.specs.Lines.{answer_text, operation_text, line_text, thread_text, end_line_text, end_text, object_total, deinit_total}
 use Rattle.arc_report.specs.Order.{in_order}
@@ -106,6 +107,11 @@ left_is names l words empty =
     ap (λ (ns : List ℕ). flat_map (leak_text names l words) (in_order leak_cmp (map (leak_at l words) ns)) ++ flat_map (freed_text l words) (freed_of l words)) taken
     ∙ ap (λ (ns : List ℕ). flat_map (freed_text l words) ns) freed
 
+-- the lines of all threads
+lines_all : (n : ℕ) (threads : List ThreadLines) → All (λ (t : ThreadLines). All (LineFits n) t.lines) threads → AllByRecursion (λ (t : ThreadLines). AllByRecursion (LineFits n) t.lines) threads
+lines_all n threads all =
+    recursion_from_All (λ (t : ThreadLines). AllByRecursion (LineFits n) t.lines) threads (λ k d h. recursion_from_All (LineFits n) (get_or threads k d).lines (all k d h))
+
 -- ---- the whole report
 
 abbrev lines_in : Script → Replay → List ℕ
@@ -136,10 +142,8 @@ replay_before s r valid replay =
     n_is = ap length valid.heading.of_classes ∙ length-map s.classes _ ∙ sym (length-map s.classes (λ (c : ClassDecl). c.name))
 
     threads : GoesBefore (flat_map (thread_text (class_names s.classes)) r.threads.items)
-    threads = subst (λ (ts : List ThreadLines). GoesBefore (flat_map (thread_text (class_names s.classes)) ts)) (sym replay.threads)
-        (both_before (thread_text (class_names s.classes) (record { thread = 1; lines = replay.first.kept.lines })) []
-        (thread_goes (class_names s.classes) spelled (length s.shape.classes) n_is (record { thread = 1; lines = replay.first.kept.lines }) (recursion_from_All (LineFits (length s.shape.classes)) replay.first.kept.lines replay.lines_fit)) none_before)
+    threads = each_before (λ (t : ThreadLines). AllByRecursion (LineFits (length s.shape.classes)) t.lines) (thread_text (class_names s.classes))
+        (thread_goes (class_names s.classes) spelled (length s.shape.classes) n_is) r.threads.items (lines_all (length s.shape.classes) r.threads.items replay.lines_fit)
 
     end : GoesBefore (end_text (class_names s.classes) r.end.items)
-    end = end_goes (class_names s.classes) spelled (length s.shape.classes) n_is r.end.items
-        (subst (λ (ls : List Line). AllByRecursion (LineFits (length s.shape.classes)) ls) (sym replay.end) (recursion_from_All (LineFits (length s.shape.classes)) replay.last.kept.lines replay.end_fits))
+    end = end_goes (class_names s.classes) spelled (length s.shape.classes) n_is r.end.items (recursion_from_All (LineFits (length s.shape.classes)) r.end.items replay.end_fits)

@@ -1,2 +1,5 @@
+pub mod Counts
+pub mod Decided
 pub mod Made
 pub mod Moves
+pub mod Passed

@@ -1,7 +1,8 @@
 -- A script that is served gives each of its threads a stepper.
-use Rattle.std.proofs.Common.{◌≡◌, ℕ, zero, suc, ◌-◌, ◌≤◌, Bool, true, false, cond, eqb, List, [], ◌∷◌, length, None, refl, ap, ◌∙◌, arith}
+use Rattle.std.proofs.Common.{◌≡◌, ℕ, zero, suc, ◌-◌, ◌≤◌, Bool, true, false, cond, eqb, List, [], ◌∷◌, ◌++◌, length, None, refl, ap, ◌∙◌, arith}
 use Rattle.std.proofs.lemmas.List.{length-map, length-replicate}
-use Rattle.std.specs.Prelude.{slice_get, All, sum_by}
+use Rattle.std.specs.Prelude.{slice_get, All, sum_by, flat_map}
+use Rattle.std.proofs.lemmas.List.Concat.{length-flat_map}
 use Rattle.std.proofs.lemmas.List.Sums.{sum_by-cons}
 use Rattle.std.specs.List.{AllByRecursion}
 use Rattle.std.proofs.lemmas.List.Elements.{All-from_recursion, recursion_from_All, All-replicate}
@@ -13,39 +14,31 @@ use Rattle.arc_script.specs.declared.script.Op.{Op}
 use Rattle.arc_script.specs.declared.script.Op.TheVariants as op
 use Rattle.arc_script.specs.Valid.{IsScript, IsThread, IsOp, op_count, field_refs}
 use Rattle.arc_ops.specs.Served.{IsServed, IsServedThread, IsServedOp}
-use Rattle.arc_ops.specs.Programs.{ops_in, first_phase, program_of, count_of_vars, vars_of, VarsFit, ClassFits}
+use Rattle.arc_ops.specs.Programs.{phases_in, phases_of, program_of, count_of_vars, vars_of, VarsFit, ClassFits}
 use Rattle.arc_ops.specs.Thread.{HeldFits, IsStepper, stepper_of}
 
-phase_few : (phases : List (List Op)) → length (ops_in (slice_get phases 0)) ≤ sum_by (λ (ops : List Op). length ops) phases
-phase_few [] = omega arith
-phase_few (ops ∷ rest) =
-    let a : length (ops_in (slice_get (ops ∷ rest) 0)) ≡ length ops = refl in
-    let b = sum_by-cons (λ (o : List Op). length o) ops rest in
-    omega arith
-
-first_few : (ts : List ThreadDecl) (i : ℕ) → length (first_phase (slice_get ts i)) ≤ op_count ts
-first_few [] i = omega arith
-first_few (t ∷ ts) zero =
-    let h = phase_few t.phases in
+thread_few : (ts : List ThreadDecl) (i : ℕ) → sum_by (λ (ops : List Op). length ops) (phases_in (slice_get ts i)) ≤ op_count ts
+thread_few [] i = omega arith
+thread_few (t ∷ ts) zero =
     let b = sum_by-cons (λ (u : ThreadDecl). sum_by (λ (o : List Op). length o) u.phases) t ts in
     omega arith
-first_few (t ∷ ts) (suc i) =
-    let h = first_few ts i in
+thread_few (t ∷ ts) (suc i) =
+    let h = thread_few ts i in
     let b = sum_by-cons (λ (u : ThreadDecl). sum_by (λ (o : List Op). length o) u.phases) t ts in
     omega arith
 
 pub program_few : (s : Script) (thread : ℕ) → IsScript s → length (program_of s thread) ≤ 100000
-program_few s thread valid = go (eqb thread 0)
+program_few s thread valid = rw (length-flat_map (λ (ops : List Op). ops) (phases_of s thread)) (go (eqb thread 0))
   where
-    go : (b : Bool) → length (first_phase (cond b None (slice_get s.threads (thread - 1)))) ≤ 100000
+    go : (b : Bool) → sum_by (λ (ops : List Op). length ops) (phases_in (cond b None (slice_get s.threads (thread - 1)))) ≤ 100000
     go true = omega arith
-    go false = let h = first_few s.threads (thread - 1) in let k = valid.few_ops in omega arith
+    go false = let h = thread_few s.threads (thread - 1) in let k = valid.few_ops in omega arith
 
 op_fits : (classes : List ClassDecl) (globals vars : List VarDecl) → length classes ≤ 64 → (o : Op) → IsOp classes globals vars o → IsServedOp o → VarsFit (length vars) o × ClassFits (length classes) o
 op_fits classes globals vars few (op.New to class) h s = let k = h.1 in (h.0, (h.1, omega arith))
 op_fits classes globals vars few (op.Copy to from) h s = ((h.0.to_there, h.0.of_there), tt)
+op_fits classes globals vars few (op.Move to from) h s = ((h.0.to_there, h.0.of_there), tt)
 op_fits classes globals vars few (op.Drop v) h s = (h, tt)
-op_fits classes globals vars few (op.Move to from) h s = absurd s
 op_fits classes globals vars few (op.Unown to of) h s = absurd s
 op_fits classes globals vars few (op.Weak to of) h s = absurd s
 op_fits classes globals vars few (op.Load to of) h s = absurd s
@@ -63,21 +56,30 @@ ops_fit classes globals vars few (o ∷ ops) h s =
     let b = ops_fit classes globals vars few ops h.1 s.1 in
     ((a.0, b.0), (a.1, b.1))
 
-phase_fits : (classes : List ClassDecl) (globals vars : List VarDecl) → length classes ≤ 64 → (phases : List (List Op)) →
-    AllByRecursion (λ (ops : List Op). AllByRecursion (IsOp classes globals vars) ops) phases → AllByRecursion (All IsServedOp) phases → OpsFit (length vars) (length classes) (ops_in (slice_get phases 0))
-phase_fits classes globals vars few [] h s = (tt, tt)
-phase_fits classes globals vars few (ops ∷ rest) h s = ops_fit classes globals vars few ops h.0 (recursion_from_All IsServedOp ops s.0)
+both_fit : (vars classes : ℕ) (front back : List Op) → OpsFit vars classes front → OpsFit vars classes back → OpsFit vars classes (front ++ back)
+both_fit vars classes [] back f b = b
+both_fit vars classes (o ∷ front) back f b =
+    let r = both_fit vars classes front back (f.0.1, f.1.1) b in
+    ((f.0.0, r.0), (f.1.0, r.1))
+
+phases_fit : (classes : List ClassDecl) (globals vars : List VarDecl) → length classes ≤ 64 → (phases : List (List Op)) →
+    AllByRecursion (λ (ops : List Op). AllByRecursion (IsOp classes globals vars) ops) phases → AllByRecursion (All IsServedOp) phases → OpsFit (length vars) (length classes) (flat_map (λ ops. ops) phases)
+phases_fit classes globals vars few [] h s = (tt, tt)
+phases_fit classes globals vars few (ops ∷ rest) h s =
+    both_fit (length vars) (length classes) ops (flat_map (λ ops. ops) rest)
+    (ops_fit classes globals vars few ops h.0 (recursion_from_All IsServedOp ops s.0))
+    (phases_fit classes globals vars few rest h.1 s.1)
 
 thread_fits : (classes : List ClassDecl) (globals : List VarDecl) → length classes ≤ 64 → (ts : List ThreadDecl) (i : ℕ) → AllByRecursion (IsThread classes globals) ts → AllByRecursion IsServedThread ts →
-    OpsFit (count_of_vars (slice_get ts i)) (length classes) (first_phase (slice_get ts i))
+    OpsFit (count_of_vars (slice_get ts i)) (length classes) (flat_map (λ ops. ops) (phases_in (slice_get ts i)))
 thread_fits classes globals few [] i h s = (tt, tt)
-thread_fits classes globals few (t ∷ ts) zero h s = phase_fits classes globals t.vars few t.phases h.0.ops (recursion_from_All (All IsServedOp) t.phases s.0.ops)
+thread_fits classes globals few (t ∷ ts) zero h s = phases_fit classes globals t.vars few t.phases h.0.ops (recursion_from_All (All IsServedOp) t.phases s.0.ops)
 thread_fits classes globals few (t ∷ ts) (suc i) h s = thread_fits classes globals few ts i h.1 s.1
 
 program_fits : (s : Script) (thread : ℕ) → IsScript s → IsServed s → OpsFit (vars_of s thread) (length s.classes) (program_of s thread)
 program_fits s thread valid served = go (eqb thread 0)
   where
-    go : (b : Bool) → OpsFit (count_of_vars (cond b None (slice_get s.threads (thread - 1)))) (length s.classes) (first_phase (cond b None (slice_get s.threads (thread - 1))))
+    go : (b : Bool) → OpsFit (count_of_vars (cond b None (slice_get s.threads (thread - 1)))) (length s.classes) (flat_map (λ ops. ops) (phases_in (cond b None (slice_get s.threads (thread - 1)))))
     go true = (tt, tt)
     go false =
         thread_fits s.classes s.globals (rw length-map at valid.heading.classes_named.names.few) s.threads (thread - 1) valid.threads
@@ -97,10 +99,13 @@ is_stepper s thread valid served within =
       thread = omega arith;
       vars_fit = rw length-replicate (All-from_recursion (VarsFit (vars_of s thread)) (program_of s thread) fits.0);
       classes_fit = rw length_is (All-from_recursion (ClassFits (length s.classes)) (program_of s thread) fits.1);
+      whole = refl;
       few = program_few s thread valid;
       held = All-replicate (HeldFits s.shape.slots) (vars_of s thread) None tt;
+      phase = omega arith;
       index = omega arith;
+      hands = omega arith;
       made = omega arith;
       under_way = tt;
-      in_operation = omega arith;
+      in_operation = λ below. (omega arith, omega arith);
     }

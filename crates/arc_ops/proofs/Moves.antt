@@ -1,6 +1,7 @@
 -- What holds of each stepper goes on to hold.
-use Rattle.std.proofs.Common.{◌≡◌, ℕ, ◌+◌, ◌≤◌, ◌<◌, Bool, true, false, cond, eqb, ltb, length, Option, None, refl, ap, ◌∙◌, arith}
+use Rattle.std.proofs.Common.{◌≡◌, ℕ, ◌+◌, ◌≤◌, ◌<◌, Bool, true, false, cond, eqb, ltb, List, length, Option, None, refl, ap, ◌∙◌, arith}
 use Rattle.std.proofs.lemmas.Bool.{ltb-true}
+use Rattle.std.specs.Prelude.{All}
 use Rattle.std.specs.Option.{unwrap_or}
 use Rattle.arc_model.specs.declared.event.Act.{Act}
 use Rattle.arc_model.specs.declared.event.ObjectName.{ObjectName}
@@ -19,30 +20,35 @@ use Rattle.arc_cells.specs.declared.cascade.At.{At}
 use Rattle.arc_cells.specs.declared.cascade.At.TheVariants as at
 use Rattle.arc_cells.specs.Cascades.{CascadeState, cascade_turned, turned_at, finish_turned, vacated}
 use Rattle.arc_ops.specs.Kept.{Kept}
+use Rattle.arc_ops.specs.declared.stepper.Held.{Held}
 use Rattle.arc_ops.specs.declared.stepper.Doing.TheVariants.{Ended}
-use Rattle.arc_ops.specs.Thread.{Thread, put, replaced, made_on, IsStepper, IsTryingSlot, MadeBefore, MakingGoesOn}
+use Rattle.arc_ops.specs.Thread.{Thread, put, replaced, made_on, IsStepper, HeldFits, IsTryingSlot, FewBefore, MadeBefore, MakingGoesOn}
 
--- an idle stepper at a later operation
-pub moved : (t : Thread) → IsStepper t → t.doing ≡ Ended → (i : ℕ) (kept : Kept) → t.made ≤ i + 1 → i ≤ length t.program → IsStepper (record t { index = i; kept = kept })
-moved t s idle i kept made within = record {
+-- an idle stepper at a later operation, behind operations that moved references
+pub moved : (t : Thread) → IsStepper t → t.doing ≡ Ended → (i : ℕ) (vars : List (Option Held)) (kept : Kept) → t.index ≤ i → i ≤ length t.program → length vars ≡ length t.vars →
+    (All (HeldFits t.layout.slots) t.vars → All (HeldFits t.layout.slots) vars) → IsStepper (record t { index = i; vars = vars; kept = kept })
+moved t s idle i vars kept from within count held = record {
   layout = s.layout;
   without_fields = s.without_fields;
   slots = s.slots;
   strong_cap = s.strong_cap;
   thread = s.thread;
-  vars_fit = s.vars_fit;
+  vars_fit = rw count s.vars_fit;
   classes_fit = s.classes_fit;
+  whole = s.whole;
   few = s.few;
-  held = s.held;
+  held = held s.held;
+  phase = s.phase;
   index = within;
-  made = made;
+  hands = let h = s.hands in omega arith;
+  made = let m = s.made in omega arith;
   under_way = rw idle tt;
   in_operation = rw idle tt;
 }
 
 -- an idle stepper that has made an object
-pub made_one : (t : Thread) → IsStepper t → t.doing ≡ Ended → t.made ≤ t.index → (hands : ℕ) (event : Option Act) → IsStepper (record t { hands = hands; made = t.made + 1; event = event })
-made_one t s idle few hands event = record {
+pub made_one : (t : Thread) → IsStepper t → t.doing ≡ Ended → FewBefore t → (event : Option Act) → IsStepper (record t { hands = t.hands + 1; made = t.made + 1; event = event })
+made_one t s idle few event = record {
   layout = s.layout;
   without_fields = s.without_fields;
   slots = s.slots;
@@ -50,10 +56,34 @@ made_one t s idle few hands event = record {
   thread = s.thread;
   vars_fit = s.vars_fit;
   classes_fit = s.classes_fit;
+  whole = s.whole;
   few = s.few;
   held = s.held;
+  phase = s.phase;
   index = s.index;
-  made = omega arith;
+  hands = let f = few.0 in omega arith;
+  made = let f = few.1 in omega arith;
+  under_way = rw idle tt;
+  in_operation = rw idle tt;
+}
+
+-- an idle stepper that has a reference more
+pub took_one : (t : Thread) → IsStepper t → t.doing ≡ Ended → FewBefore t → (event : Option Act) → IsStepper (record t { hands = t.hands + 1; event = event })
+took_one t s idle few event = record {
+  layout = s.layout;
+  without_fields = s.without_fields;
+  slots = s.slots;
+  strong_cap = s.strong_cap;
+  thread = s.thread;
+  vars_fit = s.vars_fit;
+  classes_fit = s.classes_fit;
+  whole = s.whole;
+  few = s.few;
+  held = s.held;
+  phase = s.phase;
+  index = s.index;
+  hands = let f = few.0 in omega arith;
+  made = s.made;
   under_way = rw idle tt;
   in_operation = rw idle tt;
 }

@@ -1,39 +1,67 @@
-ghost use Rattle.std.specs.Prelude.{◌≡◌, ◌≤◌, All, length, position, replicate, IfOk};
+ghost use Rattle.std.specs.Prelude.{ℕ, ◌≡◌, ◌<◌, ◌≤◌, false, All, length, position, replicate, IfOk};
 ghost use Rattle.arc_ops.specs.Programs.{VarsFit};
-ghost use Rattle.arc_ops.specs.Thread.{Thread, AsksAt, asks, is_held, begun};
+ghost use Rattle.arc_ops.specs.Thread.{Thread, AsksAt, asks, begun, begun_op, HeldFits, is_held, phase_end, skipped};
 
 use crate::kept::Lines;
 use crate::stepper::Held;
 use arc_script::{Answer, Line, Op};
 use std::alloc::{AllocError, Global};
 
-/// The first operation from this one on that asks for a step, or the program's end. Those before it are done: their lines are put.
+/// The first operation from this one on that asks for a step, or the end of the phase. Those before it are done: their lines are put,
+/// and what they move is moved.
 pub(crate) fn first_asking(
     program: &[Op],
-    vars: &[Option<Held>],
+    end: usize,
+    vars: &mut Vec<Option<Held>>,
     index: usize,
     lines: &mut Lines,
 ) -> usize
-    requires fit { All (VarsFit (length vars.now)) program.now }
+    requires fit { All (VarsFit (length vars.old.items)) program.now }
     requires few { length program.now ≤ 100000 }
+    requires end { end ≤ length program.now }
     requires index { index ≤ length program.now }
     ensures from { index ≤ result }
     ensures within { result ≤ length program.now }
-    ensures asks { AsksAt program.now vars.now result }
-    ensures same { (t : Thread) → t.program ≡ program.now → t.vars ≡ vars.now → begun (record t { index = index; kept = lines.old }) ≡ begun (record t { index = result; kept = lines.new }) }
+    ensures count { length vars.new.items ≡ length vars.old.items }
+    ensures held { (slots : ℕ) → All (HeldFits slots) vars.old.items → All (HeldFits slots) vars.new.items }
+    ensures asks { result < end → AsksAt program.now vars.new.items result }
+    ensures same { (t : Thread) → t.program ≡ program.now → phase_end t ≡ end → begun (record t { index = index; vars = vars.old.items; kept = lines.old }) ≡ begun (record t { index = result; vars = vars.new.items; kept = lines.new }) }
 {
     let mut at = index;
-    while at < program.len() {
-        if asks(program[at], vars) {
+    while at < end {
+        let op = program[at];
+        if asks(op, vars) {
             return at;
         }
+        let answer = do_at_once(op, vars);
         lines.put(Line {
             operation: at as u32 + 1,
-            answer: Answer::Nil,
+            answer,
         });
         at += 1;
     }
     at
+}
+
+/// Does an operation that asks for no step.
+fn do_at_once(op: Op, vars: &mut Vec<Option<Held>>) -> Answer
+    requires fits { VarsFit (length vars.old.items) op }
+    requires asks { asks vars.old.items op ≡ false }
+    ensures count { length vars.new.items ≡ length vars.old.items }
+    ensures held { (slots : ℕ) → All (HeldFits slots) vars.old.items → All (HeldFits slots) vars.new.items }
+    ensures done { (t : Thread) (rest : Thread → Thread) → t.vars ≡ vars.old.items → begun_op op t rest ≡ rest (record (skipped result t) { vars = vars.new.items }) }
+{
+    match op {
+        Op::Move { to, from } => match vars[from as usize] {
+            None => Answer::Nil,
+            Some(held) => {
+                vars[to as usize] = Some(held);
+                vars[from as usize] = None;
+                Answer::Ok
+            }
+        },
+        _ => Answer::Nil,
+    }
 }
 
 /// So many variables, all nil.
@@ -55,6 +83,7 @@ fn asks(op: Op, vars: &[Option<Held>]) -> bool
     match op {
         Op::New { to: _, class: _ } => true,
         Op::Copy { to, from } => is_held(vars[from as usize]) || is_held(vars[to as usize]),
+        Op::Move { to, from: _ } => is_held(vars[to as usize]),
         Op::Drop { var } => is_held(vars[var as usize]),
         _ => unreachable!(),
     }

@@ -1,8 +1,11 @@
-ghost use Rattle.std.specs.Prelude.{◌≡◌, ◌≤◌, length, count_by};
-ghost use Rattle.arc_ops.specs.Programs.{declared_of, first_phase, program_of, vars_of, is_new, room_for};
+ghost use Rattle.std.specs.Prelude.{◌≡◌, ◌≤◌, length, count_by, sum_by, flat_map, IfOk};
+ghost use Rattle.arc_script.specs.Valid.{op_count};
+ghost use Rattle.arc_ops.specs.Programs.{declared_of, phases_of, ops_in_first, vars_of, is_new, new_count_of, new_count};
 ghost use Rattle.std.specs.Option.{option_copied};
 
 use arc_script::{Op, Script, ThreadDecl};
+use sqlite_items::Items;
+use std::alloc::{AllocError, Global};
 
 fn declared_of(script: &Script, thread: u32) -> Option<&ThreadDecl>
     ensures { option_copied result ≡ declared_of script.now thread }
@@ -14,17 +17,38 @@ fn declared_of(script: &Script, thread: u32) -> Option<&ThreadDecl>
     }
 }
 
-/// The operations of the thread, which has one phase; thread 0 has none.
-pub(crate) fn program_of(script: &Script, thread: u32) -> &[Op]
-    ensures { result.now ≡ program_of script.now thread }
+/// The operations of each phase of the thread; thread 0 has no phase.
+pub(crate) fn phases_of(script: &Script, thread: u32) -> &[Items<Op>]
+    ensures { result.now ≡ phases_of script.now thread }
 {
     match declared_of(script, thread) {
         None => &[],
-        Some(decl) => match decl.phases.get(0) {
-            None => &[],
-            Some(ops) => ops.as_slice(),
-        },
+        Some(decl) => decl.phases.as_slice(),
     }
+}
+
+/// All operations of the phases, in their order.
+pub(crate) fn program_in(alloc: Global, phases: &[Items<Op>]) -> Result<Vec<Op>, AllocError>
+    ensures { IfOk result (λ ops. ops.items ≡ flat_map (λ phase. phase) phases.now) }
+{
+    let mut program = Vec::new(alloc);
+    for ops in phases.iter() {
+        program.extend_from_slice(ops.as_slice())?;
+    }
+    Ok(program)
+}
+
+/// How many operations there are in the first phases.
+pub(crate) fn ops_in_first(k: usize, phases: &[Items<Op>]) -> usize
+    requires few { length (flat_map (λ ops. ops) phases.now) ≤ 100000 }
+    ensures within { result ≤ length (flat_map (λ ops. ops) phases.now) }
+    ensures count { result ≡ ops_in_first k phases.now }
+{
+    let mut count = 0;
+    for i in 0..k.min(phases.len()) {
+        count += phases[i].len();
+    }
+    count
 }
 
 /// How many variables the thread has.
@@ -37,12 +61,36 @@ pub(crate) fn vars_of(script: &Script, thread: u32) -> usize
     }
 }
 
-/// A line for each operation, and one for the deinit of each object that may be made.
-pub(crate) fn room_for(ops: &[Op]) -> usize
-    requires { length ops.now ≤ 100000 }
-    ensures { result ≡ room_for ops.now }
+/// How many objects the threads may make.
+pub(crate) fn new_count(threads: &[ThreadDecl]) -> usize
+    requires few { op_count threads.now ≤ 100000 }
+    ensures few { result ≤ 100000 }
+    ensures count { result ≡ sum_by new_count_of threads.now }
 {
-    ops.len() + ops.iter().filter(|op| is_new(op)).count()
+    let mut count = 0;
+    for thread in threads.iter() {
+        count += new_count_of(thread);
+    }
+    count
+}
+
+fn new_count_of(thread: &ThreadDecl) -> usize
+    requires few { sum_by (λ ops. length ops) thread.now.phases ≤ 100000 }
+    ensures few { result ≤ sum_by (λ ops. length ops) thread.now.phases }
+    ensures count { result ≡ new_count_of thread.now }
+{
+    let mut count = 0;
+    for ops in thread.phases.as_slice().iter() {
+        count += new_in(ops.as_slice());
+    }
+    count
+}
+
+fn new_in(ops: &[Op]) -> usize
+    ensures few { result ≤ length ops.now }
+    ensures count { result ≡ count_by is_new ops.now }
+{
+    ops.iter().filter(|op| is_new(op)).count()
 }
 
 fn is_new(op: &Op) -> bool

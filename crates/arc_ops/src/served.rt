@@ -11,6 +11,7 @@ fn is_served_op(op: &Op) -> bool
     match *op {
         Op::New { to: _, class: _ } => true,
         Op::Copy { to: _, from: _ } => true,
+        Op::Move { to: _, from: _ } => true,
         Op::Drop { var: _ } => true,
         _ => false,
     }
@@ -35,14 +36,13 @@ fn is_strong_var(var: &VarDecl) -> bool
 fn is_served_thread(thread: &ThreadDecl) -> bool
     ensures { IsTrue result ↔ IsServedThread thread.now }
 {
-    let one_phase = thread.phases.len() == 1;
     let strong = thread.vars.as_slice().iter().all(|var| is_strong_var(var));
     let ops = thread
         .phases
         .as_slice()
         .iter()
         .all(|ops| are_served_ops(ops.as_slice()));
-    one_phase && strong && ops
+    strong && ops
 }
 
 fn are_served_threads(threads: &[ThreadDecl]) -> bool
@@ -57,18 +57,22 @@ fn have_no_fields(classes: &[ClassShape]) -> bool
     classes.iter().all(|class| class.fields.is_empty())
 }
 
-/// Whether the script is one of those that are served so far: one thread of one phase, strong variables, the operations `new`,
-/// `copy` and `drop`, classes without fields, no globals, no schedule and the greatest caps.
+fn are_greatest(caps: Caps) -> bool
+    ensures { IsTrue result ↔ ((caps.strong ≡ 1073741823) × (caps.unowned ≡ 2147483647) × (caps.wide ≡ 4294967295)) }
+{
+    caps.strong() == 1_073_741_823 && caps.unowned() == 2_147_483_647 && caps.wide() == u32::MAX
+}
+
+/// Whether the script is one of those that are served so far: threads with strong variables and the operations `new`, `copy`, `move`
+/// and `drop`, in any phases and by any schedule; classes without fields, no globals and the greatest caps.
 pub fn is_served(script: &Script) -> bool
     ensures { IsTrue result ↔ IsServed script.now }
 {
-    let shape = &script.shape;
-    let caps = shape.caps();
-    let threads = script.threads.as_slice();
-    let greatest = caps.strong() == 1_073_741_823
-        && caps.unowned() == 2_147_483_647
-        && caps.wide() == u32::MAX;
-    let plain = have_no_fields(shape.classes()) && script.globals.is_empty();
-    let alone = threads.len() == 1 && script.schedule.is_empty();
-    greatest && plain && alone && are_served_threads(threads)
+    if !are_greatest(script.shape.caps()) {
+        return false;
+    }
+    if !have_no_fields(script.shape.classes()) {
+        return false;
+    }
+    script.globals.is_empty() && are_served_threads(script.threads.as_slice())
 }

@@ -1,15 +1,15 @@
-ghost use Rattle.std.specs.Prelude.{◌≡◌, false, true, ◌<◌, ◌≤◌, ◌+◌, length, slice_get, IfOk};
+ghost use Rattle.std.specs.Prelude.{◌≡◌, false, true, ◌<◌, ◌≤◌, ◌+◌, length, slice_get, Some, IfOk};
 ghost use Rattle.arc_model.specs.declared.event.Origin.TheVariants.{Hand};
 ghost use Rattle.arc_rule.specs.Places.{extent_of};
 ghost use Rattle.arc_rule.specs.declared.step.Intent.TheVariants as intents;
 ghost use Rattle.arc_script.specs.Valid.{IsScript};
 ghost use Rattle.arc_ops.specs.Served.{IsServed};
 ghost use Rattle.arc_ops.specs.declared.stepper.Doing.TheVariants.{Copying, Dropping, Ended};
-ghost use Rattle.arc_ops.specs.Thread.{Thread, IsStepper, IsUnderWay, IsInOperation, IsUpAnswer, IsDownAnswer, DiesAt, MakingGoesOn, StepGoesOn, asks, number_of, first_of, in_operation, stepper_of, takes, turned, begun, begun_op, scope_begun, next_op, replaced, drop_begun, make_begun, copy_begun, made_on, made_step, copied_on, dropped_on, dies, dying_on, put, asking};
+ghost use Rattle.arc_ops.specs.Thread.{Thread, IsStepper, FewBefore, IsUnderWay, IsInOperation, IsUpAnswer, IsDownAnswer, DiesAt, MakingGoesOn, StepGoesOn, asks, number_of, first_of, in_operation, stepper_of, takes, turned, begun, begun_op, begun_nil, begun_move, is_held, value, phase_over, scope_begun, next_op, replaced, drop_begun, make_begun, copy_begun, made_on, made_step, copied_on, dropped_on, dies, dying_on, put, asking};
 
 use crate::asking::{first_asking, first_held, nil_vars};
 use crate::kept::Lines;
-use crate::programs::{program_of, room_for, vars_of};
+use crate::programs::{new_count, ops_in_first, phases_of, program_in, vars_of};
 use arc_cells::{Cascade, CascadeNext};
 use arc_model::{Act, Memory, ObjectName, Origin, Shape};
 use arc_plan::{
@@ -17,6 +17,7 @@ use arc_plan::{
 };
 use arc_rule::{Intent, Layout, Next, Plan, Step};
 use arc_script::{Answer, Line, Op, Script};
+use sqlite_items::Items;
 use std::alloc::Global;
 use std::marker::Model;
 use std::mem;
@@ -81,8 +82,10 @@ pub struct Stepper<'a> {
     layout: Layout,
     shape: &'a Shape,
     thread: u32,
-    program: &'a [Op],
+    phases: &'a [Items<Op>],
+    program: Vec<Op>,
     vars: Vec<Option<Held>>,
+    phase: usize,
     index: usize,
     doing: Doing<'a>,
     asked: Move,
@@ -98,9 +101,9 @@ impl<'a> Model for Stepper<'a> {
 
     ghost Value = { Thread };
 
-    ghost view = { λ t. record { layout = t.layout; shape = t.shape.now; thread = t.thread; program = t.program.now; vars = t.vars.items; index = t.index; doing = t.doing; asked = t.asked; first = t.first; hands = t.hands; made = t.made; event = t.event; kept = t.lines } };
+    ghost view = { λ t. record { layout = t.layout; shape = t.shape.now; thread = t.thread; phases = t.phases.now; program = t.program.items; vars = t.vars.items; phase = t.phase; index = t.index; doing = t.doing; asked = t.asked; first = t.first; hands = t.hands; made = t.made; event = t.event; kept = t.lines } };
 
-    ghost invariant = { λ t. IsStepper (record { layout = t.layout; shape = t.shape.now; thread = t.thread; program = t.program.now; vars = t.vars.items; index = t.index; doing = t.doing; asked = t.asked; first = t.first; hands = t.hands; made = t.made; event = t.event; kept = t.lines }) };
+    ghost invariant = { λ t. IsStepper (record { layout = t.layout; shape = t.shape.now; thread = t.thread; phases = t.phases.now; program = t.program.items; vars = t.vars.items; phase = t.phase; index = t.index; doing = t.doing; asked = t.asked; first = t.first; hands = t.hands; made = t.made; event = t.event; kept = t.lines }) };
 }
 
 impl<'a> Stepper<'a> {
@@ -118,15 +121,19 @@ impl<'a> Stepper<'a> {
         requires thread { thread ≤ length script.now.threads }
         ensures { IfOk result (λ s. s ≡ stepper_of script.now thread) }
     {
-        let program = program_of(script, thread);
+        let phases = phases_of(script, thread);
+        let program = program_in(alloc, phases)?;
         let vars = nil_vars(alloc, vars_of(script, thread))?;
-        let lines = Lines::make(alloc, room_for(program))?;
+        let room = program.len() + new_count(script.threads.as_slice());
+        let lines = Lines::make(alloc, room)?;
         Ok(Stepper {
             layout: *layout,
             shape: &script.shape,
             thread,
+            phases,
             program,
             vars,
+            phase: 0,
             index: 0,
             doing: Doing::Ready,
             asked: Move::PhaseEnd,
@@ -142,7 +149,6 @@ impl<'a> Stepper<'a> {
     /// isn't called after Ended.
     pub fn next(&mut self, last: Option<u64>) -> Turn
         requires takes { takes self.old last }
-        requires hands { self.old.hands < 4294967295 }
         ensures turned { self.new ≡ turned self.old last }
         ensures event { result.event ≡ self.new.event }
         ensures next { result.next ≡ self.new.asked }
@@ -246,17 +252,39 @@ impl<'a> Stepper<'a> {
         self.asked = Move::Step { step, intent };
     }
 
-    /// Goes on to the first operation that asks for a step, or to the end of the scope.
+    /// Goes on to the first operation of the phase that asks for a step, or to the end of the phase.
     fn begin(&mut self)
         requires idle { self.old.doing ≡ Ended }
-        requires made { self.old.index < length self.old.program → self.old.made ≤ self.old.index }
+        requires few { self.old.index < length self.old.program → FewBefore self.old }
         ensures { self.new ≡ begun self.old }
     {
-        let at = first_asking(self.program, &self.vars, self.index, &mut self.lines);
+        let end = ops_in_first(self.phase + 1, self.phases);
+        let at = first_asking(
+            &self.program,
+            end,
+            &mut self.vars,
+            self.index,
+            &mut self.lines,
+        );
         self.index = at;
-        let program = self.program;
-        if at < program.len() {
-            self.begin_op(program[at]);
+        if at < end {
+            let op = self.program[at];
+            self.begin_op(op);
+        } else {
+            self.end_phase();
+        }
+    }
+
+    /// The operations of the phase are done: the next phase is to begin, and behind the last one the scope ends.
+    fn end_phase(&mut self)
+        requires idle { self.old.doing ≡ Ended }
+        requires few { self.old.index < length self.old.program → FewBefore self.old }
+        ensures { self.new ≡ phase_over self.old }
+    {
+        if self.phase + 1 < self.phases.len() {
+            self.phase += 1;
+            self.doing = Doing::Ready;
+            self.asked = Move::PhaseEnd;
         } else {
             self.end_scope();
         }
@@ -265,22 +293,19 @@ impl<'a> Stepper<'a> {
     fn begin_op(&mut self, op: Op)
         requires at { slice_get self.old.program self.old.index ≡ Some op }
         requires asks { asks self.old.vars op ≡ true }
-        requires made { self.old.made ≤ self.old.index }
-        ensures { (rest : Thread) → self.new ≡ begun_op op self.old rest }
+        requires few { FewBefore self.old }
+        ensures { (rest : Thread → Thread) → self.new ≡ begun_op op self.old rest }
     {
         self.first = true;
         match op {
             Op::New { to, class } => self.begin_make(to, class),
             Op::Copy { to, from } => match self.vars[from as usize] {
                 Some(held) => self.begin_copy(to, held),
-                None => match self.vars[to as usize] {
-                    Some(old) => {
-                        self.put(Answer::Nil);
-                        self.vars[to as usize] = None;
-                        self.begin_drop(old);
-                    }
-                    None => unreachable!(),
-                },
+                None => self.begin_nil(to),
+            },
+            Op::Move { to, from } => match self.vars[from as usize] {
+                Some(held) => self.begin_move(to, from, held),
+                None => self.begin_nil(to),
             },
             Op::Drop { var } => match self.vars[var as usize] {
                 Some(held) => {
@@ -291,6 +316,43 @@ impl<'a> Stepper<'a> {
                 None => unreachable!(),
             },
             _ => unreachable!(),
+        }
+    }
+
+    /// The variable becomes nil, and what it held is dropped.
+    fn begin_nil(&mut self, to: u32)
+        requires to { to < length self.old.vars }
+        requires held { is_held (value self.old.vars to) ≡ true }
+        requires first { self.old.first ≡ true }
+        ensures { (rest : Thread → Thread) → self.new ≡ begun_nil to (value self.old.vars to) self.old rest }
+    {
+        match self.vars[to as usize] {
+            Some(old) => {
+                self.put(Answer::Nil);
+                self.vars[to as usize] = None;
+                self.begin_drop(old);
+            }
+            None => unreachable!(),
+        }
+    }
+
+    /// The reference goes to another variable, and what that held is dropped.
+    fn begin_move(&mut self, to: u32, from: u32, held: Held)
+        requires to { to < length self.old.vars }
+        requires from { from < length self.old.vars }
+        requires held { is_held (value self.old.vars to) ≡ true }
+        requires first { self.old.first ≡ true }
+        requires place { held.place < self.old.layout.slots }
+        ensures { (rest : Thread → Thread) → self.new ≡ begun_move to from (Some held) (value self.old.vars to) self.old rest }
+    {
+        match self.vars[to as usize] {
+            Some(old) => {
+                self.put(Answer::Ok);
+                self.vars[to as usize] = Some(held);
+                self.vars[from as usize] = None;
+                self.begin_drop(old);
+            }
+            None => unreachable!(),
         }
     }
 
@@ -326,7 +388,7 @@ impl<'a> Stepper<'a> {
 
     fn begin_make(&mut self, to: u32, class: u32)
         requires at { self.old.index < length self.old.program }
-        requires made { self.old.made ≤ self.old.index }
+        requires few { FewBefore self.old }
         requires to { to < length self.old.vars }
         requires class { class < 64 }
         ensures { self.new ≡ make_begun to class self.old }
@@ -363,7 +425,6 @@ impl<'a> Stepper<'a> {
         requires to { to < length self.old.vars }
         requires layout { plan.layout ≡ self.old.layout }
         requires idle { self.old.doing ≡ Ended }
-        requires hands { self.old.hands < 4294967295 }
         requires goes_on { MakingGoesOn self.old slot plan.at next }
         ensures { self.new ≡ made_on to name slot plan next self.old }
     {
@@ -390,7 +451,6 @@ impl<'a> Stepper<'a> {
         requires to { to < length self.old.vars }
         requires layout { plan.layout ≡ self.old.layout }
         requires idle { self.old.doing ≡ Ended }
-        requires hands { self.old.hands < 4294967295 }
         requires goes_on { StepGoesOn self.old slot plan.at step }
         ensures { self.new ≡ made_step to name slot plan step self.old }
     {
@@ -426,6 +486,7 @@ impl<'a> Stepper<'a> {
 
     fn begin_copy(&mut self, to: u32, held: Held)
         requires at { self.old.index < length self.old.program }
+        requires few { FewBefore self.old }
         requires to { to < length self.old.vars }
         requires held { held.place < self.old.layout.slots }
         ensures { self.new ≡ copy_begun to held self.old }
@@ -439,6 +500,7 @@ impl<'a> Stepper<'a> {
 
     fn ask_copy(&mut self, to: u32, held: Held, plan: StrongUp, step: Step)
         requires at { self.old.index < length self.old.program }
+        requires few { FewBefore self.old }
         requires to { to < length self.old.vars }
         requires held { held.place < self.old.layout.slots }
         ensures { self.new ≡ asking (Copying to held plan) step (intents.Copy (Hand held.hand)) self.old }
@@ -453,8 +515,9 @@ impl<'a> Stepper<'a> {
 
     fn copy_on(&mut self, to: u32, held: Held, plan: StrongUp, next: Next<StrongUpAnswer>)
         requires answer { IsUpAnswer next }
-        requires hands { self.old.hands < 4294967295 }
+        requires idle { self.old.doing ≡ Ended }
         requires at { self.old.index < length self.old.program }
+        requires few { FewBefore self.old }
         requires to { to < length self.old.vars }
         requires held { held.place < self.old.layout.slots }
         ensures { self.new ≡ copied_on to held plan next self.old }

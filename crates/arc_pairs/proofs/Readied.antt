@@ -11,7 +11,8 @@ use Rattle.arc_table.specs.declared.tokens.Dying.{Dying}
 use Rattle.arc_table.specs.declared.tokens.Up.TheVariants as ups
 use Rattle.arc_table.specs.declared.tokens.Release.TheVariants as releases
 use Rattle.arc_table.specs.Seats.{shape_of, view_of}
-use Rattle.arc_table.specs.Tokens.{hand_of, IsHeld, IsUp, IsReleased, KeepsStrong}
+use Rattle.arc_table.specs.Tokens.{hand_of, IsHeld, IsUp, IsReleased}
+use Rattle.arc_view_laws.specs.Having.{KeepsStrong}
 use Rattle.arc_table.specs.Ends.{HasNoField}
 use Rattle.arc_table.proofs.HeldTokens.{copy_apart}
 use Rattle.arc_pairs.specs.Ready.{IsReady, IsPlain, IsOurs, IsOurDying}

@@ -18,9 +18,10 @@ use Rattle.arc_table.specs.declared.tokens.Any.{Any}
 use Rattle.arc_table.specs.declared.tokens.Any.TheVariants as anys
 use Rattle.arc_table.specs.declared.tokens.Swapped.TheVariants as swaps
 use Rattle.arc_table.specs.Seats.{shape_of, view_of}
-use Rattle.arc_table.specs.Tokens.{IsStrongOf, IsNewHand, KeepsStrong, hand_of}
+use Rattle.arc_table.specs.Tokens.{hand_of}
+use Rattle.arc_view_laws.specs.Having.{IsStrongOf, IsNewHand, KeepsStrong}
 use Rattle.arc_table.specs.Cells.{hand_in, IsSwapped, MayPut, KeepsUnput}
-use Rattle.arc_table.proofs.Fresh.{fresh_hand}
+use Rattle.arc_view_laws.proofs.Fresh.{fresh_hand}
 use Rattle.arc_pairs.specs.Ready.{IsOurAny, IsApart, IsForOurs, AreForOurs}
 
 pub may_put : (heap : Heap) (pass : Pass) (g : ℕ) (put : Any) → IsForOurs heap g → IsOurAny heap pass put → MayPut (shape_of heap) g (view_of pass) put

@@ -10,7 +10,8 @@ use Rattle.arc_table.specs.declared.tokens.Dying.{Dying}
 use Rattle.arc_table.specs.declared.tokens.Any.{Any}
 use Rattle.arc_table.specs.declared.tokens.Any.TheVariants as anys
 use Rattle.arc_table.specs.Seats.{heap_id, shape_of, pass_id, view_of}
-use Rattle.arc_table.specs.Tokens.{hand_of, IsStrongOf, IsDyingOf}
+use Rattle.arc_table.specs.Tokens.{hand_of}
+use Rattle.arc_view_laws.specs.Having.{IsStrongOf, IsDyingOf}
 use Rattle.arc_table.specs.Cells.{HoldsStrong, IsNamed}
 
 -- the pass is one of the heap's, nothing is under way, and what it has seen is legal

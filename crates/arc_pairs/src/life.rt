@@ -1,7 +1,8 @@
 //! References more and fewer. A call that answers `Again` is made again: other threads make calls in between, so no bound says how often.
 ghost use Rattle.std.specs.Prelude.{◌≡◌, ◌≢◌, IfSome};
 ghost use Rattle.arc_table.specs.Seats.{view_of};
-ghost use Rattle.arc_table.specs.Tokens.{hand_of, KeepsStrong, KeepsStrongBut};
+ghost use Rattle.arc_table.specs.Tokens.{hand_of};
+ghost use Rattle.arc_view_laws.specs.Having.{KeepsStrong, KeepsStrongBut};
 ghost use Rattle.arc_pairs.specs.Ready.{IsReady, IsPlain, IsOurs, IsOurDying};
 
 use arc_table::{Dying, Finish, Heap, Pass, Release, Strong, Up};

@@ -2,7 +2,8 @@
 ghost use Rattle.std.specs.Prelude.{◌≡◌, ◌+◌, ◌*◌, ◌≤◌, [], All, IfSome, vec_len};
 ghost use Rattle.arc_table.specs.Cells.{KeepsUnput};
 ghost use Rattle.arc_table.specs.Seats.{view_of};
-ghost use Rattle.arc_table.specs.Tokens.{hand_of, KeepsStrongBut};
+ghost use Rattle.arc_table.specs.Tokens.{hand_of};
+ghost use Rattle.arc_view_laws.specs.Having.{KeepsStrongBut};
 ghost use Rattle.arc_pairs.specs.Ready.{IsReady, IsPlain, IsOurs, IsOurAny, IsApart, IsForOurs, AreForOurs, IsWorker};
 
 use crate::heaps::shared_heap;

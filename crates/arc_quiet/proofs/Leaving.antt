@@ -15,6 +15,7 @@ use Rattle.arc_model.specs.Holders.{same_holder}
 use Rattle.arc_model.specs.Cells.{cell, is_kind}
 use Rattle.arc_model.specs.History.{History, heap_after, is_of, IsLegal}
 use Rattle.arc_model.specs.Lookup.{Spot, spot}
+use Rattle.arc_model.specs.Others.{IsQuiet}
 use Rattle.arc_model.specs.CellLaws.{cell_next}
 use Rattle.arc_model.specs.Spelling.{Note, acts_of}
 use Rattle.arc_model.specs.Spelling.Note.{Did, Line, Operation, Name, Entry, NeedsEntry, Nil, Refers}
@@ -26,11 +27,12 @@ use Rattle.arc_model.proofs.Others.{spot-find}
 use Rattle.arc_model.proofs.SpellTies.{share_is}
 use Rattle.arc_model.proofs.Tally.{no, both}
 use Rattle.arc_script.specs.declared.script.Script.{Script}
+use Rattle.arc_script.specs.Valid.{IsScript}
 use Rattle.arc_programs.specs.ProgramsHistories.{swapped_in, with_swapped, globals_below}
 use Rattle.arc_programs.specs.ProgramsTied.{Spells, hands_in}
 use Rattle.arc_programs.specs.ProgramsTied.Spells.{thread, end}
 use Rattle.arc_programs.proofs.ProgramsKept.{each_global}
-use Rattle.arc_quiet.specs.Whole.{StandsLast, CellsKeepClassesAfter, WholeIsQuiet, LeavesNothing}
+use Rattle.arc_quiet.specs.Whole.{AllFinish, NoOtherThread, StandsLast, CellsKeepClassesAfter, WholeIsQuiet, LeavesNothing}
 use Rattle.arc_quiet.proofs.Chains.{quiet_is_dead}
 use Rattle.arc_quiet.proofs.ClassCells.{all_cells, cells-now}
 use Rattle.arc_quiet.proofs.ClassPrograms.{end-spares, program_puts}
@@ -208,16 +210,20 @@ idle-ties : (causes : Causes) (shape : HeapShape) (most p : ℕ) (h : History) �
 idle-ties causes shape most p [] l few = no_event
 idle-ties causes shape most p (e ∷ h) l few = let small = few.0 in other_event (idle-ties causes shape most p h l few.1) (ne_eqb e.thread p (λ same. omega (arith, same, small, l)))
 
+-- no thread has anything in the end
+pub every_thread_quiet : (causes : Causes) (script : Script) (h : History) → IsScript script → IsLegal script.shape h → AllFinish causes script h → NoOtherThread script h → (p : ℕ) → IsQuiet p (heap_after h)
+every_thread_quiet causes script h is legal finish few p = elim (cases_lt (length script.threads) p) [
+  | inl other ↦
+      let t = idle-ties causes script.shape (length script.threads) p h other few in
+      let a = hands_bound causes script.shape p [] h t legal in
+      let b = debts_bound causes script.shape p [] h is.heading.caps.unowned_fits.0 t legal in
+      quiet_if_none script.shape p h legal (omega arith) (omega arith)
+  | inr one ↦ finished_is_quiet causes script p (finish p one).0 h is legal (finish p one).1
+]
+
 pub whole_is_quiet : WholeIsQuiet
 whole_is_quiet causes script h is legal finish last few = record {
-  threads = λ p. elim (cases_lt (length script.threads) p) [
-    | inl other ↦
-        let t = idle-ties causes script.shape (length script.threads) p h other few in
-        let a = hands_bound causes script.shape p [] h t legal in
-        let b = debts_bound causes script.shape p [] h is.heading.caps.unowned_fits.0 t legal in
-        quiet_if_none script.shape p h legal (omega arith) (omega arith)
-    | inr one ↦ finished_is_quiet causes script p (finish p one).0 h is legal (finish p one).1
-  ];
+  threads = every_thread_quiet causes script h is legal finish few;
   globals = λ g.
       let x = (finish 0 (omega arith)).1 in
       ap not (sym (spot-find (Global g) (heap_after h).objects) ∙ ap is_some (globals-nil causes script h x.notes legal last x.tied x.spelled g));

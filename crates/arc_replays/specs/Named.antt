@@ -1,30 +1,10 @@
 -- Which classes lines and events name.
-use Rattle.std.specs.Prelude.{ℕ, ◌<◌, All, Option, Some, None, ⊤}
+use Rattle.std.specs.Prelude.{ℕ, ◌<◌, [], ◌∷◌, Option, Some, None, ⊤}
 use Rattle.arc_model.specs.declared.event.Origin.TheVariants.{Hand, Cell}
 use Rattle.arc_model.specs.declared.event.Act.{Act}
 use Rattle.arc_model.specs.declared.event.Act.TheVariants as acts
-use Rattle.arc_model.specs.declared.answer.Answer.{Answer}
-use Rattle.arc_model.specs.declared.answer.Answer.TheVariants as answers
-use Rattle.arc_script.specs.declared.answer.Line.{Line}
-use Rattle.arc_ops.specs.Kept.{Kept}
-
--- an object that the answer names is of one of so many classes
-abbrev pub AnswerFits : ℕ → Answer → Type 0
-AnswerFits n (answers.New name) = name.class < n
-AnswerFits n answers.Full = ⊤
-AnswerFits n (answers.Got name) = name.class < n
-AnswerFits n answers.Ok = ⊤
-AnswerFits n answers.Nil = ⊤
-AnswerFits n answers.Dead = ⊤
-AnswerFits n answers.NoEntry = ⊤
-AnswerFits n answers.CountFull = ⊤
-AnswerFits n (answers.Deinit name) = name.class < n
-
-abbrev pub LineFits : ℕ → Line → Type 0
-LineFits n line = AnswerFits n line.answer
-
-abbrev pub LinesFit : ℕ → Kept → Type 0
-LinesFit n kept = All (LineFits n) kept.lines
+use Rattle.arc_model.specs.History.{History}
+pub use Rattle.arc_programs_laws.specs.Names.{AnswerFits, LineFits}
 
 -- An event of the operations that are served so far: an object is made, of one of so many classes, or no slot is free; a reference is
 -- copied from a hand, or dropped; a deinit is finished, a slot is vacated.
@@ -52,3 +32,7 @@ ActFits n (acts.Gone entry last) = ⊥
 abbrev pub EventFits : ℕ → Option Act → Type 0
 EventFits n None = ⊤
 EventFits n (Some act) = ActFits n act
+
+abbrev pub EventsFit : ℕ → History → Type 0
+EventsFit n [] = ⊤
+EventsFit n (e ∷ h) = ActFits n e.act × EventsFit n h

@@ -1,5 +1,5 @@
 -- What is promised of a history, said of it alone: the laws of all legal histories at this one.
-use Rattle.std.specs.Prelude.{ℕ, List, [], ◌∷◌, ◌++◌, length, ◌≡◌, slice_get}
+use Rattle.std.specs.Prelude.{ℕ, [], ◌∷◌, ◌++◌, length, ◌≡◌, slice_get}
 use Rattle.arc_model.specs.declared.event.Got.TheVariants as got
 use Rattle.arc_model.specs.declared.event.Act.TheVariants as acts
 use Rattle.arc_model.specs.declared.event.Event.{Event}

@@ -1,5 +1,5 @@
 -- A replay: which steps are made, in which order, and what comes of them.
-use Rattle.std.specs.Prelude.{ℕ, zero, suc, Bool, true, false, ◌≡◌, ◌≤◌, ◌<◌, ◌+◌, ◌^◌, if◌then◌else◌, List, [], ◌∷◌, drop, length, map, reverse, replicate, slice_get, slice_set, All, Option, Some, None}
+use Rattle.std.specs.Prelude.{ℕ, zero, suc, Bool, true, false, ◌≡◌, ◌≤◌, ◌<◌, ◌+◌, if◌then◌else◌, List, [], ◌∷◌, length, map, replicate, slice_get, slice_set, Option, Some, None}
 use Rattle.arc_model.specs.declared.event.Act.{Act}
 use Rattle.arc_rule.specs.Places.{extent_of, word_count}
 use Rattle.arc_rule.specs.Steps.{found_by, made_by}
@@ -9,7 +9,7 @@ use Rattle.arc_script.specs.declared.script.Script.{Script}
 use Rattle.arc_ops.specs.declared.told.Stamped.{Stamped}
 use Rattle.arc_ops.specs.declared.stepper.Move.{Move}
 use Rattle.arc_ops.specs.declared.stepper.Move.TheVariants as moves
-use Rattle.arc_ops.specs.Thread.{Thread, stepper_of, takes, turned}
+use Rattle.arc_ops.specs.Thread.{Thread, IsStepper, stepper_of, takes, turned}
 
 -- Where a replay is: how many phases have begun, the places of the schedule that are left, the threads with thread 0 first, the words, how many steps
 -- were made, and the events, the newest first.
@@ -91,9 +91,10 @@ stepped p t step s = record s {
   events = stamped (s.steps + 1) p (turned t (Some (found_by step s.words))).event s.events;
 }
 
--- thread p asks for this step, and may be given what it finds
+-- thread p, a stepper, asks for this step, and may be given what it finds
 pub record MayStep (s : Stage) (p : ℕ) (t : Thread) (step : Step) (intent : Intent) : Type 0 where
   pub there : slice_get s.threads p ≡ Some t
+  pub stepper : IsStepper t
   pub asked : t.asked ≡ moves.Step step intent
   pub takes_it : takes t (Some (found_by step s.words))
 

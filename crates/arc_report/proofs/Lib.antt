@@ -3,4 +3,3 @@ pub mod LeakOrder
 pub mod Numbers
 pub mod AllThere
 pub mod Counted
-pub mod OneClass

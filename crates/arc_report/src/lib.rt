@@ -2,8 +2,6 @@
 #![tactic(auto)]
 
 mod events;
-#[cfg(test)]
-mod fixtures;
 mod history;
 mod leaks;
 mod left;
@@ -12,8 +10,6 @@ mod names;
 mod report;
 mod shown;
 mod summary;
-#[cfg(test)]
-mod tests;
 mod totals;
 
 pub use history::history_text;

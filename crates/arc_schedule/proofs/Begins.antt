@@ -1,18 +1,17 @@
 -- Operations and drops begin, and the scope ends.
-use Rattle.std.proofs.Common.{◌≡◌, ◌≢◌, ℕ, zero, suc, ◌+◌, ◌<◌, ◌≤◌, Bool, true, false, not, cond, ltb, List, [], ◌∷◌, length, drop, set, get_or, Option, Some, None, ◌⊎◌, inl, inr, refl, sym, ap, subst, ◌∙◌, arith, add-one}
+use Rattle.std.proofs.Common.{◌≡◌, ◌≢◌, ℕ, zero, suc, ◌+◌, ◌<◌, ◌≤◌, Bool, true, false, not, cond, ltb, List, [], ◌∷◌, ◌++◌, length, take, drop, set, get_or, Option, Some, None, ◌⊎◌, inl, inr, refl, sym, ap, subst, ◌∙◌, arith, add-one}
 use Rattle.std.proofs.lemmas.Bool.{ltb-true, ltb-false, lt-ltb, cases_lt}
 use Rattle.std.proofs.Math.ListN.{get_or-map}
-use Rattle.std.proofs.lemmas.List.{map-set, set-get_or, length-set, length-map, get_or-set_same, get_or-set_other, drop_all}
-use Rattle.std.proofs.lemmas.List.Elements.{All-get_or}
+use Rattle.std.proofs.lemmas.List.{map-set, set-get_or, length-set, length-map, length-append, get_or-set_same, get_or-set_other, drop_all, take_all}
+use Rattle.std.proofs.lemmas.List.Elements.{All-get_or, All-set, recursion_from_All}
 use Rattle.std.proofs.lemmas.List.Quantifiers.{position-Some}
 use Rattle.std.proofs.lemmas.List.Sums.{prefix_len_passes}
 use Rattle.std.proofs.lemmas.Option.{slice_get_within, get_or_from_slice_get}
-use Rattle.std.specs.Prelude.{slice_get, position, All}
-use Rattle.std.specs.List.{prefix_len}
+use Rattle.std.specs.Prelude.{slice_get, position, flat_map, All}
+use Rattle.std.specs.List.{prefix_len, AllByRecursion}
 use Rattle.arc_model.specs.declared.answer.Answer.TheVariants as answers
 use Rattle.arc_model.specs.declared.event.ObjectName.{ObjectName}
 use Rattle.arc_model.specs.Shapes.{HeapShape}
-use Rattle.arc_model.specs.SpellingTies.{Reference}
 use Rattle.arc_rule.specs.Extents.{Extent}
 use Rattle.arc_rule.specs.Places.{extent_of}
 use Rattle.arc_plan.specs.declared.attempt.At.TheVariants as attempt
@@ -20,20 +19,23 @@ use Rattle.arc_plan.specs.declared.slots.Making.TheVariants as search
 use Rattle.arc_script.specs.declared.script.Op.{Op}
 use Rattle.arc_script.specs.declared.script.Op.TheVariants as op
 use Rattle.arc_ops.specs.declared.stepper.Held.{Held}
-use Rattle.arc_ops.specs.declared.stepper.Doing.TheVariants.{Ended}
+use Rattle.arc_ops.specs.declared.stepper.Doing.TheVariants.{Ready, Ended}
+use Rattle.arc_ops.specs.declared.stepper.Move.TheVariants as moves
+use Rattle.arc_ops.specs.Programs.{ops_in_first}
 use Rattle.arc_ops.specs.Served.{IsServedOp}
-use Rattle.arc_ops.specs.Thread.{Thread, value, is_held, put, set_var, skipped, drop_from, copy_from, drop_begun, begun_copy, begun_drop, begun_at, begun, scope_drop, scope_at, scope_begun, next_op, replaced_old, replaced}
+use Rattle.arc_ops.specs.Thread.{Thread, HeldFits, value, is_held, put, set_var, skipped, moved, drop_from, copy_from, drop_begun, begun_nil, begun_copy, begun_move, begun_drop, phase_over, begun_at, begun, scope_drop, scope_at, scope_begun, next_op, replaced_old, replaced}
 use Rattle.arc_schedule.specs.Made.{Point, Made}
 use Rattle.arc_schedule.specs.Plans.{Starts, new_object, strong_up, strong_down}
 use Rattle.arc_schedule.specs.Plans.Starts.{first as starts_first}
-use Rattle.arc_schedule.specs.Operations.{State, Variables, strong_to, Drops, Does}
+use Rattle.arc_schedule.specs.Operations.{State, Holding, Variables, strong_to, next_name, Drops, Does}
 use Rattle.arc_schedule.specs.Operations.Drops.{nothing as drops_nothing}
-use Rattle.arc_schedule.specs.Operations.Does.{copies_nil, drops as does_drop}
+use Rattle.arc_schedule.specs.Operations.Does.{copies_nil, moves as does_move, moves_nil, drops as does_drop}
 use Rattle.arc_schedule.specs.Operations as operations
 use Rattle.arc_schedule.specs.Threads.{point_of, OpsDone, ScopeEnds}
 use Rattle.arc_schedule.specs.Threads.OpsDone.{none as ops_none, one as ops_one}
+use Rattle.arc_schedule.specs.Threads.PhasesDone.{one as phases_one}
 use Rattle.arc_schedule.specs.Threads.ScopeEnds.{none as scope_none, one as scope_one}
-use Rattle.arc_schedule.proofs.Stands.{waits, begun-from, Job, ref, refs, state_of, AreDone, here, IsInScope, IsOverIf, IsOver, Works, Stands}
+use Rattle.arc_schedule.proofs.Stands.{waits, begun-from, Task, Job, start_of, ref, refs, state_of, AreDone, here, IsInScope, IsOverIf, IsOver, Works, WorksAt, AreIn, Stands}
 
 -- ---- variables
 
@@ -44,7 +46,7 @@ pub put-ref : (vars : List (Option Held)) (v : ℕ) (new : Option Held) → refs
 put-ref vars v new = map-set ref vars v new
 
 put-nil : (vars : Variables) (v : ℕ) → operations.value vars v ≡ None → operations.put vars v None ≡ vars
-put-nil vars v e = ap (λ (o : Option Reference). set vars v o) (sym e) ∙ set-get_or vars v None
+put-nil vars v e = ap (λ (o : Option Holding). set vars v o) (sym e) ∙ set-get_or vars v None
 
 none-held : (vars : List (Option Held)) → position is_held vars ≡ None → (v : ℕ) → v < length vars → value vars v ≡ None
 none-held vars e v within = go (ltb (prefix_len (λ x. not (is_held x)) vars) (length vars)) refl e
@@ -64,17 +66,34 @@ not-held : (o : Option Held) → is_held o ≡ false → o ≡ None
 not-held None e = refl
 not-held (Some h) e = absurd (cc)
 
+held-at : (slots : ℕ) (vars : List (Option Held)) (v : ℕ) (h : Held) → AllByRecursion (HeldFits slots) vars → value vars v ≡ Some h → h.place < slots
+held-at slots [] v h all e = absurd (cc)
+held-at slots (o ∷ vars) zero h all e = let f : HeldFits slots (Some h) = subst (HeldFits slots) e all.0 in f
+held-at slots (o ∷ vars) (suc v) h all e = held-at slots vars v h all.1 e
+
+-- what a variable holds lies in the heap
+pub held-in : (shape : HeapShape) (vars : List (Option Held)) (v : ℕ) (h : Held) → AreIn shape vars → value vars v ≡ Some h → h.place < shape.slots
+held-in shape vars v h all e = held-at shape.slots vars v h (recursion_from_All (HeldFits shape.slots) vars all) e
+
+pub nil-in : (shape : HeapShape) (vars : List (Option Held)) (v : ℕ) → AreIn shape vars → AreIn shape (set vars v None)
+nil-in shape vars v all = All-set (HeldFits shape.slots) vars v None tt all
+
+pub one-in : (shape : HeapShape) (vars : List (Option Held)) (v : ℕ) (h : Held) → h.place < shape.slots → AreIn shape vars → AreIn shape (set vars v (Some h))
+one-in shape vars v h within all = All-set (HeldFits shape.slots) vars v (Some h) within all
+
 -- ---- operations
 
-pub over-done : (j : Job) (i : ℕ) (vars : List (Option Held)) (made : ℕ) (now : List Made) → i < length j.ops → AreDone j (i + 1) (state_of vars made) now → IsOver j i vars made now
-over-done j i vars made now within d = rw (lt-ltb i (length j.ops) within) d
+pub over-done : (k : Task) (j : Job k) (i : ℕ) (vars : List (Option Held)) (made hands : ℕ) (now : List Made) → i < length j.ops → AreDone k j (i + 1) (state_of vars made hands) now →
+    IsOver k j i vars made hands now
+over-done k j i vars made hands now within d = rw (lt-ltb i (length j.ops) within) d
 
 -- the operation at this place is done
-pub op-done : (j : Job) (i : ℕ) (o : Op) (state new : State) (base after : List Made) → AreDone j i state base → slice_get j.ops i ≡ Some o → Does j.shape (here j i) o state base new after → AreDone j (i + 1) new after
-op-done j i o state new base after d there does =
+pub op-done : (k : Task) (j : Job k) (i : ℕ) (o : Op) (state new : State) (base after : List Made) → AreDone k j i state base → slice_get j.ops i ≡ Some o → Does k.shape (here k j i) o state base new after →
+    AreDone k j (i + 1) new after
+op-done k j i o state new base after d there does =
     let within : i < length j.ops = slice_get_within j.ops i o there in
-    let same : here j i ≡ point_of j.thread 0 (i + 1) = rw (lt-ltb i (length j.ops) within) refl in
-    let Q : Point → Type 0 = λ (p : Point). Does j.shape p o state base new after in
+    let same : here k j i ≡ point_of k.thread j.phase (i + 1) = rw (lt-ltb i (length j.ops) within) refl in
+    let Q : Point → Type 0 = λ (p : Point). Does k.shape p o state base new after in
     ops_one d there (subst Q same does)
 
 served-at : (ops : List Op) (i : ℕ) (o : Op) → All IsServedOp ops → slice_get ops i ≡ Some o → IsServedOp o
@@ -98,20 +117,122 @@ done-within : {shape : HeapShape} {thread phase : ℕ} {ops : List Op} {first : 
 done-within ops_none = omega arith
 done-within {ops = ops} (ops_one {i = i} {o = o} d there x) = let h = slice_get_within ops i o there in omega arith
 
+-- ---- phases
+
+take-over : {X : Type 0} (xs ys : List X) (n : ℕ) → take (length xs + n) (xs ++ ys) ≡ xs ++ take n ys
+take-over [] ys n = let none : 0 + n ≡ n = omega arith in rw none refl
+take-over (x ∷ xs) ys n = let more : suc (length xs) + n ≡ suc (length xs + n) = omega arith in rw more (ap (λ zs. x ∷ zs) (take-over xs ys n))
+
+drop-over : {X : Type 0} (xs ys : List X) (n : ℕ) → drop (length xs + n) (xs ++ ys) ≡ drop n ys
+drop-over [] ys n = let none : 0 + n ≡ n = omega arith in rw none refl
+drop-over (x ∷ xs) ys n = let more : suc (length xs) + n ≡ suc (length xs + n) = omega arith in rw more (drop-over xs ys n)
+
+abbrev all-ops : List (List Op) → List Op
+all-ops phases = flat_map (λ ops. ops) phases
+
+first-many : (ops : List Op) (phases : List (List Op)) (p : ℕ) → ops_in_first (suc p) (ops ∷ phases) ≡ length ops + ops_in_first p phases
+first-many ops phases p = length-append ops (all-ops (take p phases))
+
+-- so many operations are there before the next phase
+phase-next : (phases : List (List Op)) (p : ℕ) (ops : List Op) → slice_get phases p ≡ Some ops → ops_in_first (suc p) phases ≡ ops_in_first p phases + length ops
+phase-next [] p ops e = absurd (cc)
+phase-next (x ∷ phases) zero ops e =
+    let same : x ≡ ops = cc in
+    let a = first-many x phases zero in
+    let b : ops_in_first zero phases ≡ 0 = refl in
+    let c : length x ≡ length ops = ap length same in
+    let d : ops_in_first zero (x ∷ phases) ≡ 0 = refl in
+    omega arith
+phase-next (x ∷ phases) (suc p) ops e =
+    let a = first-many x phases (suc p) in
+    let b = first-many x phases p in
+    let c = phase-next phases p ops e in
+    omega arith
+
+phase-few : (phases : List (List Op)) (p : ℕ) → ops_in_first p phases ≤ length (all-ops phases)
+phase-few phases zero = omega arith
+phase-few [] (suc p) = omega arith
+phase-few (x ∷ phases) (suc p) =
+    let a = first-many x phases p in
+    let b = phase-few phases p in
+    let c : length (all-ops (x ∷ phases)) ≡ length x + length (all-ops phases) = length-append x (all-ops phases) in
+    omega arith
+
+phase-last : (phases : List (List Op)) (p : ℕ) → length phases ≤ p → ops_in_first p phases ≡ length (all-ops phases)
+phase-last phases p most = ap (λ (xs : List (List Op)). length (all-ops xs)) (take_all p phases most)
+
+-- the operations from this one of the phase on, to the phase's end
+phase-rest : (phases : List (List Op)) (p i : ℕ) (ops : List Op) → slice_get phases p ≡ Some ops → drop (ops_in_first p phases + i) (take (ops_in_first (suc p) phases) (all-ops phases)) ≡ drop i ops
+phase-rest [] p i ops e = absurd (cc)
+phase-rest (x ∷ phases) zero i ops e =
+    let same : x ≡ ops = cc in
+    let many : ops_in_first (suc zero) (x ∷ phases) ≡ length x + 0 = first-many x phases zero in
+    let taken : take (length x + 0) (x ++ all-ops phases) ≡ x ++ [] = take-over x (all-ops phases) 0 in
+    let back : x ++ [] ≡ x = append-none x in
+    let start : 0 + i ≡ i = omega arith in
+    rw (many, start) (ap (λ (ys : List Op). drop i ys) (taken ∙ back ∙ same))
+  where
+    append-none : (xs : List Op) → xs ++ [] ≡ xs
+    append-none [] = refl
+    append-none (y ∷ ys) = ap (λ (zs : List Op). y ∷ zs) (append-none ys)
+phase-rest (x ∷ phases) (suc p) i ops e =
+    let many = first-many x phases p in
+    let more = first-many x phases (suc p) in
+    let taken = take-over x (all-ops phases) (ops_in_first (suc p) phases) in
+    let dropped = drop-over x (take (ops_in_first (suc p) phases) (all-ops phases)) (ops_in_first p phases + i) in
+    let sum : ops_in_first (suc p) (x ∷ phases) + i ≡ length x + (ops_in_first p phases + i) = omega arith in
+    let P : ℕ → ℕ → Type 0 = λ (n m : ℕ). drop n (take m (x ++ all-ops phases)) ≡ drop i ops in
+    let whole : drop (length x + (ops_in_first p phases + i)) (take (length x + ops_in_first (suc p) phases) (x ++ all-ops phases)) ≡ drop i ops =
+    ap (λ (ys : List Op). drop (length x + (ops_in_first p phases + i)) ys) taken ∙ dropped ∙ phase-rest phases p i ops e in
+    subst (λ (n : ℕ). P n (ops_in_first (suc (suc p)) (x ∷ phases))) (sym sum) (subst (λ (m : ℕ). P (length x + (ops_in_first p phases + i)) m) (sym more) whole)
+
+record There {X : Type 0} (xs : List X) (i : ℕ) : Type 0 where
+  item : X
+  there : slice_get xs i ≡ Some item
+
+there-is : {X : Type 0} (xs : List X) (i : ℕ) → i < length xs → There xs i
+there-is [] i within = absurd (omega arith)
+there-is (x ∷ xs) zero within = record { item = x; there = refl }
+there-is (x ∷ xs) (suc i) within = let t = there-is xs i (omega arith) in record { item = t.item; there = t.there }
+
+-- what is left of the stepper's phase
+pub rest-is : (k : Task) (j : Job k) (i : ℕ) (phases : List (List Op)) (program : List Op) (phase index : ℕ) → phases ≡ k.decl.phases → program ≡ all-ops k.decl.phases → phase ≡ j.phase → index ≡ start_of k j + i →
+    drop index (take (ops_in_first (phase + 1) phases) program) ≡ drop i j.ops
+rest-is k j i phases program phase index a b c d = rw (a, b, c, d, add-one) (phase-rest k.decl.phases j.phase i j.ops j.there)
+
+works-next : {n : ℕ} (k : Task) (j : Job k) (i : ℕ) (t : Thread) → WorksAt k j i n t → Works k j (i + 1) n t.layout t.shape t.thread t.phases t.program t.phase (t.index + 1)
+works-next {n = n} k j i t works = record {
+  layout_is = works.layout_is;
+  shape_is = works.shape_is;
+  thread_is = works.thread_is;
+  phases_is = works.phases_is;
+  program_is = works.program_is;
+  phase_is = works.phase_is;
+  index_is = let h = works.index_is in omega arith;
+  begun_is = works.begun_is;
+}
+
 -- ---- plans begin
 
 -- the release of a reference begins
-pub drop-asks : (j : Job) (t : Thread) (held : Held) (now begin : List Made) → Works j t.layout t.shape t.thread t.program →
-    Starts (strong_down (extent_of j.shape) held.place) (here j t.index) begin now →
-    ((after : List Made) → Drops j.shape (here j t.index) (strong_to held.place) begin after → IsOver j t.index t.vars t.made after) → Stands j (drop_begun held t) now
-drop-asks j t held now begin works starts ends =
-    let same : record { layout = extent_of j.shape; slot = held.place; at = attempt.Start } ≡ drop_from t held = ap (λ (l : Extent). record { layout = l; slot = held.place; at = attempt.Start }) (sym works.layout_is) in
+pub drop-asks : {n : ℕ} (k : Task) (j : Job k) (i : ℕ) (t : Thread) (held : Held) (now begin : List Made) → WorksAt k j i n t → AreIn k.shape t.vars → held.place < k.shape.slots →
+    Starts (strong_down (extent_of k.shape) held.place held.hand) (here k j i) begin now →
+    ((after : List Made) → Drops k.shape (here k j i) (strong_to held.hand held.place) begin after → IsOver k j i t.vars t.made t.hands after) → Stands k n (drop_begun held t) now
+drop-asks {n = n} k j i t held now begin works vars within starts ends =
+    let same : record { layout = extent_of k.shape; slot = held.place; at = attempt.Start } ≡ drop_from t held = ap (λ (l : Extent). record { layout = l; slot = held.place; at = attempt.Start }) (sym works.layout_is) in
     record {
+      job = j;
+      at = i;
+      phases = n;
+      phased = refl;
       works = works;
+      vars_in = vars;
       up_to = record {
         base = begin;
         ends = ends;
-        waits = waits (strong_down (extent_of j.shape) held.place) (here j t.index) begin now _ _ (begun-from (strong_down (extent_of j.shape) held.place) (here j t.index) begin now (drop_from t held) starts same);
+        waits = waits (strong_down (extent_of k.shape) held.place held.hand) (here k j i) begin now _ _
+            (begun-from (strong_down (extent_of k.shape) held.place held.hand) (here k j i) begin now (drop_from t held) starts same);
+        within = within;
       };
     }
 
@@ -128,19 +249,19 @@ scope-skips {shape = shape} {point = point} {vars = vars} {b = b} {ns = ns} {v =
         step : (w < v) ⊎ (v ≤ w) → (v ≤ w → ScopeEnds shape point vars b w ns) → ScopeEnds shape point vars b (suc w) ns
         step (inl below) before = let same : v ≡ suc w = omega arith in subst (λ n. ScopeEnds shape point vars b n ns) same s
         step (inr above) before =
-            let Q : Option Reference → Type 0 = λ (o : Option Reference). Drops shape point o ns ns in
+            let Q : Option Holding → Type 0 = λ (o : Option Holding). Drops shape point o ns ns in
             let d : Drops shape point (operations.value vars w) ns ns = subst Q (sym (nils w above (omega arith))) drops_nothing in
             let one : ScopeEnds shape point vars b (w + 1) ns = scope_one (before above) d in
             rw (← add-one) one
 
-scopes : (j : Job) (t : Thread) (now : List Made) → Works j t.layout t.shape t.thread t.program → ltb t.index (length j.ops) ≡ false → IsInScope j t.vars now → Stands j (scope_begun t) now
-scopes j t now works past s = go (position is_held t.vars) refl
+scopes : {n : ℕ} (k : Task) (j : Job k) (i : ℕ) (t : Thread) (now : List Made) → WorksAt k j i n t → AreIn k.shape t.vars → ltb i (length j.ops) ≡ false → IsInScope k j t.vars now → Stands k n (scope_begun t) now
+scopes {n = n} k j i t now works vars past s = go (position is_held t.vars) refl
   where
-    point_is : here j t.index ≡ point_of j.thread 0 0
+    point_is : here k j i ≡ point_of k.thread j.phase 0
     point_is = rw past refl
 
-    held : (v : ℕ) (h : Held) → value t.vars v ≡ Some h → v < length t.vars → ((u : ℕ) → u < v → is_held (value t.vars u) ≡ false) → Stands j (drop_begun h (set_var v None t)) now
-    held v h e within before = drop-asks j (set_var v None t) h now now works starts_first (λ after x. rw past (over after x))
+    held : (v : ℕ) (h : Held) → value t.vars v ≡ Some h → v < length t.vars → ((u : ℕ) → u < v → is_held (value t.vars u) ≡ false) → Stands k n (drop_begun h (set_var v None t)) now
+    held v h e within before = drop-asks k j i (set_var v None t) h now now works (nil-in k.shape t.vars v vars) (held-in k.shape t.vars v h vars e) starts_first (λ after x. rw past (over after x))
       where
         above : s.below ≤ v
         above = at (cases_lt v s.below)
@@ -159,15 +280,16 @@ scopes j t now works past s = go (position is_held t.vars) refl
             at (inl lower) = let differ : u ≢ v = λ e. (let same : u ≡ v = e in omega arith) in get_or-set_other t.vars v u None None differ ∙ others u lower
             at (inr upper) = let same : u ≡ v = omega arith in rw same (get_or-set_same t.vars v None None within)
 
-        over : (after : List Made) → Drops j.shape (here j t.index) (strong_to h.place) now after → IsInScope j (set t.vars v None) after
+        over : (after : List Made) → Drops k.shape (here k j i) (strong_to h.hand h.place) now after → IsInScope k j (set t.vars v None) after
         over after x =
             let many : length (set t.vars v None) ≡ length t.vars = length-set t.vars v None in
-            let here_is : ScopeEnds j.shape (point_of j.thread 0 0) s.behind.vars s.worked v now =
+            let here_is : ScopeEnds k.shape (point_of k.thread j.phase 0) s.behind.vars s.worked v now =
             scope-skips s.ends v above (λ u from below. s.rest u from ∙ ap ref (others u below)) in
-            let value_is : operations.value s.behind.vars v ≡ strong_to h.place = s.rest v above ∙ ap ref e in
-            let P : Point → Type 0 = λ (p : Point). Drops j.shape p (strong_to h.place) now after in
-            let Q : Option Reference → Type 0 = λ (o : Option Reference). Drops j.shape (point_of j.thread 0 0) o now after in
+            let value_is : operations.value s.behind.vars v ≡ strong_to h.hand h.place = s.rest v above ∙ ap ref e in
+            let P : Point → Type 0 = λ (p : Point). Drops k.shape p (strong_to h.hand h.place) now after in
+            let Q : Option Holding → Type 0 = λ (o : Option Holding). Drops k.shape (point_of k.thread j.phase 0) o now after in
             record {
+              last = s.last;
               behind = s.behind;
               worked = s.worked;
               ops = s.ops;
@@ -179,12 +301,19 @@ scopes j t now works past s = go (position is_held t.vars) refl
               nils = nils;
             }
 
-    go : (o : Option ℕ) → position is_held t.vars ≡ o → Stands j (scope_at o t) now
+    go : (o : Option ℕ) → position is_held t.vars ≡ o → Stands k n (scope_at o t) now
     go None e = record {
+      job = j;
+      at = i;
+      phases = n;
+      phased = tt;
       works = works;
+      vars_in = vars;
       up_to = (
         refl,
         record {
+          job = j;
+          last = s.last;
           behind = s.behind;
           worked = s.worked;
           ops = s.ops;
@@ -197,152 +326,299 @@ scopes j t now works past s = go (position is_held t.vars) refl
         found : (v < length t.vars) × (is_held (get_or t.vars v None) ≡ true) × ((k : ℕ) → k < v → is_held (get_or t.vars k None) ≡ false)
         found = position-Some is_held t.vars v None e
 
-        at : (o : Option Held) → value t.vars v ≡ o → is_held o ≡ true → Stands j (scope_drop v o t) now
+        at : (o : Option Held) → value t.vars v ≡ o → is_held o ≡ true → Stands k n (scope_drop v o t) now
         at None f g = absurd (cc)
         at (Some h) f g = held v h f found.0 found.2
 
 -- ---- the next operation
 
--- the first operation of the rest that asks for a step begins, or the scope ends
-pub begins : (j : Job) → All IsServedOp j.ops → (rest : List Op) (t : Thread) (now : List Made) → Works j t.layout t.shape t.thread t.program →
-    rest ≡ drop t.index j.ops → AreDone j t.index (state_of t.vars t.made) now → Stands j (begun_at rest t) now
-begins j served [] t now works r d =
-    let least = done-within d in
-    let most : length j.ops ≤ t.index = nothing-left j.ops t.index r in
-    let past : ltb t.index (length j.ops) ≡ false = over_all (ltb t.index (length j.ops)) refl in
-    let at_end : t.index ≡ length j.ops = omega arith in
-    scopes j t now works past (record {
-      behind = state_of t.vars t.made;
-      worked = now;
-      ops = rw (← at_end) d;
-      count = length-map t.vars ref;
-      below = 0;
-      within = omega arith;
-      ends = scope_none;
-      rest = λ v from. value-ref t.vars v (value t.vars v) refl;
-      nils = λ v below. absurd (omega arith);
-    })
+-- the operations of the phase are done: the next phase is to begin, or the scope ends
+phase-ends : {n : ℕ} (k : Task) (j : Job k) (i : ℕ) (t : Thread) (now : List Made) → WorksAt k j i n t → AreIn k.shape t.vars → i ≡ length j.ops → AreDone k j i (state_of t.vars t.made t.hands) now →
+    Stands k n (phase_over t) now
+phase-ends {n = n} k j i t now works vars at_end d = go (ltb (t.phase + 1) (length t.phases)) refl
   where
-    over_all : (b : Bool) → ltb t.index (length j.ops) ≡ b → ltb t.index (length j.ops) ≡ false
-    over_all true e = let below = ltb-true t.index (length j.ops) e in let most : length j.ops ≤ t.index = nothing-left j.ops t.index r in absurd (omega arith)
-    over_all false e = e
-begins j served (op.New to class ∷ rest) t now works r d =
+    phases_are : t.phases ≡ k.decl.phases
+    phases_are = works.phases_is
+
+    done : AreDone k j (length j.ops) (state_of t.vars t.made t.hands) now
+    done = rw (← at_end) d
+
+    over : Thread
+    over = record t { doing = Ready; asked = moves.PhaseEnd; phase = t.phase + 1 }
+
+    next : There k.decl.phases (j.phase + 1) → Stands k n over now
+    next h =
+        let job : Job k = record { phase = j.phase + 1; ops = h.item; there = h.there; first = state_of t.vars t.made t.hands; base = now; before = phases_one j.before j.there done } in
+        let many : ops_in_first (suc j.phase) k.decl.phases ≡ ops_in_first j.phase k.decl.phases + length j.ops = phase-next k.decl.phases j.phase j.ops j.there in
+        let index : t.index ≡ ops_in_first j.phase k.decl.phases + i = works.index_is in
+        let next_start : ops_in_first (j.phase + 1) k.decl.phases ≡ ops_in_first j.phase k.decl.phases + length j.ops = rw add-one many in
+        record {
+          job = job;
+          at = 0;
+          phases = n + 1;
+          phased = refl;
+          works = record {
+            layout_is = works.layout_is;
+            shape_is = works.shape_is;
+            thread_is = works.thread_is;
+            phases_is = works.phases_is;
+            program_is = works.program_is;
+            phase_is = ap (λ (n : ℕ). n + 1) works.phase_is;
+            index_is = omega arith;
+            begun_is = ap (λ (m : ℕ). m + 1) works.begun_is;
+          };
+          vars_in = vars;
+          up_to = (refl, ops_none);
+        }
+
+    go : (b : Bool) → ltb (t.phase + 1) (length t.phases) ≡ b → Stands k n (cond b over (scope_begun t)) now
+    go true e =
+        let below = ltb-true (t.phase + 1) (length t.phases) e in
+        let same = works.phase_is in
+        let many : length t.phases ≡ length k.decl.phases = ap (λ (ps : List (List Op)). length ps) phases_are in
+        next (there-is k.decl.phases (j.phase + 1) (omega arith))
+    go false e =
+        let most = ltb-false (t.phase + 1) (length t.phases) e in
+        let same = works.phase_is in
+        let many : length t.phases ≡ length k.decl.phases = ap (λ (ps : List (List Op)). length ps) phases_are in
+        let within = slice_get_within k.decl.phases j.phase j.ops j.there in
+        let past : ltb i (length j.ops) ≡ false = over_all (ltb i (length j.ops)) refl in
+        scopes k j i t now works vars past (record {
+          last = omega arith;
+          behind = state_of t.vars t.made t.hands;
+          worked = now;
+          ops = done;
+          count = length-map t.vars ref;
+          below = 0;
+          within = omega arith;
+          ends = scope_none;
+          rest = λ v from. value-ref t.vars v (value t.vars v) refl;
+          nils = λ v below. absurd (omega arith);
+        })
+      where
+        over_all : (b : Bool) → ltb i (length j.ops) ≡ b → ltb i (length j.ops) ≡ false
+        over_all true e = let below = ltb-true i (length j.ops) e in absurd (omega arith)
+        over_all false e = e
+
+-- a nil reference makes the variable nil, and what that held is dropped
+nil-begins : {n : ℕ} (k : Task) (j : Job k) (i : ℕ) (t : Thread) (now : List Made) → WorksAt k j i n t → AreIn k.shape t.vars → i < length j.ops → (to : ℕ) →
+    ((old : Option Held) → value t.vars to ≡ old → (after : List Made) → Drops k.shape (here k j i) (ref old) now after → AreDone k j (i + 1) (state_of (set t.vars to None) t.made t.hands) after) →
+    (rest : Thread → Thread) → (AreDone k j (i + 1) (state_of t.vars t.made t.hands) now → Stands k n (rest (skipped answers.Nil t)) now) →
+    (old : Option Held) → value t.vars to ≡ old → Stands k n (begun_nil to old t rest) now
+nil-begins {n = n} k j i t now works vars within to done rest skip (Some old) e =
+    drop-asks k j i (set_var to None (put answers.Nil (record t { first = true }))) old now now works (nil-in k.shape t.vars to vars) (held-in k.shape t.vars to old vars e) starts_first
+    (λ after x. over-done k j i (set t.vars to None) t.made t.hands after within (done (Some old) e after x))
+nil-begins {n = n} k j i t now works vars within to done rest skip None e =
+    let same : set t.vars to None ≡ t.vars = ap (λ (o : Option Held). set t.vars to o) (sym e) ∙ set-get_or t.vars to None in
+    let Q : List (Option Held) → Type 0 = λ (vs : List (Option Held)). AreDone k j (i + 1) (state_of vs t.made t.hands) now in
+    skip (subst Q same (done None e now drops_nothing))
+
+-- the first operation of the rest that asks for a step begins, or the phase is over
+pub begins : {n : ℕ} (k : Task) (j : Job k) → All IsServedOp j.ops → (rest : List Op) (i : ℕ) (t : Thread) (now : List Made) → WorksAt k j i n t → AreIn k.shape t.vars →
+    rest ≡ drop i j.ops → AreDone k j i (state_of t.vars t.made t.hands) now → Stands k n (begun_at rest t) now
+begins {n = n} k j served [] i t now works vars r d =
+    let least = done-within d in
+    let most : length j.ops ≤ i = nothing-left j.ops i r in
+    phase-ends k j i t now works vars (omega arith) d
+begins {n = n} k j served (op.New to class ∷ rest) i t now works vars r d =
     let name : ObjectName = record { class = class; thread = t.thread; number = t.made + 1 } in
-    let same : record { layout = extent_of j.shape; name = name; at = search.Start } ≡ record { layout = t.layout; name = name; at = search.Start } =
+    let same : record { layout = extent_of k.shape; name = name; at = search.Start } ≡ record { layout = t.layout; name = name; at = search.Start } =
     ap (λ (l : Extent). record { layout = l; name = name; at = search.Start }) (sym works.layout_is) in
     record {
+      job = j;
+      at = i;
+      phases = n;
+      phased = refl;
       works = works;
+      vars_in = vars;
       up_to = record {
         base = now;
         before = t.made;
+        held = t.hands;
         done = d;
-        there = (get-drop j.ops rest t.index (op.New to class) r).0;
+        there = (get-drop j.ops rest i (op.New to class) r).0;
         named = rw works.thread_is refl;
-        waits = waits (new_object (extent_of j.shape) name) (here j t.index) now now _ _ (begun-from (new_object (extent_of j.shape) name) (here j t.index) now now (record { layout = t.layout; name = name; at = search.Start }) starts_first same);
-        count = (refl, refl);
+        waits = waits (new_object (extent_of k.shape) name (t.hands + 1)) (here k j i) now now _ _
+            (begun-from (new_object (extent_of k.shape) name (t.hands + 1)) (here k j i) now now (record { layout = t.layout; name = name; at = search.Start }) starts_first same);
+        count = (refl, refl, refl);
+        within = k.some_slot;
       };
     }
-begins j served (op.Copy to from ∷ rest) t now works r d = copying (value t.vars from) (value t.vars to) refl refl (λ e f.
-    begins j served rest (skipped t) now works (get-drop j.ops rest t.index (op.Copy to from) r).1 (stays e f))
+begins {n = n} k j served (op.Copy to from ∷ rest) i t now works vars r d = copying (value t.vars from) refl (λ e.
+    begins k j served rest (i + 1) (skipped answers.Nil t) now (works-next k j i t works) vars (get-drop j.ops rest i (op.Copy to from) r).1 e)
   where
-    there : slice_get j.ops t.index ≡ Some (op.Copy to from)
-    there = (get-drop j.ops rest t.index (op.Copy to from) r).0
+    there : slice_get j.ops i ≡ Some (op.Copy to from)
+    there = (get-drop j.ops rest i (op.Copy to from) r).0
 
-    within : t.index < length j.ops
-    within = slice_get_within j.ops t.index (op.Copy to from) there
-
-    nil_done : value t.vars from ≡ None → (old : Option Held) → value t.vars to ≡ old → (after : List Made) → Drops j.shape (here j t.index) (ref old) now after →
-        AreDone j (t.index + 1) (state_of (set t.vars to None) t.made) after
+    nil_done : value t.vars from ≡ None → (old : Option Held) → value t.vars to ≡ old → (after : List Made) → Drops k.shape (here k j i) (ref old) now after →
+        AreDone k j (i + 1) (state_of (set t.vars to None) t.made t.hands) after
     nil_done e old f after x =
-        let Q : Option Reference → Type 0 = λ (o : Option Reference). Drops j.shape (here j t.index) o now after in
-        op-done j t.index (op.Copy to from) (state_of t.vars t.made) (state_of (set t.vars to None) t.made) now after d there
-        (copies_nil (value-ref t.vars from None e) (subst Q (sym (value-ref t.vars to old f)) x) (ap (λ (vs : Variables). record { vars = vs; made = t.made }) (put-ref t.vars to None)))
+        let Q : Option Holding → Type 0 = λ (o : Option Holding). Drops k.shape (here k j i) o now after in
+        op-done k j i (op.Copy to from) (state_of t.vars t.made t.hands) (state_of (set t.vars to None) t.made t.hands) now after d there
+        (copies_nil (value-ref t.vars from None e) (subst Q (sym (value-ref t.vars to old f)) x) (ap (λ (vs : Variables). record { vars = vs; made = t.made; hands = t.hands }) (put-ref t.vars to None)))
 
-    stays : value t.vars from ≡ None → value t.vars to ≡ None → AreDone j (t.index + 1) (state_of t.vars t.made) now
-    stays e f =
-        let same : set t.vars to None ≡ t.vars = ap (λ (o : Option Held). set t.vars to o) (sym f) ∙ set-get_or t.vars to None in
-        let Q : List (Option Held) → Type 0 = λ (vs : List (Option Held)). AreDone j (t.index + 1) (state_of vs t.made) now in
-        subst Q same (nil_done e None f now drops_nothing)
-
-    copying : (source old : Option Held) → value t.vars from ≡ source → value t.vars to ≡ old →
-        (value t.vars from ≡ None → value t.vars to ≡ None → Stands j (begun_at rest (skipped t)) now) → Stands j (begun_copy to source old t (begun_at rest (skipped t))) now
-    copying (Some h) old e f skip =
-        let same : record { layout = extent_of j.shape; slot = h.place; cap = j.shape.caps.strong; at = attempt.Start } ≡ copy_from t h = rw (works.layout_is, works.shape_is) refl in
+    copying : (source : Option Held) → value t.vars from ≡ source → (AreDone k j (i + 1) (state_of t.vars t.made t.hands) now → Stands k n (begun_at rest (skipped answers.Nil t)) now) →
+        Stands k n (begun_copy to source (value t.vars to) t (λ (behind : Thread). begun_at rest behind)) now
+    copying (Some h) e skip =
+        let same : record { layout = extent_of k.shape; slot = h.place; cap = k.shape.caps.strong; at = attempt.Start } ≡ copy_from t h = rw (works.layout_is, works.shape_is) refl in
         record {
+          job = j;
+          at = i;
+          phases = n;
+          phased = refl;
           works = works;
+          vars_in = vars;
           up_to = record {
             base = now;
             from = from;
             done = d;
             there = there;
             source = e;
-            waits = waits (strong_up (extent_of j.shape) h.place j.shape.caps.strong) (here j t.index) now now _ _
-                (begun-from (strong_up (extent_of j.shape) h.place j.shape.caps.strong) (here j t.index) now now (copy_from t h) starts_first same);
+            waits = waits (strong_up (extent_of k.shape) h.place k.shape.caps.strong h.hand (t.hands + 1)) (here k j i) now now _ _
+                (begun-from (strong_up (extent_of k.shape) h.place k.shape.caps.strong h.hand (t.hands + 1)) (here k j i) now now (copy_from t h) starts_first same);
+            within = held-in k.shape t.vars from h vars e;
           };
         }
-    copying None (Some old) e f skip =
-        drop-asks j (set_var to None (put answers.Nil (record t { first = true }))) old now now works starts_first
-        (λ after x. over-done j t.index (set t.vars to None) t.made after within (nil_done e (Some old) f after x))
-    copying None None e f skip = skip e f
-begins j served (op.Drop v ∷ rest) t now works r d = dropping (value t.vars v) refl (λ e.
-    begins j served rest (skipped t) now works (get-drop j.ops rest t.index (op.Drop v) r).1 (stays e))
+    copying None e skip =
+        nil-begins k j i t now works vars (slice_get_within j.ops i (op.Copy to from) there) to (nil_done e) (λ (behind : Thread). begun_at rest behind) skip (value t.vars to) refl
+begins {n = n} k j served (op.Move to from ∷ rest) i t now works vars r d = moving (value t.vars from) refl (λ e.
+    begins k j served rest (i + 1) (skipped answers.Nil t) now (works-next k j i t works) vars (get-drop j.ops rest i (op.Move to from) r).1 e) (λ h e x.
+    begins k j served rest (i + 1) (moved to from h (skipped answers.Ok t)) now (works-next k j i t works) (moved-in h e) (get-drop j.ops rest i (op.Move to from) r).1 x)
   where
-    there : slice_get j.ops t.index ≡ Some (op.Drop v)
-    there = (get-drop j.ops rest t.index (op.Drop v) r).0
+    there : slice_get j.ops i ≡ Some (op.Move to from)
+    there = (get-drop j.ops rest i (op.Move to from) r).0
 
-    within : t.index < length j.ops
-    within = slice_get_within j.ops t.index (op.Drop v) there
+    within : i < length j.ops
+    within = slice_get_within j.ops i (op.Move to from) there
 
-    dropped : (old : Option Held) → value t.vars v ≡ old → (after : List Made) → Drops j.shape (here j t.index) (ref old) now after →
-        AreDone j (t.index + 1) (state_of (set t.vars v None) t.made) after
+    moved-in : (h : Held) → value t.vars from ≡ Some h → AreIn k.shape (set (set t.vars to (Some h)) from None)
+    moved-in h e = nil-in k.shape (set t.vars to (Some h)) from (one-in k.shape t.vars to h (held-in k.shape t.vars from h vars e) vars)
+
+    nil_done : value t.vars from ≡ None → (old : Option Held) → value t.vars to ≡ old → (after : List Made) → Drops k.shape (here k j i) (ref old) now after →
+        AreDone k j (i + 1) (state_of (set t.vars to None) t.made t.hands) after
+    nil_done e old f after x =
+        let Q : Option Holding → Type 0 = λ (o : Option Holding). Drops k.shape (here k j i) o now after in
+        op-done k j i (op.Move to from) (state_of t.vars t.made t.hands) (state_of (set t.vars to None) t.made t.hands) now after d there
+        (moves_nil (value-ref t.vars from None e) (subst Q (sym (value-ref t.vars to old f)) x) (ap (λ (vs : Variables). record { vars = vs; made = t.made; hands = t.hands }) (put-ref t.vars to None)))
+
+    moved_done : (h : Held) → value t.vars from ≡ Some h → (old : Option Held) → value t.vars to ≡ old → (after : List Made) → Drops k.shape (here k j i) (ref old) now after →
+        AreDone k j (i + 1) (state_of (set (set t.vars to (Some h)) from None) t.made t.hands) after
+    moved_done h e old f after x =
+        let Q : Option Holding → Type 0 = λ (o : Option Holding). Drops k.shape (here k j i) o now after in
+        let vars_are : refs (set (set t.vars to (Some h)) from None) ≡ operations.put (operations.put (refs t.vars) to (ref (Some h))) from None =
+        put-ref (set t.vars to (Some h)) from None ∙ ap (λ (vs : Variables). operations.put vs from None) (put-ref t.vars to (Some h)) in
+        op-done k j i (op.Move to from) (state_of t.vars t.made t.hands) (state_of (set (set t.vars to (Some h)) from None) t.made t.hands) now after d there
+        (does_move (value-ref t.vars from (Some h) e) (subst Q (sym (value-ref t.vars to old f)) x) (ap (λ (vs : Variables). record { vars = vs; made = t.made; hands = t.hands }) vars_are))
+
+    moving : (source : Option Held) → value t.vars from ≡ source → (AreDone k j (i + 1) (state_of t.vars t.made t.hands) now → Stands k n (begun_at rest (skipped answers.Nil t)) now) →
+        ((h : Held) → value t.vars from ≡ Some h → AreDone k j (i + 1) (state_of (set (set t.vars to (Some h)) from None) t.made t.hands) now → Stands k n (begun_at rest (moved to from h (skipped answers.Ok t))) now) →
+        Stands k n (begun_move to from source (value t.vars to) t (λ (behind : Thread). begun_at rest behind)) now
+    moving None e skip on = nil-begins k j i t now works vars within to (nil_done e) (λ (behind : Thread). begun_at rest behind) skip (value t.vars to) refl
+    moving (Some h) e skip on = dropping (value t.vars to) refl
+      where
+        dropping : (old : Option Held) → value t.vars to ≡ old → Stands k n (begun_move to from (Some h) old t (λ (behind : Thread). begun_at rest behind)) now
+        dropping None f = on h e (moved_done h e None f now drops_nothing)
+        dropping (Some old) f =
+            drop-asks k j i (moved to from h (put answers.Ok (record t { first = true }))) old now now works (moved-in h e) (held-in k.shape t.vars to old vars f) starts_first
+            (λ after x. over-done k j i (set (set t.vars to (Some h)) from None) t.made t.hands after within (moved_done h e (Some old) f after x))
+begins {n = n} k j served (op.Drop v ∷ rest) i t now works vars r d = dropping (value t.vars v) refl (λ e.
+    begins k j served rest (i + 1) (skipped answers.Nil t) now (works-next k j i t works) vars (get-drop j.ops rest i (op.Drop v) r).1 (stays e))
+  where
+    there : slice_get j.ops i ≡ Some (op.Drop v)
+    there = (get-drop j.ops rest i (op.Drop v) r).0
+
+    within : i < length j.ops
+    within = slice_get_within j.ops i (op.Drop v) there
+
+    dropped : (old : Option Held) → value t.vars v ≡ old → (after : List Made) → Drops k.shape (here k j i) (ref old) now after →
+        AreDone k j (i + 1) (state_of (set t.vars v None) t.made t.hands) after
     dropped old f after x =
-        let Q : Option Reference → Type 0 = λ (o : Option Reference). Drops j.shape (here j t.index) o now after in
-        op-done j t.index (op.Drop v) (state_of t.vars t.made) (state_of (set t.vars v None) t.made) now after d there
-        (does_drop (subst Q (sym (value-ref t.vars v old f)) x) (ap (λ (vs : Variables). record { vars = vs; made = t.made }) (put-ref t.vars v None)))
+        let Q : Option Holding → Type 0 = λ (o : Option Holding). Drops k.shape (here k j i) o now after in
+        op-done k j i (op.Drop v) (state_of t.vars t.made t.hands) (state_of (set t.vars v None) t.made t.hands) now after d there
+        (does_drop (subst Q (sym (value-ref t.vars v old f)) x) (ap (λ (vs : Variables). record { vars = vs; made = t.made; hands = t.hands }) (put-ref t.vars v None)))
 
-    stays : value t.vars v ≡ None → AreDone j (t.index + 1) (state_of t.vars t.made) now
+    stays : value t.vars v ≡ None → AreDone k j (i + 1) (state_of t.vars t.made t.hands) now
     stays f =
         let same : set t.vars v None ≡ t.vars = ap (λ (o : Option Held). set t.vars v o) (sym f) ∙ set-get_or t.vars v None in
-        let Q : List (Option Held) → Type 0 = λ (vs : List (Option Held)). AreDone j (t.index + 1) (state_of vs t.made) now in
+        let Q : List (Option Held) → Type 0 = λ (vs : List (Option Held)). AreDone k j (i + 1) (state_of vs t.made t.hands) now in
         subst Q same (dropped None f now drops_nothing)
 
-    dropping : (old : Option Held) → value t.vars v ≡ old → (value t.vars v ≡ None → Stands j (begun_at rest (skipped t)) now) → Stands j (begun_drop v old t (begun_at rest (skipped t))) now
+    dropping : (old : Option Held) → value t.vars v ≡ old → (value t.vars v ≡ None → Stands k n (begun_at rest (skipped answers.Nil t)) now) →
+        Stands k n (begun_drop v old t (λ (behind : Thread). begun_at rest behind)) now
     dropping (Some old) e skip =
-        drop-asks j (set_var v None (put answers.Ok (record t { first = true }))) old now now works starts_first
-        (λ after x. over-done j t.index (set t.vars v None) t.made after within (dropped (Some old) e after x))
+        drop-asks k j i (set_var v None (put answers.Ok (record t { first = true }))) old now now works (nil-in k.shape t.vars v vars) (held-in k.shape t.vars v old vars e) starts_first
+        (λ after x. over-done k j i (set t.vars v None) t.made t.hands after within (dropped (Some old) e after x))
     dropping None e skip = skip e
-begins j served (op.Move to from ∷ rest) t now works r d = absurd (served-at j.ops t.index (op.Move to from) served (get-drop j.ops rest t.index (op.Move to from) r).0)
-begins j served (op.Unown to of ∷ rest) t now works r d = absurd (served-at j.ops t.index (op.Unown to of) served (get-drop j.ops rest t.index (op.Unown to of) r).0)
-begins j served (op.Weak to of ∷ rest) t now works r d = absurd (served-at j.ops t.index (op.Weak to of) served (get-drop j.ops rest t.index (op.Weak to of) r).0)
-begins j served (op.Load to of ∷ rest) t now works r d = absurd (served-at j.ops t.index (op.Load to of) served (get-drop j.ops rest t.index (op.Load to of) r).0)
-begins j served (op.Get to cell ∷ rest) t now works r d = absurd (served-at j.ops t.index (op.Get to cell) served (get-drop j.ops rest t.index (op.Get to cell) r).0)
-begins j served (op.Set cell from ∷ rest) t now works r d = absurd (served-at j.ops t.index (op.Set cell from) served (get-drop j.ops rest t.index (op.Set cell from) r).0)
+begins {n = n} k j served (op.Unown to of ∷ rest) i t now works vars r d = absurd (served-at j.ops i (op.Unown to of) served (get-drop j.ops rest i (op.Unown to of) r).0)
+begins {n = n} k j served (op.Weak to of ∷ rest) i t now works vars r d = absurd (served-at j.ops i (op.Weak to of) served (get-drop j.ops rest i (op.Weak to of) r).0)
+begins {n = n} k j served (op.Load to of ∷ rest) i t now works vars r d = absurd (served-at j.ops i (op.Load to of) served (get-drop j.ops rest i (op.Load to of) r).0)
+begins {n = n} k j served (op.Get to cell ∷ rest) i t now works vars r d = absurd (served-at j.ops i (op.Get to cell) served (get-drop j.ops rest i (op.Get to cell) r).0)
+begins {n = n} k j served (op.Set cell from ∷ rest) i t now works vars r d = absurd (served-at j.ops i (op.Set cell from) served (get-drop j.ops rest i (op.Set cell from) r).0)
 
--- what was under way is over
-pub goes-on : (j : Job) → All IsServedOp j.ops → (t : Thread) (now : List Made) → Works j t.layout t.shape t.thread t.program → IsOver j t.index t.vars t.made now → Stands j (next_op t) now
-goes-on j served t now works over =
-    let P : List Op → Type 0 = λ (p : List Op). Stands j (begun (record t { doing = Ended; index = cond (ltb t.index (length p)) (t.index + 1) t.index })) now in
-    subst P (sym works.program_is) (go (ltb t.index (length j.ops)) refl over)
+-- ---- what was under way is over
+
+-- where the stepper is in its program
+program-many : {n : ℕ} (k : Task) (j : Job k) (i : ℕ) (t : Thread) → WorksAt k j i n t → i < length j.ops → ltb t.index (length t.program) ≡ true
+program-many {n = n} k j i t works within =
+    let next = phase-next k.decl.phases j.phase j.ops j.there in
+    let few = phase-few k.decl.phases (suc j.phase) in
+    let many : length t.program ≡ length (all-ops k.decl.phases) = ap (λ (os : List Op). length os) works.program_is in
+    let index : t.index ≡ ops_in_first j.phase k.decl.phases + i = works.index_is in
+    lt-ltb t.index (length t.program) (omega arith)
+
+program-over : {n : ℕ} (k : Task) (j : Job k) (i : ℕ) (t : Thread) → WorksAt k j i n t → length j.ops ≤ i → j.phase + 1 ≡ length k.decl.phases → ltb t.index (length t.program) ≡ false
+program-over {n = n} k j i t works most last = go (ltb t.index (length t.program)) refl
   where
-    go : (b : Bool) → ltb t.index (length j.ops) ≡ b → IsOverIf b j t.index t.vars t.made now → Stands j (begun (record t { doing = Ended; index = cond b (t.index + 1) t.index })) now
-    go true e over = begins j served (drop (t.index + 1) t.program) (record t { doing = Ended; index = t.index + 1 }) now works (ap (λ (p : List Op). drop (t.index + 1) p) works.program_is) over
+    go : (b : Bool) → ltb t.index (length t.program) ≡ b → ltb t.index (length t.program) ≡ false
+    go false e = e
+    go true e =
+        let below = ltb-true t.index (length t.program) e in
+        let next = phase-next k.decl.phases j.phase j.ops j.there in
+        let whole = phase-last k.decl.phases (suc j.phase) (omega arith) in
+        let many : length t.program ≡ length (all-ops k.decl.phases) = ap (λ (os : List Op). length os) works.program_is in
+        let index : t.index ≡ ops_in_first j.phase k.decl.phases + i = works.index_is in
+        absurd (omega arith)
+
+pub goes-on : {n : ℕ} (k : Task) (j : Job k) → All IsServedOp j.ops → (i : ℕ) (t : Thread) (now : List Made) → WorksAt k j i n t → AreIn k.shape t.vars → IsOver k j i t.vars t.made t.hands now → Stands k n (next_op t) now
+goes-on {n = n} k j served i t now works vars over = go (ltb i (length j.ops)) refl over
+  where
+    At : Bool → Type 0
+    At b = Stands k n (begun (record t { doing = Ended; index = cond b (t.index + 1) t.index })) now
+
+    go : (b : Bool) → ltb i (length j.ops) ≡ b → IsOverIf b k j i t.vars t.made t.hands now → Stands k n (next_op t) now
+    go true e over =
+        let rest : drop (t.index + 1) (take (ops_in_first (t.phase + 1) t.phases) t.program) ≡ drop (i + 1) j.ops =
+        rest-is k j (i + 1) t.phases t.program t.phase (t.index + 1) works.phases_is works.program_is works.phase_is (works-next k j i t works).index_is in
+        subst At (sym (program-many k j i t works (ltb-true i (length j.ops) e)))
+        (begins k j served (drop (t.index + 1) (take (ops_in_first (t.phase + 1) t.phases) t.program)) (i + 1) (record t { doing = Ended; index = t.index + 1 }) now (works-next k j i t works) vars rest over)
     go false e over =
-        let past = ltb-false t.index (length j.ops) e in
-        let none : drop t.index t.program ≡ [] = ap (λ (p : List Op). drop t.index p) works.program_is ∙ drop_all t.index j.ops past in
-        let Q : List Op → Type 0 = λ (rest : List Op). Stands j (begun_at rest (record t { doing = Ended; index = t.index })) now in
-        subst Q (sym none) (scopes j (record t { doing = Ended; index = t.index }) now works e over)
+        let past = ltb-false i (length j.ops) e in
+        let rest : drop t.index (take (ops_in_first (t.phase + 1) t.phases) t.program) ≡ drop i j.ops = rest-is k j i t.phases t.program t.phase t.index works.phases_is works.program_is works.phase_is works.index_is in
+        let none : drop i j.ops ≡ [] = drop_all i j.ops past in
+        let last : j.phase + 1 ≡ length k.decl.phases = over.last in
+        let same : t.phase ≡ j.phase = works.phase_is in
+        let many : length t.phases ≡ length k.decl.phases = ap (λ (ps : List (List Op)). length ps) works.phases_is in
+        let Q : List Op → Type 0 = λ (os : List Op). Stands k n (begun_at os (record t { doing = Ended; index = t.index })) now in
+        let R : Bool → Type 0 = λ (b : Bool). Stands k n (cond b (record t { doing = Ready; asked = moves.PhaseEnd; phase = t.phase + 1; index = t.index }) (scope_begun (record t { doing = Ended; index = t.index }))) now in
+        let no_more : ltb (t.phase + 1) (length t.phases) ≡ false = not_below (ltb (t.phase + 1) (length t.phases)) refl (omega arith) in
+        subst At (sym (program-over k j i t works past last))
+        (subst Q (sym (rest ∙ none)) (subst R (sym no_more) (scopes k j i (record t { doing = Ended; index = t.index }) now works vars e over)))
+      where
+        not_below : (b : Bool) → ltb (t.phase + 1) (length t.phases) ≡ b → length t.phases ≤ t.phase + 1 → ltb (t.phase + 1) (length t.phases) ≡ false
+        not_below false e most = e
+        not_below true e most = let below = ltb-true (t.phase + 1) (length t.phases) e in absurd (omega arith)
 
 -- the destination has its new reference, and what it held is dropped last
-pub replaces : (j : Job) → All IsServedOp j.ops → (t : Thread) (to : ℕ) (held : Held) (now : List Made) → Works j t.layout t.shape t.thread t.program → t.index < length j.ops →
-    ((after : List Made) → Drops j.shape (here j t.index) (operations.value (refs t.vars) to) now after → AreDone j (t.index + 1) (state_of (set t.vars to (Some held)) t.made) after) →
-    Stands j (replaced to held t) now
-replaces j served t to held now works within ends = go (value t.vars to) refl
+pub replaces : {n : ℕ} (k : Task) (j : Job k) → All IsServedOp j.ops → (i : ℕ) (t : Thread) (to : ℕ) (held : Held) (now : List Made) → WorksAt k j i n t → AreIn k.shape t.vars → held.place < k.shape.slots → i < length j.ops →
+    ((after : List Made) → Drops k.shape (here k j i) (operations.value (refs t.vars) to) now after → AreDone k j (i + 1) (state_of (set t.vars to (Some held)) t.made t.hands) after) →
+    Stands k n (replaced to held t) now
+replaces {n = n} k j served i t to held now works vars inside within ends = go (value t.vars to) refl
   where
-    over : (o : Option Held) → value t.vars to ≡ o → (after : List Made) → Drops j.shape (here j t.index) (ref o) now after → IsOver j t.index (set t.vars to (Some held)) t.made after
+    over : (o : Option Held) → value t.vars to ≡ o → (after : List Made) → Drops k.shape (here k j i) (ref o) now after → IsOver k j i (set t.vars to (Some held)) t.made t.hands after
     over o e after x =
-        let Q : Option Reference → Type 0 = λ (r : Option Reference). Drops j.shape (here j t.index) r now after in
-        over-done j t.index (set t.vars to (Some held)) t.made after within (ends after (subst Q (sym (value-ref t.vars to o e)) x))
+        let Q : Option Holding → Type 0 = λ (r : Option Holding). Drops k.shape (here k j i) r now after in
+        over-done k j i (set t.vars to (Some held)) t.made t.hands after within (ends after (subst Q (sym (value-ref t.vars to o e)) x))
 
-    go : (o : Option Held) → value t.vars to ≡ o → Stands j (replaced_old o (set_var to (Some held) t)) now
-    go None e = goes-on j served (set_var to (Some held) t) now works (over None e now drops_nothing)
-    go (Some old) e = drop-asks j (set_var to (Some held) t) old now now works starts_first (over (Some old) e)
+    go : (o : Option Held) → value t.vars to ≡ o → Stands k n (replaced_old o (set_var to (Some held) t)) now
+    go None e = goes-on k j served i (set_var to (Some held) t) now works (one-in k.shape t.vars to held inside vars) (over None e now drops_nothing)
+    go (Some old) e = drop-asks k j i (set_var to (Some held) t) old now now works (one-in k.shape t.vars to held inside vars) (held-in k.shape t.vars to old vars e) starts_first (over (Some old) e)

@@ -1,6 +1,6 @@
 -- Each word that a stepper is given keeps what it stands for, with the step that found it.
-use Rattle.std.proofs.Common.{◌≡◌, ℕ, zero, suc, ◌+◌, ◌<◌, Bool, true, false, cond, eqb, ltb, List, [], ◌∷◌, length, drop, set, get_or, Option, Some, None, refl, ap, subst, arith}
-use Rattle.std.proofs.lemmas.Bool.{eqb-true}
+use Rattle.std.proofs.Common.{◌≡◌, ℕ, zero, suc, ◌+◌, ◌<◌, Bool, true, false, cond, eqb, ltb, List, [], ◌∷◌, length, take, drop, set, get_or, Option, Some, None, refl, sym, ap, subst, ◌∙◌, arith}
+use Rattle.std.proofs.lemmas.Bool.{eqb-true, ltb-true}
 use Rattle.std.proofs.lemmas.Option.{slice_get_within}
 use Rattle.std.proofs.lemmas.List.Elements.{recursion_from_All}
 use Rattle.std.specs.Prelude.{All}
@@ -16,6 +16,7 @@ use Rattle.arc_model.specs.declared.event.Act.{Act}
 use Rattle.arc_model.specs.declared.event.Act.TheVariants as acts
 use Rattle.arc_model.specs.declared.shape.RefShape.{RefShape}
 use Rattle.arc_model.specs.Shapes.{HeapShape}
+use Rattle.arc_rule.specs.Extents.{Extent}
 use Rattle.arc_rule.specs.Isa.{isa_name_of}
 use Rattle.arc_rule.specs.Places.{number, extent_of}
 use Rattle.arc_rule.specs.declared.layout.Place.TheVariants.{Count, Next as NextPlace}
@@ -41,24 +42,27 @@ use Rattle.arc_plan.specs.Unowned.{unowned_down_row, unowned_down_end, unowned_d
 use Rattle.arc_plan.specs.Slots.{Creation, OneStep, creation_turned, creation_answer, making_turned, making_answer, naming, trial, one_turned, vacate_answer}
 use Rattle.arc_cells.specs.declared.cascade.At.{At as CascadeAt}
 use Rattle.arc_cells.specs.declared.cascade.At.TheVariants as at
+use Rattle.arc_cells.specs.declared.cascade.CascadeNext.{CascadeNext}
 use Rattle.arc_cells.specs.Cascades.{HasNoFields, CascadeState, IsInline, IsInlineAt, IsInlineAnswer, cascade_turned, cascade_answer, cascade_takes, finish_from, vacate_from, finish_turned, finish_says, vacated, vacate_says, turned_at as cascade_turned_at, answer_at as cascade_answer_at, takes_at as cascade_takes_at}
-use Rattle.arc_script.specs.declared.script.Op.{Op}
 use Rattle.arc_script.specs.declared.script.Op.TheVariants as op
 use Rattle.arc_ops.specs.declared.stepper.Held.{Held}
 use Rattle.arc_ops.specs.declared.stepper.Doing.{Doing}
 use Rattle.arc_ops.specs.declared.stepper.Doing.TheVariants.{Ready, Making, Copying, Dropping, Dying, Ended}
+use Rattle.arc_ops.specs.declared.stepper.Move.TheVariants as moves
 use Rattle.arc_ops.specs.Served.{IsServedOp}
-use Rattle.arc_ops.specs.Thread.{Thread, put, made_on, copied_on, copy_from, dropped_on, dying_on, IsUpWord, IsUpWordAt, IsUpAnswer, IsDownAnswer, turned_at, turned, takes_at, takes}
+use Rattle.arc_ops.specs.Thread.{Thread, put, made_on, copied_on, copy_from, dropped_on, dying_on, phase_end, IsUpWord, IsUpWordAt, IsUpAnswer, IsDownAnswer, turned_at, turned, takes_at, takes}
 use Rattle.arc_schedule.specs.Made.{Point, Made, made_at}
-use Rattle.arc_schedule.specs.Plans.{Plan, new_object, strong_up, strong_down, unowned_down, vacate}
+use Rattle.arc_schedule.specs.Plans.{Plan, Reaches, Gives, new_object, strong_up, strong_down, finish, vacate, making_tells, told_by, up_told, down_told, finish_told, vacate_told}
+use Rattle.arc_schedule.specs.Plans.Reaches.{starts as reaches_start, makes as reaches_next}
 use Rattle.arc_schedule.specs.Plans.Starts.{first as starts_first}
-use Rattle.arc_schedule.specs.Operations.{Variables, loads, FieldsDone}
+use Rattle.arc_schedule.specs.Operations.{Variables, next_name, loads, FieldsDone}
 use Rattle.arc_schedule.specs.Operations.FieldsDone.{entered}
 use Rattle.arc_schedule.specs.Operations.IsCascade.{more as cascade_more, last as cascade_last}
 use Rattle.arc_schedule.specs.Operations.Drops.{more as drops_more, last as drops_last}
 use Rattle.arc_schedule.specs.Operations.Does.{makes as does_make, full as does_full, copies as does_copy}
-use Rattle.arc_schedule.proofs.Stands.{Gave, waits, begun-from, some-is, given, gives, starts-again, Job, state_of, AreDone, here, MadeUpTo, IsMaking, IsCopying, IsDropping, AllDone, IsFinishing, IsVacating, CascadeUpTo, IsDying, step_in, UpTo, Works, Stands}
-use Rattle.arc_schedule.proofs.Begins.{value-ref, put-ref, over-done, op-done, drop-asks, begins, goes-on, replaces}
+use Rattle.arc_schedule.proofs.Stands.{Gave, waits, begun-from, some-is, given, gives, starts-again, Waits, Task, Job, state_of, here, MadeUpTo, IsMaking, IsCopying, IsDropping, AllDone, IsFinishing, IsVacating, CascadeUpTo, IsDying, step_in, UpTo, WorksAt, AreIn, IsIn, Stands}
+use Rattle.arc_schedule.proofs.Begins.{value-ref, put-ref, over-done, op-done, drop-asks, rest-is, begins, goes-on, replaces}
+use Rattle.arc_schedule.proofs.Tells.{idle, makes-tells, copies-tells, drops-tells, finish-tells, vacates-tells}
 
 -- ---- which answers the words allow
 
@@ -142,142 +146,181 @@ less-answer p w fits = go p.at fits
 
 -- ---- an object is made
 
-abbrev idle : Thread → Thread
-idle t = record t { doing = Ended; first = false; event = None }
+pub creation-layout : (l : Extent) (name : ObjectName) (hand : ℕ) {point : Point} {b ns : List Made} {p : Creation} {last : Option ℕ} → Reaches (new_object l name hand) point b p last ns → p.layout ≡ l
+creation-layout l name hand reaches_start = refl
+creation-layout l name hand (reaches_next r e) = creation-layout l name hand r
 
-makes : (j : Job) → All IsServedOp j.ops → (t : Thread) (s : Step) (w : ℕ) (now : List Made) → Works j t.layout t.shape t.thread t.program →
-    (to : ℕ) (name : ObjectName) (slot : ℕ) (plan : Creation) → IsMaking j t.index to name slot plan t.vars t.made (Some s) now →
-    Stands j (made_on to name slot (creation_turned plan (Some w)) (creation_answer plan (Some w)) (idle t)) (made_at (here j t.index) s w ∷ now)
-makes j served t s w now works to name slot plan u =
-    go plan.at u.count (given (new_object (extent_of j.shape) name) (here j t.index) u.base now plan s w u.waits)
+making-layout : (l : Extent) (name : ObjectName) (hand : ℕ) {point : Point} {b ns : List Made} {p : Creation} {asked : Option Step} → Waits (new_object l name hand) point b ns p asked → p.layout ≡ l
+making-layout l name hand w = sym (ap (λ (q : Creation). q.layout) w.gave.turned) ∙ creation-layout l name hand w.gave.reaches
+
+makes : {n : ℕ} (k : Task) (j : Job k) → All IsServedOp j.ops → (i : ℕ) (t : Thread) (s : Step) (w : ℕ) (now : List Made) → WorksAt k j i n t → AreIn k.shape t.vars →
+    (to : ℕ) (name : ObjectName) (slot : ℕ) (plan : Creation) (u : IsMaking k j i to name slot plan t.vars t.made t.hands (Some s) now) →
+    Stands k n (made_on to name slot (creation_turned plan (Some w)) (creation_answer plan (Some w)) (idle t)) (made_at (here k j i) s w (making_tells k.shape.slots (u.held + 1) name.class plan.at w) ∷ now)
+makes {n = n} k j served i t s w now works vars to name slot plan u =
+    go plan.at u.count (given (new_object (extent_of k.shape) name (u.held + 1)) (here k j i) u.base now plan s w u.waits)
   where
     after : List Made
-    after = made_at (here j t.index) s w ∷ now
+    after = made_at (here k j i) s w (making_tells k.shape.slots (u.held + 1) name.class plan.at w) ∷ now
 
-    within : t.index < length j.ops
-    within = slice_get_within j.ops t.index (op.New to name.class) u.there
+    within : i < length j.ops
+    within = slice_get_within j.ops i (op.New to name.class) u.there
+
+    slots_are : plan.layout.slots ≡ k.shape.slots
+    slots_are = ap (λ (l : Extent). l.slots) (making-layout (extent_of k.shape) name (u.held + 1) u.waits)
 
     -- the plan as it is then
     GaveAt : Search → Next NewObjectAnswer → Type 0
-    GaveAt a n = Gave (new_object (extent_of j.shape) name) (here j t.index) u.base after n (record plan { at = a })
+    GaveAt a n = Gave (new_object (extent_of k.shape) name (u.held + 1)) (here k j i) u.base after n (record plan { at = a })
 
-    tried : (x : ℕ) (b c : Bool) → t.made ≡ u.before → x ≡ slot → GaveAt (cond b (search.Naming x) (cond c (search.Trying (x + 1)) search.Ended))
+    named : {a : NewObjectAnswer} → Gives (new_object (extent_of k.shape) name (u.held + 1)) (here k j i) u.base a after →
+        Gives (new_object (extent_of k.shape) (next_name (here k j i) (state_of t.vars u.before u.held) name.class) (u.held + 1)) (here k j i) u.base a after
+    named {a} g =
+        let Q : ObjectName → Type 0 = λ (n : ObjectName). Gives (new_object (extent_of k.shape) n (u.held + 1)) (here k j i) u.base a after in
+        subst Q u.named g
+
+    tried : (x : ℕ) (b c : Bool) → ltb (x + 1) plan.layout.slots ≡ c → t.made ≡ u.before → t.hands ≡ u.held → x ≡ slot → GaveAt (cond b (search.Naming x) (cond c (search.Trying (x + 1)) search.Ended))
         (cond b (nexts.Step (naming plan.layout plan.name x)) (cond c (nexts.Step (trial plan.layout (x + 1))) (nexts.Done NoSlot))) →
-        Stands j (made_on to name slot (record plan { at = cond b (search.Naming x) (cond c (search.Trying (x + 1)) search.Ended) })
+        Stands k n (made_on to name slot (record plan { at = cond b (search.Naming x) (cond c (search.Trying (x + 1)) search.Ended) })
         (cond b (nexts.Step (naming plan.layout plan.name x)) (cond c (nexts.Step (trial plan.layout (x + 1))) (nexts.Done NoSlot))) (idle t)) after
-    tried x true c count here_is g = record {
+    tried x true c more count hands here_is g = record {
+      job = j;
+      at = i;
+      phases = n;
+      phased = refl;
       works = works;
+      vars_in = vars;
       up_to = record {
         base = u.base;
         before = u.before;
+        held = u.held;
         done = u.done;
         there = u.there;
         named = u.named;
-        waits = waits (new_object (extent_of j.shape) name) (here j t.index) u.base after _ _ g;
-        count = (ap (λ (n : ℕ). n + 1) count, here_is);
+        waits = waits (new_object (extent_of k.shape) name (u.held + 1)) (here k j i) u.base after _ _ g;
+        count = (ap (λ (n : ℕ). n + 1) count, ap (λ (n : ℕ). n + 1) hands, here_is);
+        within = u.within;
       };
     }
-    tried x false true count here_is g = record {
+    tried x false true more count hands here_is g = record {
+      job = j;
+      at = i;
+      phases = n;
+      phased = refl;
       works = works;
+      vars_in = vars;
       up_to = record {
         base = u.base;
         before = u.before;
+        held = u.held;
         done = u.done;
         there = u.there;
         named = u.named;
-        waits = waits (new_object (extent_of j.shape) name) (here j t.index) u.base after _ _ g;
-        count = (count, ap (λ (n : ℕ). n + 1) here_is);
+        waits = waits (new_object (extent_of k.shape) name (u.held + 1)) (here k j i) u.base after _ _ g;
+        count = (count, hands, ap (λ (n : ℕ). n + 1) here_is);
+        within = let below = ltb-true (x + 1) plan.layout.slots more in let many = slots_are in omega arith;
       };
     }
-    tried x false false count here_is g =
-        goes-on j served (put answers.Full (record (idle t) { event = Some acts.Full })) after works
-        (over-done j t.index t.vars t.made after within
-        (op-done j t.index (op.New to name.class) (state_of t.vars u.before) (state_of t.vars t.made) u.base after u.done u.there
-        (does_full u.named (gives (new_object (extent_of j.shape) name) (here j t.index) u.base after _ NoSlot refl g) (ap (λ (n : ℕ). state_of t.vars n) count))))
+    tried x false false more count hands here_is g =
+        goes-on k j served i (put answers.Full (record (idle t) { event = Some acts.Full })) after works vars
+        (over-done k j i t.vars t.made t.hands after within
+        (op-done k j i (op.New to name.class) (state_of t.vars u.before u.held) (state_of t.vars t.made t.hands) u.base after u.done u.there
+        (does_full (named (gives (new_object (extent_of k.shape) name (u.held + 1)) (here k j i) u.base after _ NoSlot refl g)) (rw (count, hands) refl))))
 
-    go : (a : Search) → MadeUpTo u.before t.made slot a → GaveAt (making_turned plan.layout.slots a w) (making_answer plan.layout plan.name a w) →
-        Stands j (made_on to name slot (record plan { at = making_turned plan.layout.slots a w }) (making_answer plan.layout plan.name a w) (idle t)) after
+    go : (a : Search) → MadeUpTo u.before u.held t.made t.hands slot a → GaveAt (making_turned plan.layout.slots a w) (making_answer plan.layout plan.name a w) →
+        Stands k n (made_on to name slot (record plan { at = making_turned plan.layout.slots a w }) (making_answer plan.layout plan.name a w) (idle t)) after
     go search.Start count g = absurd count
-    go (search.Trying x) count g = tried x (eqb w 0) (ltb (x + 1) plan.layout.slots) count.0 count.1 g
+    go (search.Trying x) count g = tried x (eqb w 0) (ltb (x + 1) plan.layout.slots) refl count.0 count.1 count.2 g
     go (search.Naming x) count g =
-        replaces j served (put (answers.New name) (idle t)) to (record { hand = t.hands; place = x }) after works within
-        (λ end x'. op-done j t.index (op.New to name.class) (state_of t.vars u.before) (state_of (set t.vars to (Some (record { hand = t.hands; place = x }))) t.made) u.base end u.done u.there
-        (does_make u.named (gives (new_object (extent_of j.shape) name) (here j t.index) u.base after _ (Slot x) refl g) x'
-        (let v = put-ref t.vars to (Some (record { hand = t.hands; place = x })) in let n = count.0 in rw (v, n) refl)))
+        let inside : x < k.shape.slots = let a = u.within in let b = count.2 in omega arith in
+        replaces k j served i (put (answers.New name) (idle t)) to (record { hand = t.hands; place = x }) after works vars inside within
+        (λ end x'. op-done k j i (op.New to name.class) (state_of t.vars u.before u.held) (state_of (set t.vars to (Some (record { hand = t.hands; place = x }))) t.made t.hands) u.base end u.done u.there
+        (does_make inside (named (gives (new_object (extent_of k.shape) name (u.held + 1)) (here k j i) u.base after _ (Slot x) refl g)) x'
+        (let v = put-ref t.vars to (Some (record { hand = t.hands; place = x })) in let n = count.0 in let m = count.1 in rw (v, n, m) refl)))
     go search.Ended count g = absurd count
 
 -- ---- a reference is copied
 
-copies : (j : Job) → All IsServedOp j.ops → (t : Thread) (s : Step) (w : ℕ) (now : List Made) → Works j t.layout t.shape t.thread t.program →
-    (to : ℕ) (held : Held) (plan : CappedAttempt) → IsCopying j t.index to held plan t.vars t.made (Some s) now → strong_up_takes plan (Some w) → IsUpWordAt plan.cap plan.at w →
-    Stands j (copied_on to held (strong_up_turned plan (Some w)) (strong_up_answer plan (Some w)) (idle t)) (made_at (here j t.index) s w ∷ now)
-copies j served t s w now works to held plan u takes fits =
-    go (strong_up_answer plan (Some w)) (up-answer plan w takes fits) (given up (here j t.index) u.base now plan s w u.waits)
+copies : {n : ℕ} (k : Task) (j : Job k) → All IsServedOp j.ops → (i : ℕ) (t : Thread) (s : Step) (w : ℕ) (now : List Made) → WorksAt k j i n t → AreIn k.shape t.vars →
+    (to : ℕ) (held : Held) (plan : CappedAttempt) → IsCopying k j i to held plan t.vars t.made t.hands (Some s) now → strong_up_takes plan (Some w) → IsUpWordAt plan.cap plan.at w →
+    Stands k n (copied_on to held (strong_up_turned plan (Some w)) (strong_up_answer plan (Some w)) (idle t)) (made_at (here k j i) s w (told_by (up_told held.hand (t.hands + 1)) (strong_up_answer plan (Some w))) ∷ now)
+copies {n = n} k j served i t s w now works vars to held plan u takes fits =
+    go (strong_up_answer plan (Some w)) (up-answer plan w takes fits) (given up (here k j i) u.base now plan s w u.waits)
   where
     up : Plan CappedAttempt StrongUpAnswer
-    up = strong_up (extent_of j.shape) held.place j.shape.caps.strong
+    up = strong_up (extent_of k.shape) held.place k.shape.caps.strong held.hand (t.hands + 1)
 
     after : List Made
-    after = made_at (here j t.index) s w ∷ now
+    after = made_at (here k j i) s w (told_by (up_told held.hand (t.hands + 1)) (strong_up_answer plan (Some w))) ∷ now
 
-    within : t.index < length j.ops
-    within = slice_get_within j.ops t.index (op.Copy to u.from) u.there
+    within : i < length j.ops
+    within = slice_get_within j.ops i (op.Copy to u.from) u.there
 
     new : Held
     new = record { hand = t.hands + 1; place = held.place }
 
-    copy-waits : (p : CappedAttempt) (s : Step) → Gave up (here j t.index) u.base after (nexts.Step s) p → IsCopying j t.index to held p t.vars t.made (Some s) after
-    copy-waits p s g = record { base = u.base; from = u.from; done = u.done; there = u.there; source = u.source; waits = waits up (here j t.index) u.base after p s g }
+    copy-waits : (p : CappedAttempt) (s : Step) → Gave up (here k j i) u.base after (nexts.Step s) p → IsCopying k j i to held p t.vars t.made t.hands (Some s) after
+    copy-waits p s g = record { base = u.base; from = u.from; done = u.done; there = u.there; source = u.source; waits = waits up (here k j i) u.base after p s g; within = u.within }
 
-    go : (n : Next StrongUpAnswer) → IsUpAnswer n → Gave up (here j t.index) u.base after n (strong_up_turned plan (Some w)) →
-        Stands j (copied_on to held (strong_up_turned plan (Some w)) n (idle t)) after
-    go (nexts.Step s) fits g = record { works = works; up_to = copy-waits (strong_up_turned plan (Some w)) s g }
+    go : (a : Next StrongUpAnswer) → IsUpAnswer a → Gave up (here k j i) u.base after a (strong_up_turned plan (Some w)) →
+        Stands k n (copied_on to held (strong_up_turned plan (Some w)) a (idle t)) after
+    go (nexts.Step s) fits g = record { job = j; at = i; phases = n; phased = refl; works = works; vars_in = vars; up_to = copy-waits (strong_up_turned plan (Some w)) s g }
     go (nexts.Done ups.Up) fits g =
-        replaces j served (put answers.Ok (record (idle t) { hands = t.hands + 1; event = Some (acts.Copy (Hand held.hand) (t.hands + 1)) })) to new after works within
-        (λ end x. op-done j t.index (op.Copy to u.from) (state_of t.vars t.made) (state_of (set t.vars to (Some new)) t.made) u.base end u.done u.there
-        (does_copy (value-ref t.vars u.from (Some held) u.source) (gives up (here j t.index) u.base after _ ups.Up refl g) x
-        (ap (λ (vs : Variables). record { vars = vs; made = t.made }) (put-ref t.vars to (Some new)))))
+        replaces k j served i (put answers.Ok (record (idle t) { hands = t.hands + 1; event = Some (acts.Copy (Hand held.hand) (t.hands + 1)) })) to new after works vars u.within within
+        (λ end x. op-done k j i (op.Copy to u.from) (state_of t.vars t.made t.hands) (state_of (set t.vars to (Some new)) t.made (t.hands + 1)) u.base end u.done u.there
+        (does_copy (value-ref t.vars u.from (Some held) u.source) u.within (gives up (here k j i) u.base after _ ups.Up refl g) x
+        (ap (λ (vs : Variables). record { vars = vs; made = t.made; hands = t.hands + 1 }) (put-ref t.vars to (Some new)))))
     go (nexts.Done ups.Dead) fits g = absurd fits
     go (nexts.Done ups.AtCap) fits g = absurd fits
     go (nexts.Done (ups.Slow e)) fits g = absurd fits
     go (nexts.Done (ups.Again c)) fits g =
         let same : up.start ≡ copy_from t held = rw (works.layout_is, works.shape_is) refl in
         record {
+          job = j;
+          at = i;
+          phases = n;
+          phased = refl;
           works = works;
-          up_to = copy-waits _ _ (begun-from up (here j t.index) u.base after (copy_from t held) (starts-again up (here j t.index) u.base after _ (ups.Again c) c refl g) same);
+          vars_in = vars;
+          up_to = copy-waits _ _ (begun-from up (here k j i) u.base after (copy_from t held) (starts-again up (here k j i) u.base after _ (ups.Again c) c refl g) same);
         }
 
 -- ---- a reference is dropped
 
-drops : (j : Job) → All IsServedOp j.ops → (t : Thread) (s : Step) (w : ℕ) (now : List Made) → Works j t.layout t.shape t.thread t.program →
-    (held : Held) (plan : Attempt) → IsDropping j t.index held plan t.vars t.made (Some s) now → IsInlineAt plan.at w →
-    Stands j (dropped_on held (strong_down_turned plan (Some w)) (strong_down_answer plan (Some w)) (idle t)) (made_at (here j t.index) s w ∷ now)
-drops j served t s w now works held plan u fits =
-    go (strong_down_answer plan (Some w)) (down-answer plan w fits) (given down (here j t.index) u.base now plan s w u.waits)
+drops : {n : ℕ} (k : Task) (j : Job k) → All IsServedOp j.ops → (i : ℕ) (t : Thread) (s : Step) (w : ℕ) (now : List Made) → WorksAt k j i n t → AreIn k.shape t.vars →
+    (held : Held) (plan : Attempt) → IsDropping k j i held plan t.vars t.made t.hands (Some s) now → IsInlineAt plan.at w →
+    Stands k n (dropped_on held (strong_down_turned plan (Some w)) (strong_down_answer plan (Some w)) (idle t)) (made_at (here k j i) s w (told_by (down_told held.hand) (strong_down_answer plan (Some w))) ∷ now)
+drops {n = n} k j served i t s w now works vars held plan u fits =
+    go (strong_down_answer plan (Some w)) (down-answer plan w fits) (given down (here k j i) u.base now plan s w u.waits)
   where
     down : Plan Attempt StrongDownAnswer
-    down = strong_down (extent_of j.shape) held.place
+    down = strong_down (extent_of k.shape) held.place held.hand
 
     after : List Made
-    after = made_at (here j t.index) s w ∷ now
+    after = made_at (here k j i) s w (told_by (down_told held.hand) (strong_down_answer plan (Some w))) ∷ now
 
-    go : (n : Next StrongDownAnswer) → IsDownAnswer n → Gave down (here j t.index) u.base after n (strong_down_turned plan (Some w)) →
-        Stands j (dropped_on held (strong_down_turned plan (Some w)) n (idle t)) after
-    go (nexts.Step s) fits g = record { works = works; up_to = record { base = u.base; ends = u.ends; waits = waits down (here j t.index) u.base after _ s g } }
+    go : (a : Next StrongDownAnswer) → IsDownAnswer a → Gave down (here k j i) u.base after a (strong_down_turned plan (Some w)) →
+        Stands k n (dropped_on held (strong_down_turned plan (Some w)) a (idle t)) after
+    go (nexts.Step s) fits g = record { job = j; at = i; phases = n; phased = refl; works = works; vars_in = vars; up_to = record { base = u.base; ends = u.ends; waits = waits down (here k j i) u.base after _ s g; within = u.within } }
     go (nexts.Done downs.More) fits g =
-        goes-on j served (record (idle t) { event = Some (acts.Drop held.hand false) }) after works (u.ends after (drops_more (gives down (here j t.index) u.base after _ downs.More refl g)))
+        goes-on k j served i (record (idle t) { event = Some (acts.Drop held.hand false) }) after works vars (u.ends after (drops_more u.within (gives down (here k j i) u.base after _ downs.More refl g)))
     go (nexts.Done downs.Last) fits g = record {
+      job = j;
+      at = i;
+      phases = n;
+      phased = refl;
       works = works;
+      vars_in = vars;
       up_to = record {
         base = after;
         layout = works.layout_is;
         shape = works.shape_is;
-        ends = λ end x. u.ends end (drops_last (gives down (here j t.index) u.base after _ downs.Last refl g) x);
+        ends = λ end x. u.ends end (drops_last u.within (gives down (here k j i) u.base after _ downs.Last refl g) x);
         place = (refl, rw works.layout_is refl);
+        within = u.within;
       };
     }
     go (nexts.Done (downs.Slow e)) fits g = absurd fits
-    go (nexts.Done (downs.Again c)) fits g = drop-asks j (idle t) held after u.base works (starts-again down (here j t.index) u.base after _ (downs.Again c) c refl g) u.ends
+    go (nexts.Done (downs.Again c)) fits g = drop-asks k j i (idle t) held after u.base works vars u.within (starts-again down (here k j i) u.base after _ (downs.Again c) c refl g) u.ends
 
 -- ---- an object dies
 
@@ -292,117 +335,208 @@ all-done shape point slot isa base now bare d =
     let none : length (get_or shape.classes (isa_name_of isa).class []) ≡ 0 = no_fields shape.classes (isa_name_of isa).class (recursion_from_All (λ (fields : List RefShape). fields ≡ []) shape.classes bare) in
     record { isa = isa; done = rw none d }
 
-dies-on : (j : Job) → All IsServedOp j.ops → HasNoFields j.shape → (t : Thread) (s : Step) (w : ℕ) (now : List Made) → Works j t.layout t.shape t.thread t.program →
-    (c : CascadeState) → IsDying j t.index c t.vars t.made (Some s) now → cascade_takes c (Some w) →
-    Stands j (dying_on (cascade_turned c (Some w)) (cascade_answer c (Some w)) (record (idle t) { event = (cascade_turned c (Some w)).event })) (made_at (here j t.index) s w ∷ now)
-dies-on j served bare t s w now works c u takes = go c.at u.place takes
+dies-on : {n : ℕ} (k : Task) (j : Job k) → All IsServedOp j.ops → HasNoFields k.shape → (i : ℕ) (t : Thread) (s : Step) (w : ℕ) (now : List Made) → WorksAt k j i n t → AreIn k.shape t.vars →
+    (c : CascadeState) → IsDying k j i c t.vars t.made t.hands (Some s) now → cascade_takes c (Some w) →
+    Stands k n (dying_on (cascade_turned c (Some w)) (cascade_answer c (Some w)) (record (idle t) { event = (cascade_turned c (Some w)).event }))
+    (made_at (here k j i) s w (dying_on (cascade_turned c (Some w)) (cascade_answer c (Some w)) (record (idle t) { event = (cascade_turned c (Some w)).event })).event ∷ now)
+dies-on {n = n} k j served bare i t s w now works vars c u takes = go c.at u.place takes
   where
-    after : List Made
-    after = made_at (here j t.index) s w ∷ now
+    point : Point
+    point = here k j i
+
+    after : Option Act → List Made
+    after e = made_at point s w e ∷ now
 
     down : Plan Attempt UnownedDownAnswer
-    down = unowned_down (extent_of j.shape) c.slot
+    down = finish (extent_of k.shape) c.slot
 
     down-start : down.start ≡ finish_from c
     down-start = rw u.layout refl
 
-    vacating-start : (vacate (extent_of j.shape) c.slot).start ≡ vacate_from c
+    vacating-start : (vacate (extent_of k.shape) c.slot).start ≡ vacate_from c
     vacating-start = rw u.layout refl
 
     -- the cascade at this place
-    at-place : (a : CascadeAt) (e : Option Act) (asked : Option Step) → CascadeUpTo j.shape (here j t.index) c.slot u.base after asked a → IsDying j t.index (record c { at = a; event = e }) t.vars t.made asked after
-    at-place a e asked p = record { base = u.base; layout = u.layout; shape = u.shape; ends = u.ends; place = p }
+    at-place : (a : CascadeAt) (e : Option Act) (asked : Option Step) (ms : List Made) → CascadeUpTo k.shape point c.slot u.base ms asked a → IsDying k j i (record c { at = a; event = e }) t.vars t.made t.hands asked ms
+    at-place a e asked ms p = record { base = u.base; layout = u.layout; shape = u.shape; ends = u.ends; place = p; within = u.within }
 
-    finishing : (p : Attempt) (i : IsFinishing j.shape (here j t.index) c.slot u.base now p (Some s)) (n : Next UnownedDownAnswer) → IsInlineAnswer n →
-        Gave down (here j t.index) (loads j.shape (here j t.index) (NextPlace c.slot) 0 ∷ i.left) after n (unowned_down_turned p (Some w)) →
-        Stands j (dying_on (finish_turned (record c { at = at.Ended; event = None }) (unowned_down_turned p (Some w)) n) (finish_says c n)
-        (record (idle t) { event = (finish_turned (record c { at = at.Ended; event = None }) (unowned_down_turned p (Some w)) n).event })) after
-    finishing p i (nexts.Step x) fits g = record {
+    -- the stepper that the cascade's turn leaves, behind a step with this event
+    Left : CascadeState → CascadeNext → Option Act → Type 0
+    Left d says e = Stands k n (dying_on d says (record (idle t) { event = d.event })) (after e)
+
+    finishing : (p : Attempt) (f : IsFinishing k.shape point c.slot u.base now p (Some s)) (a : Next UnownedDownAnswer) → IsInlineAnswer a → (e : Option Act) →
+        Gave down point (loads k.shape point (NextPlace c.slot) 0 ∷ f.left) (after e) a (unowned_down_turned p (Some w)) → Left (finish_turned (record c { at = at.Ended; event = None }) (unowned_down_turned p (Some w)) a) (finish_says c a) e
+    finishing p f (nexts.Step x) fits e g = record {
+      job = j;
+      at = i;
+      phases = n;
+      phased = refl;
       works = works;
-      up_to = at-place (at.Finishing (unowned_down_turned p (Some w))) None (Some x) (record { left = i.left; all = i.all; waits = waits down (here j t.index) _ after _ x g });
+      vars_in = vars;
+      up_to = at-place (at.Finishing (unowned_down_turned p (Some w))) None (Some x) (after e) (record { left = f.left; all = f.all; waits = waits down point _ (after e) _ x g });
     }
-    finishing p i (nexts.Done unowneds.More) fits g =
-        goes-on j served (record (idle t) { event = Some (acts.Finish c.slot false) }) after works (u.ends after (cascade_more i.all.done (gives down (here j t.index) _ after _ unowneds.More refl g)))
-    finishing p i (nexts.Done unowneds.Last) fits g = record {
+    finishing p f (nexts.Done unowneds.More) fits e g =
+        goes-on k j served i (record (idle t) { event = Some (acts.Finish c.slot false) }) (after e) works vars (u.ends (after e) (cascade_more f.all.done (gives down point _ (after e) _ unowneds.More refl g)))
+    finishing p f (nexts.Done unowneds.Last) fits e g = record {
+      job = j;
+      at = i;
+      phases = n;
+      phased = refl;
       works = works;
-      up_to = at-place (at.Vacating (one_turned (vacate_from c) None)) (Some (acts.Finish c.slot true)) _ (record {
-        left = i.left;
-        all = i.all;
-        mid = after;
-        finished = gives down (here j t.index) _ after _ unowneds.Last refl g;
-        waits = waits (vacate (extent_of j.shape) c.slot) (here j t.index) after after _ _ (begun-from (vacate (extent_of j.shape) c.slot) (here j t.index) after after (vacate_from c) starts_first vacating-start);
+      vars_in = vars;
+      up_to = at-place (at.Vacating (one_turned (vacate_from c) None)) (Some (acts.Finish c.slot true)) _ (after e) (record {
+        left = f.left;
+        all = f.all;
+        mid = after e;
+        finished = gives down point _ (after e) _ unowneds.Last refl g;
+        waits = waits (vacate (extent_of k.shape) c.slot) point (after e) (after e) _ _ (begun-from (vacate (extent_of k.shape) c.slot) point (after e) (after e) (vacate_from c) starts_first vacating-start);
       });
     }
-    finishing p i (nexts.Done (unowneds.Slow e)) fits g = absurd fits
-    finishing p i (nexts.Done (unowneds.Again x)) fits g = record {
+    finishing p f (nexts.Done (unowneds.Slow x)) fits e g = absurd fits
+    finishing p f (nexts.Done (unowneds.Again x)) fits e g = record {
+      job = j;
+      at = i;
+      phases = n;
+      phased = refl;
       works = works;
-      up_to = at-place (at.Finishing (unowned_down_turned (finish_from c) None)) None _ (record {
-        left = i.left;
-        all = i.all;
-        waits = waits down (here j t.index) _ after _ _ (begun-from down (here j t.index) _ after (finish_from c) (starts-again down (here j t.index) _ after _ (unowneds.Again x) x refl g) down-start);
+      vars_in = vars;
+      up_to = at-place (at.Finishing (unowned_down_turned (finish_from c) None)) None _ (after e) (record {
+        left = f.left;
+        all = f.all;
+        waits = waits down point _ (after e) _ _ (begun-from down point _ (after e) (finish_from c) (starts-again down point _ (after e) _ (unowneds.Again x) x refl g) down-start);
       });
     }
 
-    vacating : (p : OneStep) (i : IsVacating j.shape (here j t.index) c.slot u.base now p (Some s)) (n : Next (Unit {0})) →
-        Gave (vacate (extent_of j.shape) c.slot) (here j t.index) i.mid after n (one_turned p (Some w)) →
-        Stands j (dying_on (vacated (record c { at = at.Ended; event = None }) (one_turned p (Some w)) n) (vacate_says n)
-        (record (idle t) { event = (vacated (record c { at = at.Ended; event = None }) (one_turned p (Some w)) n).event })) after
-    vacating p i (nexts.Step x) g = record {
+    vacating : (p : OneStep) (f : IsVacating k.shape point c.slot u.base now p (Some s)) (a : Next (Unit {0})) (e : Option Act) →
+        Gave (vacate (extent_of k.shape) c.slot) point f.mid (after e) a (one_turned p (Some w)) → Left (vacated (record c { at = at.Ended; event = None }) (one_turned p (Some w)) a) (vacate_says a) e
+    vacating p f (nexts.Step x) e g = record {
+      job = j;
+      at = i;
+      phases = n;
+      phased = refl;
       works = works;
-      up_to = at-place (at.Vacating (one_turned p (Some w))) None (Some x) (record { left = i.left; all = i.all; mid = i.mid; finished = i.finished; waits = waits (vacate (extent_of j.shape) c.slot) (here j t.index) i.mid after _ x g });
+      vars_in = vars;
+      up_to = at-place (at.Vacating (one_turned p (Some w))) None (Some x) (after e) (record { left = f.left; all = f.all; mid = f.mid; finished = f.finished; waits = waits (vacate (extent_of k.shape) c.slot) point f.mid (after e) _ x g });
     }
-    vacating p i (nexts.Done a) g =
-        goes-on j served (record (idle t) { event = Some (acts.Vacate c.slot) }) after works
-        (u.ends after (cascade_last i.all.done i.finished (gives (vacate (extent_of j.shape) c.slot) (here j t.index) i.mid after _ tt refl g)))
+    vacating p f (nexts.Done a) e g =
+        goes-on k j served i (record (idle t) { event = Some (acts.Vacate c.slot) }) (after e) works vars
+        (u.ends (after e) (cascade_last f.all.done f.finished (gives (vacate (extent_of k.shape) c.slot) point f.mid (after e) _ tt refl g)))
 
-    go : (a : CascadeAt) → CascadeUpTo j.shape (here j t.index) c.slot u.base now (Some s) a → cascade_takes_at c (Some w) a →
-        Stands j (dying_on (cascade_turned_at (record c { at = at.Ended; event = None }) (Some w) a) (cascade_answer_at c (Some w) a)
-        (record (idle t) { event = (cascade_turned_at (record c { at = at.Ended; event = None }) (Some w) a).event })) after
+    go : (a : CascadeAt) → CascadeUpTo k.shape point c.slot u.base now (Some s) a → cascade_takes_at c (Some w) a →
+        Left (cascade_turned_at (record c { at = at.Ended; event = None }) (Some w) a) (cascade_answer_at c (Some w) a)
+        (dying_on (cascade_turned_at (record c { at = at.Ended; event = None }) (Some w) a) (cascade_answer_at c (Some w) a)
+        (record (idle t) { event = (cascade_turned_at (record c { at = at.Ended; event = None }) (Some w) a).event })).event
     go at.Start p takes = absurd p
     go at.Entering p takes = record {
+      job = j;
+      at = i;
+      phases = n;
+      phased = refl;
       works = works;
-      up_to = at-place at.Naming None _ (
+      vars_in = vars;
+      up_to = at-place at.Naming None _ (after None) (
         record { stored = w; now_is = let e = some-is s _ p.1 in rw (e, p.0) refl },
         rw u.layout refl,
       );
     }
     go at.Naming p takes = record {
+      job = j;
+      at = i;
+      phases = n;
+      phased = refl;
       works = works;
-      up_to = at-place at.Leaving None _ (
-        all-done j.shape (here j t.index) c.slot w u.base after bare (let e = some-is s _ p.1 in rw (e, p.0.now_is) entered),
+      vars_in = vars;
+      up_to = at-place at.Leaving None _ (after None) (
+        all-done k.shape point c.slot w u.base (after None) bare (let e = some-is s _ p.1 in rw (e, p.0.now_is) entered),
         rw u.layout refl,
       );
     }
     go (at.Named name) p takes = absurd p
     go at.Leaving p takes = record {
+      job = j;
+      at = i;
+      phases = n;
+      phased = refl;
       works = works;
-      up_to = at-place (at.Finishing (unowned_down_turned (finish_from c) None)) None _ (record {
+      vars_in = vars;
+      up_to = at-place (at.Finishing (unowned_down_turned (finish_from c) None)) None _ (after None) (record {
         left = now;
         all = p.0;
-        waits = waits down (here j t.index) _ after _ _ (begun-from down (here j t.index) (loads j.shape (here j t.index) (NextPlace c.slot) 0 ∷ now) after (finish_from c)
+        waits = waits down point _ (after None) _ _ (begun-from down point (loads k.shape point (NextPlace c.slot) 0 ∷ now) (after None) (finish_from c)
             (let e = some-is s _ p.1 in let z = some-is w 0 takes in rw (e, z) starts_first) down-start);
       });
     }
-    go (at.Finishing p) i takes = finishing p i (unowned_down_answer p (Some w)) (less-answer p w takes.1) (given down (here j t.index) _ now p s w i.waits)
-    go (at.Vacating p) i takes = vacating p i (vacate_answer p (Some w)) (given (vacate (extent_of j.shape) c.slot) (here j t.index) i.mid now p s w i.waits)
+    go (at.Finishing p) f takes =
+        let d : CascadeState = finish_turned (record c { at = at.Ended; event = None }) (unowned_down_turned p (Some w)) (unowned_down_answer p (Some w)) in
+        subst (λ (e : Option Act). Left d (finish_says c (unowned_down_answer p (Some w))) e) (sym (finish-tells t c (unowned_down_turned p (Some w)) (unowned_down_answer p (Some w))))
+        (finishing p f (unowned_down_answer p (Some w)) (less-answer p w takes.1) (told_by (finish_told c.slot) (unowned_down_answer p (Some w))) (given down point _ now p s w f.waits))
+    go (at.Vacating p) f takes =
+        let d : CascadeState = vacated (record c { at = at.Ended; event = None }) (one_turned p (Some w)) (vacate_answer p (Some w)) in
+        subst (λ (e : Option Act). Left d (vacate_says (vacate_answer p (Some w))) e) (sym (vacates-tells t c (one_turned p (Some w)) (vacate_answer p (Some w))))
+        (vacating p f (vacate_answer p (Some w)) (told_by (vacate_told c.slot) (vacate_answer p (Some w))) (given (vacate (extent_of k.shape) c.slot) point f.mid now p s w f.waits))
     go at.Ended p takes = absurd p
 
 -- ---- the stepper
 
-pub keeps : (j : Job) → All IsServedOp j.ops → HasNoFields j.shape → (t : Thread) (s : Step) (w : ℕ) (now : List Made) → Stands j t now → step_in t.asked ≡ Some s → takes t (Some w) →
-    Stands j (turned t (Some w)) (made_at (here j t.index) s w ∷ now)
-keeps j served bare t s w now st asked takes = go t.doing st.up_to takes
+-- Each word that it is given is that of a step of the operation under way, with the event that it tells.
+pub keeps : (k : Task) (n : ℕ) (t : Thread) (s : Step) (w : ℕ) (now : List Made) (st : Stands k n t now) → All IsServedOp st.job.ops → HasNoFields k.shape → step_in t.asked ≡ Some s → takes t (Some w) →
+    Stands k n (turned t (Some w)) (made_at (here k st.job st.at) s w (turned t (Some w)).event ∷ now)
+keeps k n t s w now st served bare asked takes = go t.doing st.phased st.up_to takes
   where
-    go : (d : Doing) → UpTo j t.index t.vars t.made t.asked now d → takes_at (Some w) d → Stands j (turned_at (Some w) d (idle t)) (made_at (here j t.index) s w ∷ now)
-    go Ready u takes = absurd (cc)
-    go (Making to name slot plan) u takes = makes j served t s w now st.works to name slot plan (rw asked at u)
-    go (Copying to held plan) u takes = copies j served t s w now st.works to held plan (rw asked at u) takes.0 takes.1
-    go (Dropping held plan) u takes = drops j served t s w now st.works held plan (rw asked at u) takes.1
-    go (Dying c) u takes = dies-on j served bare t s w now st.works c (rw asked at u) takes
-    go Ended u takes = absurd takes
+    j : Job k
+    j = st.job
 
-pub begins-phase : (j : Job) → All IsServedOp j.ops → (t : Thread) (now : List Made) → Stands j t now → takes t None → t.doing ≡ Ready → Stands j (turned t None) now
-begins-phase j served t now st takes ready = rw ready (begins j served (drop t.index t.program) (idle t) now st.works (ap (λ (p : List Op). drop t.index p) st.works.program_is) done)
+    i : ℕ
+    i = st.at
+
+    Left : Thread → Option Act → Type 0
+    Left t e = Stands k n t (made_at (here k j i) s w e ∷ now)
+
+    works-in : st.phases ≡ n → WorksAt k j i n t
+    works-in e = subst (λ (m : ℕ). WorksAt k j i m t) e st.works
+
+    go : (d : Doing) → IsIn n st.phases d → UpTo k j i t.vars t.made t.hands t.asked now d → takes_at (Some w) d → Left (turned_at (Some w) d (idle t)) (turned_at (Some w) d (idle t)).event
+    go Ready phased u takes = absurd (cc)
+    go (Making to name slot plan) phased u takes =
+        let a : IsMaking k j i to name slot plan t.vars t.made t.hands (Some s) now = rw asked at u in
+        let slots : plan.layout.slots ≡ k.shape.slots = ap (λ (l : Extent). l.slots) (making-layout (extent_of k.shape) name (a.held + 1) a.waits) in
+        let tells : (made_on to name slot (creation_turned plan (Some w)) (creation_answer plan (Some w)) (idle t)).event ≡ making_tells k.shape.slots (a.held + 1) name.class plan.at w =
+        makes-tells t w to name slot plan plan.at a.before a.held a.count ∙ ap (λ (n : ℕ). making_tells n (a.held + 1) name.class plan.at w) slots in
+        subst (λ (e : Option Act). Left (made_on to name slot (creation_turned plan (Some w)) (creation_answer plan (Some w)) (idle t)) e) (sym tells) (makes k j served i t s w now (works-in phased) st.vars_in to name slot plan a)
+    go (Copying to held plan) phased u takes =
+        subst (λ (e : Option Act). Left (copied_on to held (strong_up_turned plan (Some w)) (strong_up_answer plan (Some w)) (idle t)) e)
+        (sym (copies-tells t to held (strong_up_turned plan (Some w)) (strong_up_answer plan (Some w))))
+        (copies k j served i t s w now (works-in phased) st.vars_in to held plan (rw asked at u) takes.0 takes.1)
+    go (Dropping held plan) phased u takes =
+        subst (λ (e : Option Act). Left (dropped_on held (strong_down_turned plan (Some w)) (strong_down_answer plan (Some w)) (idle t)) e)
+        (sym (drops-tells t held (strong_down_turned plan (Some w)) (strong_down_answer plan (Some w))))
+        (drops k j served i t s w now (works-in phased) st.vars_in held plan (rw asked at u) takes.1)
+    go (Dying c) phased u takes = dies-on k j served bare i t s w now (works-in phased) st.vars_in c (rw asked at u) takes
+    go Ended phased u takes = absurd takes
+
+-- Its next phase begins without a step.
+pub begins-phase : (k : Task) (n : ℕ) (t : Thread) (now : List Made) (st : Stands k n t now) → All IsServedOp st.job.ops → takes t None → t.asked ≡ moves.PhaseEnd → Stands k (n + 1) (turned t None) now
+begins-phase k n t now st served takes asked = go t.doing st.phased st.up_to takes
   where
-    done : AreDone j t.index (state_of t.vars t.made) now
-    done = let Q : Doing → Type 0 = λ (d : Doing). UpTo j t.index t.vars t.made t.asked now d in let u : UpTo j t.index t.vars t.made t.asked now Ready = subst Q ready st.up_to in u.1
+    none : step_in t.asked ≡ None
+    none = ap step_in asked
+
+    go : (d : Doing) → IsIn n st.phases d → UpTo k st.job st.at t.vars t.made t.hands t.asked now d → takes_at None d → Stands k (n + 1) (turned_at None d (idle t)) now
+    go Ready phased u takes =
+        begins k st.job served (drop t.index (take (phase_end t) t.program)) st.at (idle t) now (subst (λ (m : ℕ). WorksAt k st.job st.at m t) phased st.works) st.vars_in
+        (rest-is k st.job st.at t.phases t.program t.phase t.index st.works.phases_is st.works.program_is st.works.phase_is st.works.index_is) u.1
+    go (Making to name slot plan) phased u takes = let e = u.waits.asked_is in let n = none in absurd (cc)
+    go (Copying to held plan) phased u takes = let e = u.waits.asked_is in let n = none in absurd (cc)
+    go (Dropping held plan) phased u takes = let e = u.waits.asked_is in let n = none in absurd (cc)
+    go (Dying c) phased u takes = dying c.at u.place
+      where
+        dying : (a : CascadeAt) → CascadeUpTo k.shape (here k st.job st.at) c.slot u.base now (step_in t.asked) a → Stands k (n + 1) (turned_at None (Dying c) (idle t)) now
+        dying at.Start p = absurd p
+        dying at.Entering p = let e = p.1 in let n = none in absurd (cc)
+        dying at.Naming p = let e = p.1 in let n = none in absurd (cc)
+        dying (at.Named name) p = absurd p
+        dying at.Leaving p = let e = p.1 in let n = none in absurd (cc)
+        dying (at.Finishing q) p = let e = p.waits.asked_is in let n = none in absurd (cc)
+        dying (at.Vacating q) p = let e = p.waits.asked_is in let n = none in absurd (cc)
+        dying at.Ended p = absurd p
+    go Ended phased u takes = absurd takes

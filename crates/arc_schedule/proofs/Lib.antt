@@ -1,6 +1,9 @@
 pub mod Stands
 pub mod Begins
-pub mod Keeps
 pub mod Tells
+pub mod Keeps
+pub mod Calm
+pub mod Ahead
+pub mod Follows
 pub mod Runs
 pub mod Worked

@@ -1,10 +1,9 @@
 -- What a stepper stands for: the steps made so far are those of its thread's operations up to where it is.
-use Rattle.std.proofs.Common.{◌≡◌, ℕ, ◌+◌, ◌<◌, ◌≤◌, Bool, true, false, cond, ltb, List, [], ◌∷◌, length, map, Option, Some, None, refl, sym, subst}
-use Rattle.std.specs.Prelude.{slice_get}
+use Rattle.std.proofs.Common.{◌≡◌, ℕ, ◌+◌, ◌<◌, ◌≤◌, Bool, true, false, cond, ltb, List, ◌∷◌, length, map, Option, Some, None, refl, sym, subst}
+use Rattle.std.specs.Prelude.{slice_get, flat_map, All, ⊤}
 use Rattle.arc_model.specs.declared.event.ObjectName.{ObjectName}
 use Rattle.arc_model.specs.Shapes.{HeapShape}
 use Rattle.arc_model.specs.Spelling.{field_count}
-use Rattle.arc_model.specs.SpellingTies.{Reference}
 use Rattle.arc_rule.specs.Extents.{Extent}
 use Rattle.arc_rule.specs.Isa.{isa_name_of}
 use Rattle.arc_rule.specs.Places.{number, extent_of}
@@ -22,6 +21,7 @@ use Rattle.arc_plan.specs.Slots.{Creation, OneStep}
 use Rattle.arc_cells.specs.declared.cascade.At.{At as CascadeAt}
 use Rattle.arc_cells.specs.declared.cascade.At.TheVariants as at
 use Rattle.arc_cells.specs.Cascades.{CascadeState}
+use Rattle.arc_script.specs.declared.script.ThreadDecl.{ThreadDecl}
 use Rattle.arc_script.specs.declared.script.Op.{Op}
 use Rattle.arc_script.specs.declared.script.Op.TheVariants as op
 use Rattle.arc_ops.specs.declared.stepper.Held.{Held}
@@ -29,14 +29,15 @@ use Rattle.arc_ops.specs.declared.stepper.Doing.{Doing}
 use Rattle.arc_ops.specs.declared.stepper.Doing.TheVariants.{Ready, Making, Copying, Dropping, Dying, Ended}
 use Rattle.arc_ops.specs.declared.stepper.Move.{Move}
 use Rattle.arc_ops.specs.declared.stepper.Move.TheVariants as moves
-use Rattle.arc_ops.specs.Thread.{Thread, value}
+use Rattle.arc_ops.specs.Programs.{ops_in_first}
+use Rattle.arc_ops.specs.Thread.{Thread, value, HeldFits}
 use Rattle.arc_schedule.specs.Made.{Point, Made, made_at}
-use Rattle.arc_schedule.specs.Plans.{Plan, Reaches, Starts, Gives, new_object, strong_up, strong_down, unowned_down, vacate}
+use Rattle.arc_schedule.specs.Plans.{Plan, Reaches, Starts, Gives, new_object, strong_up, strong_down, finish, vacate}
 use Rattle.arc_schedule.specs.Plans.Reaches.{starts as reaches_start, makes as reaches_next}
 use Rattle.arc_schedule.specs.Plans.Starts.{again}
-use Rattle.arc_schedule.specs.Operations.{State, Variables, strong_to, loads, stores, FieldsDone, IsCascade, Drops}
+use Rattle.arc_schedule.specs.Operations.{State, Holding, Variables, strong_to, next_name, loads, stores, FieldsDone, IsCascade, Drops}
 use Rattle.arc_schedule.specs.Operations as operations
-use Rattle.arc_schedule.specs.Threads.{point_of, OpsDone, ScopeEnds}
+use Rattle.arc_schedule.specs.Threads.{point_of, OpsDone, PhasesDone, ScopeEnds}
 
 -- ---- a plan that was given a word
 
@@ -68,12 +69,12 @@ pub some-is : {X : Type 0} (x y : X) → Some x ≡ Some y → x ≡ y
 some-is x y e = cc
 
 pub given : {P A : Type 0} (plan : Plan P A) (point : Point) (b now : List Made) (p : P) (s : Step) (found : ℕ) → Waits plan point b now p (Some s) →
-    Gave plan point b (made_at point s found ∷ now) (plan.answer p (Some found)) (plan.turned p (Some found))
+    Gave plan point b (made_at point s found (plan.tells p found) ∷ now) (plan.answer p (Some found)) (plan.turned p (Some found))
 given {P = P} plan point b now p s found w =
     let same : s ≡ w.step = some-is s w.step w.asked_is in
-    let r : Reaches plan point w.gave.started (plan.turned w.gave.before w.gave.last) (Some found) (made_at point w.step found ∷ now) = reaches_next w.gave.reaches w.gave.answers in
-    let Q : P → Type 0 = λ (x : P). Reaches plan point w.gave.started x (Some found) (made_at point w.step found ∷ now) in
-    let R : Step → Type 0 = λ (x : Step). Reaches plan point w.gave.started p (Some found) (made_at point x found ∷ now) in
+    let r : Reaches plan point w.gave.started (plan.turned w.gave.before w.gave.last) (Some found) (made_at point w.step found (plan.tells (plan.turned w.gave.before w.gave.last) found) ∷ now) = reaches_next w.gave.reaches w.gave.answers in
+    let Q : P → Type 0 = λ (x : P). Reaches plan point w.gave.started x (Some found) (made_at point w.step found (plan.tells x found) ∷ now) in
+    let R : Step → Type 0 = λ (x : Step). Reaches plan point w.gave.started p (Some found) (made_at point x found (plan.tells p found) ∷ now) in
     record { started = w.gave.started; starts = w.gave.starts; before = p; last = Some found; reaches = subst R (sym same) (subst Q w.gave.turned r); answers = refl; turned = refl }
 
 pub gives : {P A : Type 0} (plan : Plan P A) (point : Point) (b now : List Made) (p : P) (a : A) → plan.changed a ≡ None → Gave plan point b now (nexts.Done a) p → Gives plan point b a now
@@ -82,76 +83,94 @@ gives plan point b now p a e g = record { started = g.started; starts = g.starts
 pub starts-again : {P A : Type 0} (plan : Plan P A) (point : Point) (b now : List Made) (p : P) (a : A) (c : Changed) → plan.changed a ≡ Some c → Gave plan point b now (nexts.Done a) p → Starts plan point b now
 starts-again plan point b now p a c e g = again g.starts (record { at = g.before; last = g.last; reaches = g.reaches; answers = g.answers }) e
 
--- ---- a thread of one phase
+-- ---- a thread in one of its phases
 
-pub record Job : Type 0 where
+pub record Task : Type 0 where
   pub shape : HeapShape
   pub thread : ℕ
-  pub ops : List Op
-  pub first : State
+  pub decl : ThreadDecl
+  pub some_slot : 0 < shape.slots
 
-abbrev pub ref : Option Held → Option Reference
+-- a phase of the thread, whose steps stand behind those of the phases before
+pub record Job (k : Task) : Type 0 where
+  pub phase : ℕ
+  pub ops : List Op
+  pub there : slice_get k.decl.phases phase ≡ Some ops
+  pub first : State
+  pub base : List Made
+  pub before : PhasesDone k.shape k.thread k.decl phase first base
+
+-- how many operations stand before it
+abbrev pub start_of : (k : Task) → Job k → ℕ
+start_of k j = ops_in_first j.phase k.decl.phases
+
+abbrev pub ref : Option Held → Option Holding
 ref None = None
-ref (Some h) = strong_to h.place
+ref (Some h) = strong_to h.hand h.place
 
 abbrev pub refs : List (Option Held) → Variables
 refs vars = map ref vars
 
-abbrev pub state_of : List (Option Held) → ℕ → State
-state_of vars made = record { vars = refs vars; made = made }
+abbrev pub state_of : List (Option Held) → (made hands : ℕ) → State
+state_of vars made hands = record { vars = refs vars; made = made; hands = hands }
 
-abbrev pub AreDone : Job → ℕ → State → List Made → Type 0
-AreDone j i s now = OpsDone j.shape j.thread 0 j.ops j.first [] i s now
+abbrev pub AreDone : (k : Task) → Job k → ℕ → State → List Made → Type 0
+AreDone k j i s now = OpsDone k.shape k.thread j.phase j.ops j.first j.base i s now
 
-abbrev pub here : Job → ℕ → Point
-here j i = point_of j.thread 0 (cond (ltb i (length j.ops)) (i + 1) 0)
+abbrev pub here : (k : Task) → Job k → ℕ → Point
+here k j i = point_of k.thread j.phase (cond (ltb i (length j.ops)) (i + 1) 0)
 
 -- all operations are done, and the first variables are dropped
-pub record IsInScope (j : Job) (vars : List (Option Held)) (now : List Made) : Type 0 where
+pub record IsInScope (k : Task) (j : Job k) (vars : List (Option Held)) (now : List Made) : Type 0 where
+  pub last : j.phase + 1 ≡ length k.decl.phases
   pub behind : State
   pub worked : List Made
-  pub ops : AreDone j (length j.ops) behind worked
+  pub ops : AreDone k j (length j.ops) behind worked
   pub count : length behind.vars ≡ length vars
   pub below : ℕ
   pub within : below ≤ length vars
-  pub ends : ScopeEnds j.shape (point_of j.thread 0 0) behind.vars worked below now
+  pub ends : ScopeEnds k.shape (point_of k.thread j.phase 0) behind.vars worked below now
   pub rest : (v : ℕ) → below ≤ v → operations.value behind.vars v ≡ ref (value vars v)
   pub nils : (v : ℕ) → v < below → value vars v ≡ None
 
-abbrev pub IsOverIf : Bool → Job → ℕ → List (Option Held) → ℕ → List Made → Type 0
-IsOverIf true j i vars made now = AreDone j (i + 1) (state_of vars made) now
-IsOverIf false j i vars made now = IsInScope j vars now
+abbrev pub IsOverIf : Bool → (k : Task) → Job k → ℕ → List (Option Held) → (made hands : ℕ) → List Made → Type 0
+IsOverIf true k j i vars made hands now = AreDone k j (i + 1) (state_of vars made hands) now
+IsOverIf false k j i vars made hands now = IsInScope k j vars now
 
-abbrev pub IsOver : Job → ℕ → List (Option Held) → ℕ → List Made → Type 0
-IsOver j i vars made now = IsOverIf (ltb i (length j.ops)) j i vars made now
+abbrev pub IsOver : (k : Task) → Job k → ℕ → List (Option Held) → (made hands : ℕ) → List Made → Type 0
+IsOver k j i vars made hands now = IsOverIf (ltb i (length j.ops)) k j i vars made hands now
 
--- so many objects were made before the one that is being made, in this slot
-abbrev pub MadeUpTo : ℕ → ℕ → ℕ → Search → Type 0
-MadeUpTo first made slot (search.Trying s) = (made ≡ first) × (s ≡ slot)
-MadeUpTo first made slot (search.Naming s) = (made ≡ first + 1) × (s ≡ slot)
-MadeUpTo first made slot _ = ⊥
+-- so many objects were made, and so many references came into hands, before the one that is being made, in this slot
+abbrev pub MadeUpTo : (before held made hands slot : ℕ) → Search → Type 0
+MadeUpTo before held made hands slot (search.Trying s) = (made ≡ before) × (hands ≡ held) × (s ≡ slot)
+MadeUpTo before held made hands slot (search.Naming s) = (made ≡ before + 1) × (hands ≡ held + 1) × (s ≡ slot)
+MadeUpTo before held made hands slot _ = ⊥
 
-pub record IsMaking (j : Job) (i to : ℕ) (name : ObjectName) (slot : ℕ) (plan : Creation) (vars : List (Option Held)) (made : ℕ) (asked : Option Step) (now : List Made) : Type 0 where
+pub record IsMaking (k : Task) (j : Job k) (i to : ℕ) (name : ObjectName) (slot : ℕ) (plan : Creation) (vars : List (Option Held)) (made hands : ℕ) (asked : Option Step) (now : List Made) : Type 0 where
   pub base : List Made
   pub before : ℕ
-  pub done : AreDone j i (state_of vars before) base
+  pub held : ℕ
+  pub done : AreDone k j i (state_of vars before held) base
   pub there : slice_get j.ops i ≡ Some (op.New to name.class)
-  pub named : name ≡ record { class = name.class; thread = j.thread; number = before + 1 }
-  pub waits : Waits (new_object (extent_of j.shape) name) (here j i) base now plan asked
-  pub count : MadeUpTo before made slot plan.at
+  pub named : name ≡ next_name (here k j i) (state_of vars before held) name.class
+  pub waits : Waits (new_object (extent_of k.shape) name (held + 1)) (here k j i) base now plan asked
+  pub count : MadeUpTo before held made hands slot plan.at
+  pub within : slot < k.shape.slots
 
-pub record IsCopying (j : Job) (i to : ℕ) (held : Held) (plan : CappedAttempt) (vars : List (Option Held)) (made : ℕ) (asked : Option Step) (now : List Made) : Type 0 where
+pub record IsCopying (k : Task) (j : Job k) (i to : ℕ) (held : Held) (plan : CappedAttempt) (vars : List (Option Held)) (made hands : ℕ) (asked : Option Step) (now : List Made) : Type 0 where
   pub base : List Made
   pub from : ℕ
-  pub done : AreDone j i (state_of vars made) base
+  pub done : AreDone k j i (state_of vars made hands) base
   pub there : slice_get j.ops i ≡ Some (op.Copy to from)
   pub source : value vars from ≡ Some held
-  pub waits : Waits (strong_up (extent_of j.shape) held.place j.shape.caps.strong) (here j i) base now plan asked
+  pub waits : Waits (strong_up (extent_of k.shape) held.place k.shape.caps.strong held.hand (hands + 1)) (here k j i) base now plan asked
+  pub within : held.place < k.shape.slots
 
-pub record IsDropping (j : Job) (i : ℕ) (held : Held) (plan : Attempt) (vars : List (Option Held)) (made : ℕ) (asked : Option Step) (now : List Made) : Type 0 where
+pub record IsDropping (k : Task) (j : Job k) (i : ℕ) (held : Held) (plan : Attempt) (vars : List (Option Held)) (made hands : ℕ) (asked : Option Step) (now : List Made) : Type 0 where
   pub base : List Made
-  pub ends : (after : List Made) → Drops j.shape (here j i) (strong_to held.place) base after → IsOver j i vars made after
-  pub waits : Waits (strong_down (extent_of j.shape) held.place) (here j i) base now plan asked
+  pub ends : (after : List Made) → Drops k.shape (here k j i) (strong_to held.hand held.place) base after → IsOver k j i vars made hands after
+  pub waits : Waits (strong_down (extent_of k.shape) held.place held.hand) (here k j i) base now plan asked
+  pub within : held.place < k.shape.slots
 
 -- ---- a deinit
 
@@ -166,13 +185,13 @@ pub record IsEntered (shape : HeapShape) (point : Point) (slot : ℕ) (base now 
 pub record IsFinishing (shape : HeapShape) (point : Point) (slot : ℕ) (base now : List Made) (p : Attempt) (asked : Option Step) : Type 0 where
   pub left : List Made
   pub all : AllDone shape point slot base left
-  pub waits : Waits (unowned_down (extent_of shape) slot) point (loads shape point (NextPlace slot) 0 ∷ left) now p asked
+  pub waits : Waits (finish (extent_of shape) slot) point (loads shape point (NextPlace slot) 0 ∷ left) now p asked
 
 pub record IsVacating (shape : HeapShape) (point : Point) (slot : ℕ) (base now : List Made) (p : OneStep) (asked : Option Step) : Type 0 where
   pub left : List Made
   pub all : AllDone shape point slot base left
   pub mid : List Made
-  pub finished : Gives (unowned_down (extent_of shape) slot) point (loads shape point (NextPlace slot) 0 ∷ left) unowneds.Last mid
+  pub finished : Gives (finish (extent_of shape) slot) point (loads shape point (NextPlace slot) 0 ∷ left) unowneds.Last mid
   pub waits : Waits (vacate (extent_of shape) slot) point mid now p asked
 
 abbrev pub CascadeUpTo : HeapShape → Point → ℕ → (base now : List Made) → Option Step → CascadeAt → Type 0
@@ -183,39 +202,65 @@ CascadeUpTo shape point slot base now asked (at.Finishing p) = IsFinishing shape
 CascadeUpTo shape point slot base now asked (at.Vacating p) = IsVacating shape point slot base now p asked
 CascadeUpTo shape point slot base now asked _ = ⊥
 
-pub record IsDying (j : Job) (i : ℕ) (c : CascadeState) (vars : List (Option Held)) (made : ℕ) (asked : Option Step) (now : List Made) : Type 0 where
+pub record IsDying (k : Task) (j : Job k) (i : ℕ) (c : CascadeState) (vars : List (Option Held)) (made hands : ℕ) (asked : Option Step) (now : List Made) : Type 0 where
   pub base : List Made
-  pub layout : c.layout ≡ extent_of j.shape
-  pub shape : c.shape ≡ j.shape
-  pub ends : (after : List Made) → IsCascade j.shape (here j i) c.slot base after → IsOver j i vars made after
-  pub place : CascadeUpTo j.shape (here j i) c.slot base now asked c.at
+  pub layout : c.layout ≡ extent_of k.shape
+  pub shape : c.shape ≡ k.shape
+  pub ends : (after : List Made) → IsCascade k.shape (here k j i) c.slot base after → IsOver k j i vars made hands after
+  pub place : CascadeUpTo k.shape (here k j i) c.slot base now asked c.at
+  pub within : c.slot < k.shape.slots
 
 -- ---- the stepper
 
-pub record IsWhole (j : Job) (now : List Made) : Type 0 where
+pub record IsWhole (k : Task) (now : List Made) : Type 0 where
+  pub job : Job k
+  pub last : job.phase + 1 ≡ length k.decl.phases
   pub behind : State
   pub worked : List Made
-  pub ops : AreDone j (length j.ops) behind worked
-  pub scope : ScopeEnds j.shape (point_of j.thread 0 0) behind.vars worked (length behind.vars) now
+  pub ops : AreDone k job (length job.ops) behind worked
+  pub scope : ScopeEnds k.shape (point_of k.thread job.phase 0) behind.vars worked (length behind.vars) now
 
 abbrev pub step_in : Move → Option Step
 step_in (moves.Step step intent) = Some step
 step_in _ = None
 
-abbrev pub UpTo : Job → ℕ → List (Option Held) → ℕ → Move → List Made → Doing → Type 0
-UpTo j i vars made asked now Ready = (asked ≡ moves.PhaseEnd) × AreDone j i (state_of vars made) now
-UpTo j i vars made asked now (Making to name slot plan) = IsMaking j i to name slot plan vars made (step_in asked) now
-UpTo j i vars made asked now (Copying to held plan) = IsCopying j i to held plan vars made (step_in asked) now
-UpTo j i vars made asked now (Dropping held plan) = IsDropping j i held plan vars made (step_in asked) now
-UpTo j i vars made asked now (Dying c) = IsDying j i c vars made (step_in asked) now
-UpTo j i vars made asked now Ended = (asked ≡ moves.Ended) × IsWhole j now
+abbrev pub UpTo : (k : Task) → Job k → ℕ → List (Option Held) → (made hands : ℕ) → Move → List Made → Doing → Type 0
+UpTo k j i vars made hands asked now Ready = (asked ≡ moves.PhaseEnd) × AreDone k j i (state_of vars made hands) now
+UpTo k j i vars made hands asked now (Making to name slot plan) = IsMaking k j i to name slot plan vars made hands (step_in asked) now
+UpTo k j i vars made hands asked now (Copying to held plan) = IsCopying k j i to held plan vars made hands (step_in asked) now
+UpTo k j i vars made hands asked now (Dropping held plan) = IsDropping k j i held plan vars made hands (step_in asked) now
+UpTo k j i vars made hands asked now (Dying c) = IsDying k j i c vars made hands (step_in asked) now
+UpTo k j i vars made hands asked now Ended = (asked ≡ moves.Ended) × IsWhole k now
 
-pub record Works (j : Job) (layout : Extent) (shape : HeapShape) (thread : ℕ) (program : List Op) : Type 0 where
-  pub layout_is : layout ≡ extent_of j.shape
-  pub shape_is : shape ≡ j.shape
-  pub thread_is : thread ≡ j.thread
-  pub program_is : program ≡ j.ops
+-- the stepper is the thread's, at operation i of the phase, which is the last of so many that have begun
+pub record Works (k : Task) (j : Job k) (i n : ℕ) (layout : Extent) (shape : HeapShape) (thread : ℕ) (phases : List (List Op)) (program : List Op) (phase index : ℕ) : Type 0 where
+  pub layout_is : layout ≡ extent_of k.shape
+  pub shape_is : shape ≡ k.shape
+  pub thread_is : thread ≡ k.thread
+  pub phases_is : phases ≡ k.decl.phases
+  pub program_is : program ≡ flat_map (λ ops. ops) k.decl.phases
+  pub phase_is : phase ≡ j.phase
+  pub index_is : index ≡ start_of k j + i
+  pub begun_is : j.phase + 1 ≡ n
 
-pub record Stands (j : Job) (t : Thread) (now : List Made) : Type 0 where
-  pub works : Works j t.layout t.shape t.thread t.program
-  pub up_to : UpTo j t.index t.vars t.made t.asked now t.doing
+abbrev pub WorksAt : (k : Task) → Job k → (i n : ℕ) → Thread → Type 0
+WorksAt k j i n t = Works k j i n t.layout t.shape t.thread t.phases t.program t.phase t.index
+
+abbrev pub AreIn : HeapShape → List (Option Held) → Type 0
+AreIn shape vars = All (HeldFits shape.slots) vars
+
+-- a thread that waits for its next phase is in one that hasn't begun yet
+abbrev pub IsIn : (begun phases : ℕ) → Doing → Type 0
+IsIn begun phases Ready = phases ≡ begun + 1
+IsIn begun phases Ended = ⊤
+IsIn begun phases _ = phases ≡ begun
+
+-- where so many phases have begun
+pub record Stands (k : Task) (begun : ℕ) (t : Thread) (now : List Made) : Type 0 where
+  pub job : Job k
+  pub at : ℕ
+  pub phases : ℕ
+  pub phased : IsIn begun phases t.doing
+  pub works : WorksAt k job at phases t
+  pub vars_in : AreIn k.shape t.vars
+  pub up_to : UpTo k job at t.vars t.made t.hands t.asked now t.doing

@@ -1,5 +1,6 @@
 -- Steps that were made, the newest first.
-use Rattle.std.specs.Prelude.{ℕ, ◌==◌, Bool, List, [], ◌∷◌, filter}
+use Rattle.std.specs.Prelude.{ℕ, ◌==◌, Bool, List, [], ◌∷◌, filter, Option}
+use Rattle.arc_model.specs.declared.event.Act.{Act}
 use Rattle.arc_rule.specs.Steps.{found_by, made_by}
 use Rattle.arc_rule.specs.declared.step.Step.{Step}
 
@@ -9,19 +10,20 @@ pub record Point : Type 0 where
   pub phase : ℕ
   pub operation : ℕ
 
--- a made step, and the word that it gave back
+-- a made step, the word that it gave back, and its event, where it has one
 pub record Made : Type 0 where
   pub point : Point
   pub step : Step
   pub found : ℕ
+  pub event : Option Act
 
-abbrev pub made_at : Point → Step → ℕ → Made
-made_at point step found = record { point = point; step = step; found = found }
+abbrev pub made_at : Point → Step → ℕ → Option Act → Made
+made_at point step found event = record { point = point; step = step; found = found; event = event }
 
 -- The steps take the words from those at the start to those after: each finds what the words before it have, and leaves what it means.
 pub data Go (start : List ℕ) : List Made → List ℕ → Type 0 where
   none : Go start [] start
-  step : {ms : List Made} {words : List ℕ} (point : Point) (s : Step) → Go start ms words → Go start (made_at point s (found_by s words) ∷ ms) (made_by s words)
+  step : {ms : List Made} {words : List ℕ} (point : Point) (s : Step) (event : Option Act) → Go start ms words → Go start (made_at point s (found_by s words) event ∷ ms) (made_by s words)
 
 abbrev pub is_of : ℕ → Made → Bool
 is_of p m = m.point.thread == p

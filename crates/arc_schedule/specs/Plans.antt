@@ -1,37 +1,46 @@
--- Which steps a plan makes. Each relation goes from the steps made before to those made after, the newest first.
-use Rattle.std.specs.Prelude.{ℕ, ◌≡◌, List, ◌∷◌, Option, Some, None}
+-- Which steps a plan makes, and which events they have. Each relation goes from the steps made before to those made after, the newest first.
+use Rattle.std.specs.Prelude.{ℕ, ◌≡◌, ◌==◌, ◌+◌, nat_lt, if◌then◌else◌, true, false, List, ◌∷◌, Option, Some, None}
+use Rattle.arc_model.specs.declared.event.Act.{Act}
+use Rattle.arc_model.specs.declared.event.Act.TheVariants as acts
 use Rattle.arc_model.specs.declared.event.ObjectName.{ObjectName}
+use Rattle.arc_model.specs.declared.event.Origin.TheVariants.{Hand}
 use Rattle.arc_rule.specs.Extents.{Extent}
 use Rattle.arc_rule.specs.declared.step.Step.{Step}
 use Rattle.arc_rule.specs.declared.step.Changed.{Changed}
 use Rattle.arc_rule.specs.declared.plan.Next.{Next}
 use Rattle.arc_rule.specs.declared.plan.Next.TheVariants as nexts
 use Rattle.arc_plan.specs.declared.attempt.At.TheVariants as attempt
+use Rattle.arc_plan.specs.declared.slots.Making.{Making}
 use Rattle.arc_plan.specs.declared.slots.Making.TheVariants as makings
 use Rattle.arc_plan.specs.declared.slots.Once.TheVariants as onces
 use Rattle.arc_plan.specs.declared.slots.NewObjectAnswer.{NewObjectAnswer}
 use Rattle.arc_plan.specs.declared.strong.StrongUpAnswer.{StrongUpAnswer}
+use Rattle.arc_plan.specs.declared.strong.StrongUpAnswer.TheVariants as ups
 use Rattle.arc_plan.specs.declared.strong.StrongDownAnswer.{StrongDownAnswer}
+use Rattle.arc_plan.specs.declared.strong.StrongDownAnswer.TheVariants as downs
 use Rattle.arc_plan.specs.declared.unowned.UnownedDownAnswer.{UnownedDownAnswer}
+use Rattle.arc_plan.specs.declared.unowned.UnownedDownAnswer.TheVariants as unowneds
 use Rattle.arc_plan.specs.Attempts.{Attempt, CappedAttempt}
 use Rattle.arc_plan.specs.Slots.{Creation, OneStep, creation_turned, creation_answer, one_turned, vacate_answer, no_change}
 use Rattle.arc_plan.specs.Strong.{strong_up_turned, strong_up_answer, strong_up_change, strong_down_turned, strong_down_answer, strong_down_change}
 use Rattle.arc_plan.specs.Unowned.{unowned_down_turned, unowned_down_answer, unowned_down_change}
 use Rattle.arc_schedule.specs.Made.{Point, Made, made_at}
 
--- A plan from its start: what it asks for or answers once it is given what its step before gave back, and which answers say that a
--- word has changed.
+-- A plan from its start: what it asks for or answers once it is given what its step before gave back, which answers say that a
+-- word has changed, and which event the step has that it waits for, by the word that this one gives back.
 pub record Plan (P A : Type 0) : Type 0 where
   pub start : P
   pub turned : P → Option ℕ → P
   pub answer : P → Option ℕ → Next A
   pub changed : A → Option Changed
+  pub tells : P → ℕ → Option Act
 
 -- The plan, from its start, has made the steps behind b, and is given what the last of them gave back.
 pub data Reaches {P A : Type 0} (plan : Plan P A) (point : Point) (b : List Made) : P → Option ℕ → List Made → Type 0 where
   starts : Reaches plan point b plan.start None b
   makes : {p : P} {last : Option ℕ} {ns : List Made} {step : Step} {found : ℕ} →
-      Reaches plan point b p last ns → plan.answer p last ≡ nexts.Step step → Reaches plan point b (plan.turned p last) (Some found) (made_at point step found ∷ ns)
+      Reaches plan point b p last ns → plan.answer p last ≡ nexts.Step step →
+      Reaches plan point b (plan.turned p last) (Some found) (made_at point step found (plan.tells (plan.turned p last) found) ∷ ns)
 
 -- from its start it makes the steps behind b and gives this answer
 pub record Answers {P A : Type 0} (plan : Plan P A) (point : Point) (b : List Made) (a : A) (after : List Made) : Type 0 where
@@ -54,17 +63,81 @@ pub record Gives {P A : Type 0} (plan : Plan P A) (point : Point) (b : List Made
 
 -- ---- the plans
 
-abbrev pub new_object : Extent → ObjectName → Plan Creation NewObjectAnswer
-new_object l name = record { start = record { layout = l; name = name; at = makings.Start }; turned = creation_turned; answer = creation_answer; changed = no_change }
+-- a step has an event where the plan answers after it, by the answer
+abbrev pub told_by : {A : Type 0} → (A → Option Act) → Next A → Option Act
+told_by told (nexts.Step s) = None
+told_by told (nexts.Done a) = told a
 
-abbrev pub strong_up : Extent → (slot cap : ℕ) → Plan CappedAttempt StrongUpAnswer
-strong_up l slot cap = record { start = record { layout = l; slot = slot; cap = cap; at = attempt.Start }; turned = strong_up_turned; answer = strong_up_answer; changed = strong_up_change }
+-- the exchange that takes a free slot makes the object, and that which finds the last slot taken tells that none is free
+abbrev pub making_tells : (slots hand class : ℕ) → Making → (found : ℕ) → Option Act
+making_tells slots hand class (makings.Trying slot) found =
+    if found == 0 then Some (acts.New hand class slot) else
+    if nat_lt (slot + 1) slots then None else Some acts.Full
+making_tells slots hand class _ found = None
 
-abbrev pub strong_down : Extent → (slot : ℕ) → Plan Attempt StrongDownAnswer
-strong_down l slot = record { start = record { layout = l; slot = slot; at = attempt.Start }; turned = strong_down_turned; answer = strong_down_answer; changed = strong_down_change }
+-- the object comes into the hand
+abbrev pub new_object : Extent → ObjectName → (hand : ℕ) → Plan Creation NewObjectAnswer
+new_object l name hand = record {
+  start = record { layout = l; name = name; at = makings.Start };
+  turned = creation_turned;
+  answer = creation_answer;
+  changed = no_change;
+  tells = λ p found. making_tells l.slots hand name.class p.at found;
+}
 
-abbrev pub unowned_down : Extent → (slot : ℕ) → Plan Attempt UnownedDownAnswer
-unowned_down l slot = record { start = record { layout = l; slot = slot; at = attempt.Start }; turned = unowned_down_turned; answer = unowned_down_answer; changed = unowned_down_change }
+abbrev pub up_told : (from hand : ℕ) → StrongUpAnswer → Option Act
+up_told from hand ups.Up = Some (acts.Copy (Hand from) hand)
+up_told from hand _ = None
 
+-- one strong reference more: the new hand is a copy of the other one
+abbrev pub strong_up : Extent → (slot cap from hand : ℕ) → Plan CappedAttempt StrongUpAnswer
+strong_up l slot cap from hand = record {
+  start = record { layout = l; slot = slot; cap = cap; at = attempt.Start };
+  turned = strong_up_turned;
+  answer = strong_up_answer;
+  changed = strong_up_change;
+  tells = λ p found. told_by (up_told from hand) (strong_up_answer p (Some found));
+}
+
+abbrev pub down_told : (hand : ℕ) → StrongDownAnswer → Option Act
+down_told hand downs.More = Some (acts.Drop hand false)
+down_told hand downs.Last = Some (acts.Drop hand true)
+down_told hand _ = None
+
+-- one strong reference fewer: the hand gives its own up
+abbrev pub strong_down : Extent → (slot hand : ℕ) → Plan Attempt StrongDownAnswer
+strong_down l slot hand = record {
+  start = record { layout = l; slot = slot; at = attempt.Start };
+  turned = strong_down_turned;
+  answer = strong_down_answer;
+  changed = strong_down_change;
+  tells = λ p found. told_by (down_told hand) (strong_down_answer p (Some found));
+}
+
+abbrev pub finish_told : (slot : ℕ) → UnownedDownAnswer → Option Act
+finish_told slot unowneds.More = Some (acts.Finish slot false)
+finish_told slot unowneds.Last = Some (acts.Finish slot true)
+finish_told slot _ = None
+
+-- the end of a deinit: one unowned reference fewer, the one that stands for the strong ones
+abbrev pub finish : Extent → (slot : ℕ) → Plan Attempt UnownedDownAnswer
+finish l slot = record {
+  start = record { layout = l; slot = slot; at = attempt.Start };
+  turned = unowned_down_turned;
+  answer = unowned_down_answer;
+  changed = unowned_down_change;
+  tells = λ p found. told_by (finish_told slot) (unowned_down_answer p (Some found));
+}
+
+abbrev pub vacate_told : (slot : ℕ) → Unit {0} → Option Act
+vacate_told slot done = Some (acts.Vacate slot)
+
+-- the slot is free again
 abbrev pub vacate : Extent → (slot : ℕ) → Plan OneStep (Unit {0})
-vacate l slot = record { start = record { layout = l; slot = slot; at = onces.Start }; turned = one_turned; answer = vacate_answer; changed = no_change }
+vacate l slot = record {
+  start = record { layout = l; slot = slot; at = onces.Start };
+  turned = one_turned;
+  answer = vacate_answer;
+  changed = no_change;
+  tells = λ p found. told_by (vacate_told slot) (vacate_answer p (Some found));
+}

@@ -19,7 +19,7 @@ pub data OpsDone (shape : HeapShape) (thread phase : ℕ) (ops : List Op) (first
 
 -- the first phases of a thread, whose variables are nil at first
 pub data PhasesDone (shape : HeapShape) (thread : ℕ) (decl : ThreadDecl) : (done : ℕ) → State → List Made → Type 0 where
-  none : PhasesDone shape thread decl 0 (record { vars = replicate (length decl.vars) None; made = 0 }) []
+  none : PhasesDone shape thread decl 0 (record { vars = replicate (length decl.vars) None; made = 0; hands = 0 }) []
   one : {k : ℕ} {ops : List Op} {state new : State} {ns after : List Made} →
       PhasesDone shape thread decl k state ns → slice_get decl.phases k ≡ Some ops → OpsDone shape thread k ops state ns (length ops) new after →
       PhasesDone shape thread decl (k + 1) new after

@@ -1,5 +1,5 @@
 -- Two threads of one phase, in the order of their schedule.
-use Rattle.std.specs.Prelude.{ℕ, [], ◌∷◌}
+use Rattle.std.specs.Prelude.{ℕ, [], ◌∷◌, None}
 use Rattle.arc_rule.specs.Extents.{Extent}
 use Rattle.arc_rule.specs.declared.step.Step.{Step}
 use Rattle.arc_rule.specs.declared.step.Step.TheVariants.{Load, Exchange, Store}
@@ -11,9 +11,9 @@ use Rattle.arc_schedule.specs.Orders.{InOrder}
 abbrev pub small : Extent
 small = record { globals = 1; slots = 1; entries = 1 }
 
--- a step of an operation of the thread
+-- a step of an operation of the thread, without an event
 abbrev pub by : (thread operation : ℕ) → Step → ℕ → Made
-by thread operation step found = made_at (point_of thread 0 operation) step found
+by thread operation step found = made_at (point_of thread 0 operation) step found None
 
 abbrev pub look : ℕ → Made
 look thread = by thread 1 (Load 2) 0

@@ -1,5 +1,5 @@
 -- Each word that a stepper may be given keeps what it stands for.
-use Rattle.std.proofs.Common.{◌≡◌, ℕ, ◌+◌, Bool, true, false, cond, eqb, ltb, List, ◌∷◌, drop, Option, Some, None, refl, sym, ap, subst, ◌∙◌, arith}
+use Rattle.std.proofs.Common.{◌≡◌, ℕ, ◌+◌, Bool, true, false, cond, eqb, ltb, List, ◌∷◌, take, drop, Option, Some, None, refl, sym, ap, subst, ◌∙◌, arith}
 use Rattle.std.proofs.lemmas.Bool.{eqb-true}
 use Rattle.std.proofs.lemmas.Option.{slice_get_within}
 use Rattle.std.specs.Option.{unwrap_or}
@@ -47,6 +47,8 @@ use Rattle.arc_programs.specs.Programs.{made_of, IsAnswered}
 use Rattle.arc_programs.specs.Programs.IsAnswered.{made, copied}
 use Rattle.arc_programs.specs.ProgramsLines.{number_of}
 use Rattle.arc_programs.proofs.ProgramsSteps.{answers_last, new_full}
+use Rattle.arc_ops.specs.Programs.{ops_in_first}
+use Rattle.arc_ops.proofs.Counts.{first_more}
 use Rattle.arc_ops.specs.declared.stepper.Held.{Held}
 use Rattle.arc_ops.specs.declared.stepper.Doing.{Doing}
 use Rattle.arc_ops.specs.declared.stepper.Doing.TheVariants.{Ready, Making, Copying, Dropping, Dying, Ended}
@@ -57,7 +59,7 @@ use Rattle.arc_spelled.specs.Shown.ReadsName.{nothing as read_nothing}
 use Rattle.arc_spelled.specs.Shown.FindsNoEntry.{nothing as found_nothing}
 use Rattle.arc_spelled.specs.Shown.Says.{nothing, line}
 use Rattle.arc_spelled.specs.CascadeStands.{asked_by, with_deinit, CascadeUpTo}
-use Rattle.arc_spelled.specs.StepperStands.{Work, IsServedWork, strong_held, variables, IsOver, IsBegun, IsMade, MakesUpTo, IsCopying, DropEnds, step_in, IsDying, StepperUpTo, WorksOn, IsCounted, number_at, IsNumberedIf, StandsFor, StepperGoesOn}
+use Rattle.arc_spelled.specs.StepperStands.{Work, IsServedWork, strong_held, variables, IsOver, IsBegun, IsMade, MakesUpTo, IsCopying, DropEnds, step_in, IsDying, StepperUpTo, WorksOn, IsCounted, number_at, IsNumberedIf, IsOfPhase, IsInPhase, StandsFor, StepperGoesOn}
 use Rattle.arc_spelled.proofs.CascadeKeeps.{CascadeComes, cascade_comes, all_done}
 use Rattle.arc_spelled.proofs.StepperSteps.{acts-added, Comes, comes-after, counted-line, number-here, value-held, over-done, drop-asks, begins, goes-on, replaces}
 
@@ -76,11 +78,11 @@ plainly w t new last now e c = turned-by w t new last now e (with_act e now) (re
 
 -- ---- an object is made
 
-makes : (w : Work) → IsServedWork w → (t : Thread) (last : Option ℕ) (now : List Note) → WorksOn w t.layout t.shape t.thread t.program → IsCounted w t.hands t.made t.kept now → number_of now ≡ number_at w t.index →
+makes : (w : Work) → IsServedWork w → (t : Thread) (last : Option ℕ) (now : List Note) → WorksOn w t.layout t.shape t.thread t.phases t.program → IsCounted w t.hands t.made t.kept now → number_of now ≡ number_at w t.index → IsOfPhase w t.phase t.index →
     (to : ℕ) (name : ObjectName) (slot : ℕ) (plan : Creation) (a : Search) → MakesUpTo w t.index to name slot t.vars now a →
     Turns w t (made_on to name slot (record plan { at = making_turned plan.layout.slots a (unwrap_or last 0) }) (making_answer plan.layout plan.name a (unwrap_or last 0)) (record t { doing = Ended; first = false; event = None })) last now
-makes w served t last now works counts number to name slot plan search.Start u = absurd u
-makes w served t last now works counts number to name slot plan (search.Trying s) u = tried (eqb (unwrap_or last 0) 0) (ltb (s + 1) plan.layout.slots)
+makes w served t last now works counts number phase to name slot plan search.Start u = absurd u
+makes w served t last now works counts number phase to name slot plan (search.Trying s) u = tried (eqb (unwrap_or last 0) 0) (ltb (s + 1) plan.layout.slots)
   where
     b : IsBegun w t.index (op.New to name.class) t.vars now
     b = u.1.begun
@@ -99,6 +101,7 @@ makes w served t last now works counts number to name slot plan (search.Trying s
       event = refl;
       stands = record {
         works = works;
+        in_phase = phase;
         counts = record { hands_are = ap (λ (n : ℕ). n + 1) counts.hands_are; made_is = ap (λ (n : ℕ). n + 1) counts.made_is; lines_are = counts.lines_are };
         number = number;
         asks = tt;
@@ -109,18 +112,18 @@ makes w served t last now works counts number to name slot plan (search.Trying s
       after = now;
       says = nothing;
       event = refl;
-      stands = record { works = works; counts = counts; number = number; asks = tt; up_to = (ap (λ (n : ℕ). n + 1) u.0, u.1) };
+      stands = record { works = works; in_phase = phase; counts = counts; number = number; asks = tt; up_to = (ap (λ (n : ℕ). n + 1) u.0, u.1) };
     })
     tried false false = plainly w t _ last now (Some acts.Full)
         (comes-after w _ (Some acts.Full) (Did acts.Full ∷ now) (Line answers.Full ∷ Did acts.Full ∷ now) (line nothing)
         (goes-on w served (put answers.Full (record t { doing = Ended; first = false; event = Some acts.Full })) (Line answers.Full ∷ Did acts.Full ∷ now) works
         (counted-line w t.hands t.made t.kept (thread.number_of t) answers.Full (Did acts.Full ∷ now) (number-here w t (Did acts.Full ∷ now) works number) (record { hands_are = counts.hands_are; made_is = counts.made_is; lines_are = counts.lines_are }))
-        number full))
-makes w served t last now works counts number to name slot plan (search.Naming s) u = plainly w t _ last now None
+        number phase full))
+makes w served t last now works counts number phase to name slot plan (search.Naming s) u = plainly w t _ last now None
     (comes-after w _ None now (Line (answers.New name) ∷ now) (line nothing)
     (replaces w served (put (answers.New name) (record t { doing = Ended; first = false; event = None })) to (record { hand = t.hands; place = s }) (op.New to name.class) (answers.New name) b.base now works
     (counted-line w t.hands t.made t.kept (thread.number_of t) (answers.New name) now (number-here w t now works number) counts)
-    number b.done b.there answered))
+    number phase b.done b.there answered))
   where
     m : IsMade w t.index to name slot t.vars now
     m = u.1
@@ -143,42 +146,42 @@ makes w served t last now works counts number to name slot plan (search.Naming s
         let P : List Note → Type 0 = λ (ns : List Note). IsAnswered w.thread w.came (op.New to name.class) (variables t.vars) (Operation (t.index + 1) ∷ b.base)
         (programs.put (variables t.vars) to (Some (strong_held (record { hand = t.hands; place = s })))) (answers.New name) (programs.value (variables t.vars) to) ns in
         subst P (sym now_is) (made {to = to} {class = name.class} {slot = s} {k = t.hands} {name = name} hand_is name_is (record { replaced = refl; old = refl }))
-makes w served t last now works counts number to name slot plan search.Ended u = absurd u
+makes w served t last now works counts number phase to name slot plan search.Ended u = absurd u
 
 -- ---- a reference is copied
 
-copy-asks : (w : Work) (t : Thread) (last : Option ℕ) (now : List Note) → WorksOn w t.layout t.shape t.thread t.program → IsCounted w t.hands t.made t.kept now → number_of now ≡ number_at w t.index →
+copy-asks : (w : Work) (t : Thread) (last : Option ℕ) (now : List Note) → WorksOn w t.layout t.shape t.thread t.phases t.program → IsCounted w t.hands t.made t.kept now → number_of now ≡ number_at w t.index → IsOfPhase w t.phase t.index →
     (to : ℕ) (held : Held) (plan : CappedAttempt) (step : Step) → IsCopying w t.index to held t.vars now →
     Turns w t (copied_on to held plan (nexts.Step step) (record t { doing = Ended; first = false; event = None })) last now
-copy-asks w t last now works counts number to held plan step u = plainly w t _ last now None (record {
+copy-asks w t last now works counts number phase to held plan step u = plainly w t _ last now None (record {
   after = now;
   says = nothing;
   event = refl;
-  stands = record { works = works; counts = counts; number = number; asks = tt; up_to = u };
+  stands = record { works = works; in_phase = phase; counts = counts; number = number; asks = tt; up_to = u };
 })
 
-up-loaded : (w : Work) (t : Thread) (last : Option ℕ) (now : List Note) → WorksOn w t.layout t.shape t.thread t.program → IsCounted w t.hands t.made t.kept now → number_of now ≡ number_at w t.index →
+up-loaded : (w : Work) (t : Thread) (last : Option ℕ) (now : List Note) → WorksOn w t.layout t.shape t.thread t.phases t.program → IsCounted w t.hands t.made t.kept now → number_of now ≡ number_at w t.index → IsOfPhase w t.phase t.index →
     (to : ℕ) (held : Held) (plan : CappedAttempt) (word : ℕ) (o : Option Word) → IsUpWord plan.cap o → IsCopying w t.index to held t.vars now →
     Turns w t (copied_on to held (record plan { at = exchanging word (strong_up_row plan.cap o) }) (chosen (number_in plan.layout (Count plan.slot)) word (strong_up_row plan.cap o)) (record t { doing = Ended; first = false; event = None })) last now
-up-loaded w t last now works counts number to held plan word None fits u = absurd fits
-up-loaded w t last now works counts number to held plan word (Some Free) fits u = absurd fits
-up-loaded w t last now works counts number to held plan word (Some (Slow e)) fits u = absurd fits
-up-loaded w t last now works counts number to held plan word (Some (Counts c)) fits u = go c.deiniting (eqb c.strong_extra plan.cap) refl refl
+up-loaded w t last now works counts number phase to held plan word None fits u = absurd fits
+up-loaded w t last now works counts number phase to held plan word (Some Free) fits u = absurd fits
+up-loaded w t last now works counts number phase to held plan word (Some (Slow e)) fits u = absurd fits
+up-loaded w t last now works counts number phase to held plan word (Some (Counts c)) fits u = go c.deiniting (eqb c.strong_extra plan.cap) refl refl
   where
     go : (dead full : Bool) → c.deiniting ≡ dead → eqb c.strong_extra plan.cap ≡ full →
         Turns w t (copied_on to held (record plan { at = exchanging word (cond dead (Tell ups.Dead) (cond full (Tell ups.AtCap) (Write (packed (Counts (strong_more c)))))) })
         (chosen (number_in plan.layout (Count plan.slot)) word (cond dead (Tell ups.Dead) (cond full (Tell ups.AtCap) (Write (packed (Counts (strong_more c))))))) (record t { doing = Ended; first = false; event = None })) last now
     go true full e f = let a = fits.0 in absurd (cc)
     go false true e f = let same = eqb-true c.strong_extra plan.cap f in let below = fits.1 in absurd (omega arith)
-    go false false e f = copy-asks w t last now works counts number to held _ _ u
+    go false false e f = copy-asks w t last now works counts number phase to held _ _ u
 
-copies : (w : Work) → IsServedWork w → (t : Thread) (last : Option ℕ) (now : List Note) → WorksOn w t.layout t.shape t.thread t.program → IsCounted w t.hands t.made t.kept now → number_of now ≡ number_at w t.index →
+copies : (w : Work) → IsServedWork w → (t : Thread) (last : Option ℕ) (now : List Note) → WorksOn w t.layout t.shape t.thread t.phases t.program → IsCounted w t.hands t.made t.kept now → number_of now ≡ number_at w t.index → IsOfPhase w t.phase t.index →
     (to : ℕ) (held : Held) (plan : CappedAttempt) (a : At) → IsCopying w t.index to held t.vars now → attempt_takes (StrongUpWord plan) a last → IsUpWordAt plan.cap a (unwrap_or last 0) →
     Turns w t (copied_on to held (record plan { at = attempt_turned (λ v. strong_up_row plan.cap (unpacked v)) a (unwrap_or last 0) })
     (attempt_answer (λ v. strong_up_row plan.cap (unpacked v)) (λ seen. ups.Up) ups.Again (number_in plan.layout (Count plan.slot)) a (unwrap_or last 0)) (record t { doing = Ended; first = false; event = None })) last now
-copies w served t last now works counts number to held plan attempt.Start u takes fits = copy-asks w t last now works counts number to held _ _ u
-copies w served t last now works counts number to held plan attempt.Loading u takes fits = up-loaded w t last now works counts number to held plan (unwrap_or last 0) (unpacked (unwrap_or last 0)) fits u
-copies w served t last now works counts number to held plan (attempt.Exchanging seen new) u takes fits = go (eqb (unwrap_or last 0) seen)
+copies w served t last now works counts number phase to held plan attempt.Start u takes fits = copy-asks w t last now works counts number phase to held _ _ u
+copies w served t last now works counts number phase to held plan attempt.Loading u takes fits = up-loaded w t last now works counts number phase to held plan (unwrap_or last 0) (unpacked (unwrap_or last 0)) fits u
+copies w served t last now works counts number phase to held plan (attempt.Exchanging seen new) u takes fits = go (eqb (unwrap_or last 0) seen)
   where
     b : IsBegun w t.index (op.Copy to u.from) t.vars now
     b = u.begun
@@ -201,43 +204,44 @@ copies w served t last now works counts number to held plan (attempt.Exchanging 
         (op.Copy to u.from) answers.Ok b.base (Did (acts.Copy (Hand held.hand) (t.hands + 1)) ∷ now) works
         (counted-line w (t.hands + 1) t.made t.kept (thread.number_of t) answers.Ok (Did (acts.Copy (Hand held.hand) (t.hands + 1)) ∷ now) (number-here w t (Did (acts.Copy (Hand held.hand) (t.hands + 1)) ∷ now) works number)
         (record { hands_are = ap (λ (n : ℕ). n + 1) counts.hands_are; made_is = counts.made_is; lines_are = counts.lines_are }))
-        number b.done b.there answered))
+        number phase b.done b.there answered))
     go false = plainly w t _ last now None (record {
       after = now;
       says = nothing;
       event = refl;
-      stands = record { works = works; counts = counts; number = number; asks = tt; up_to = u };
+      stands = record { works = works; in_phase = phase; counts = counts; number = number; asks = tt; up_to = u };
     })
-copies w served t last now works counts number to held plan attempt.Ended u takes fits = absurd takes
+copies w served t last now works counts number phase to held plan attempt.Ended u takes fits = absurd takes
 
 -- ---- a reference is dropped
 
-drop-goes-on : (w : Work) (t : Thread) (last : Option ℕ) (now : List Note) → WorksOn w t.layout t.shape t.thread t.program → IsCounted w t.hands t.made t.kept now → number_of now ≡ number_at w t.index →
+drop-goes-on : (w : Work) (t : Thread) (last : Option ℕ) (now : List Note) → WorksOn w t.layout t.shape t.thread t.phases t.program → IsCounted w t.hands t.made t.kept now → number_of now ≡ number_at w t.index → IsOfPhase w t.phase t.index →
     (held : Held) (plan : Attempt) (step : Step) → DropEnds w t.index held t.vars now →
     Turns w t (dropped_on held plan (nexts.Step step) (record t { doing = Ended; first = false; event = None })) last now
-drop-goes-on w t last now works counts number held plan step u = plainly w t _ last now None (record {
+drop-goes-on w t last now works counts number phase held plan step u = plainly w t _ last now None (record {
   after = now;
   says = nothing;
   event = refl;
-  stands = record { works = works; counts = counts; number = number; asks = tt; up_to = u };
+  stands = record { works = works; in_phase = phase; counts = counts; number = number; asks = tt; up_to = u };
 })
 
-drops-more : (w : Work) → IsServedWork w → (t : Thread) (last : Option ℕ) (now : List Note) → WorksOn w t.layout t.shape t.thread t.program → IsCounted w t.hands t.made t.kept now → number_of now ≡ number_at w t.index →
+drops-more : (w : Work) → IsServedWork w → (t : Thread) (last : Option ℕ) (now : List Note) → WorksOn w t.layout t.shape t.thread t.phases t.program → IsCounted w t.hands t.made t.kept now → number_of now ≡ number_at w t.index → IsOfPhase w t.phase t.index →
     (held : Held) (plan : Attempt) → DropEnds w t.index held t.vars now →
     Turns w t (dropped_on held plan (nexts.Done downs.More) (record t { doing = Ended; first = false; event = None })) last now
-drops-more w served t last now works counts number held plan u = plainly w t _ last now (Some (acts.Drop held.hand false))
+drops-more w served t last now works counts number phase held plan u = plainly w t _ last now (Some (acts.Drop held.hand false))
     (goes-on w served (record t { doing = Ended; first = false; event = Some (acts.Drop held.hand false) }) (Did (acts.Drop held.hand false) ∷ now) works
-    (record { hands_are = counts.hands_are; made_is = counts.made_is; lines_are = counts.lines_are }) number (u (Did (acts.Drop held.hand false) ∷ now) more))
+    (record { hands_are = counts.hands_are; made_is = counts.made_is; lines_are = counts.lines_are }) number phase (u (Did (acts.Drop held.hand false) ∷ now) more))
 
-drops-last : (w : Work) (t : Thread) (last : Option ℕ) (now : List Note) → WorksOn w t.layout t.shape t.thread t.program → IsCounted w t.hands t.made t.kept now → number_of now ≡ number_at w t.index →
+drops-last : (w : Work) (t : Thread) (last : Option ℕ) (now : List Note) → WorksOn w t.layout t.shape t.thread t.phases t.program → IsCounted w t.hands t.made t.kept now → number_of now ≡ number_at w t.index → IsOfPhase w t.phase t.index →
     (held : Held) (plan : Attempt) → DropEnds w t.index held t.vars now →
     Turns w t (dropped_on held plan (nexts.Done downs.Last) (record t { doing = Ended; first = false; event = None })) last now
-drops-last w t last now works counts number held plan u = plainly w t _ last now (Some (acts.Drop held.hand true)) (record {
+drops-last w t last now works counts number phase held plan u = plainly w t _ last now (Some (acts.Drop held.hand true)) (record {
   after = Did (acts.Drop held.hand true) ∷ now;
   says = nothing;
   event = refl;
   stands = record {
     works = works;
+    in_phase = phase;
     counts = record { hands_are = counts.hands_are; made_is = counts.made_is; lines_are = counts.lines_are };
     number = number;
     asks = tt;
@@ -251,46 +255,46 @@ drops-last w t last now works counts number held plan u = plainly w t _ last now
   };
 })
 
-down-loaded : (w : Work) (t : Thread) (last : Option ℕ) (now : List Note) → WorksOn w t.layout t.shape t.thread t.program → IsCounted w t.hands t.made t.kept now → number_of now ≡ number_at w t.index →
+down-loaded : (w : Work) (t : Thread) (last : Option ℕ) (now : List Note) → WorksOn w t.layout t.shape t.thread t.phases t.program → IsCounted w t.hands t.made t.kept now → number_of now ≡ number_at w t.index → IsOfPhase w t.phase t.index →
     (held : Held) (plan : Attempt) (word : ℕ) (o : Option Word) → IsCountWord plan.layout.entries (λ c. c.deiniting ≡ false) o → IsInline o → DropEnds w t.index held t.vars now →
     Turns w t (dropped_on held (record plan { at = exchanging word (strong_down_row o) }) (chosen (number_in plan.layout (Count plan.slot)) word (strong_down_row o)) (record t { doing = Ended; first = false; event = None })) last now
-down-loaded w t last now works counts number held plan word None fits in_line u = absurd fits
-down-loaded w t last now works counts number held plan word (Some Free) fits in_line u = absurd fits
-down-loaded w t last now works counts number held plan word (Some (Slow e)) fits in_line u = absurd in_line
-down-loaded w t last now works counts number held plan word (Some (Counts c)) fits in_line u = drop-goes-on w t last now works counts number held _ _ u
+down-loaded w t last now works counts number phase held plan word None fits in_line u = absurd fits
+down-loaded w t last now works counts number phase held plan word (Some Free) fits in_line u = absurd fits
+down-loaded w t last now works counts number phase held plan word (Some (Slow e)) fits in_line u = absurd in_line
+down-loaded w t last now works counts number phase held plan word (Some (Counts c)) fits in_line u = drop-goes-on w t last now works counts number phase held _ _ u
 
-drops : (w : Work) → IsServedWork w → (t : Thread) (last : Option ℕ) (now : List Note) → WorksOn w t.layout t.shape t.thread t.program → IsCounted w t.hands t.made t.kept now → number_of now ≡ number_at w t.index →
+drops : (w : Work) → IsServedWork w → (t : Thread) (last : Option ℕ) (now : List Note) → WorksOn w t.layout t.shape t.thread t.phases t.program → IsCounted w t.hands t.made t.kept now → number_of now ≡ number_at w t.index → IsOfPhase w t.phase t.index →
     (held : Held) (plan : Attempt) (a : At) → DropEnds w t.index held t.vars now → attempt_takes (StrongDownWord plan) a last → IsInlineAt a (unwrap_or last 0) →
     Turns w t (dropped_on held (record plan { at = attempt_turned (λ v. strong_down_row (unpacked v)) a (unwrap_or last 0) })
     (attempt_answer (λ v. strong_down_row (unpacked v)) (λ seen. strong_down_end (unpacked seen)) downs.Again (number_in plan.layout (Count plan.slot)) a (unwrap_or last 0)) (record t { doing = Ended; first = false; event = None })) last now
-drops w served t last now works counts number held plan attempt.Start u takes in_line = drop-goes-on w t last now works counts number held _ _ u
-drops w served t None now works counts number held plan attempt.Loading u takes in_line = absurd takes
-drops w served t (Some word) now works counts number held plan attempt.Loading u takes in_line = down-loaded w t (Some word) now works counts number held plan word (unpacked word) takes in_line u
-drops w served t last now works counts number held plan (attempt.Exchanging seen new) u takes in_line = go (eqb (unwrap_or last 0) seen) (unpacked seen)
+drops w served t last now works counts number phase held plan attempt.Start u takes in_line = drop-goes-on w t last now works counts number phase held _ _ u
+drops w served t None now works counts number phase held plan attempt.Loading u takes in_line = absurd takes
+drops w served t (Some word) now works counts number phase held plan attempt.Loading u takes in_line = down-loaded w t (Some word) now works counts number phase held plan word (unpacked word) takes in_line u
+drops w served t last now works counts number phase held plan (attempt.Exchanging seen new) u takes in_line = go (eqb (unwrap_or last 0) seen) (unpacked seen)
   where
     ended : (a : Bool) → Turns w t (dropped_on held (record plan { at = attempt.Ended }) (nexts.Done (cond a downs.Last downs.More)) (record t { doing = Ended; first = false; event = None })) last now
-    ended true = drops-last w t last now works counts number held (record plan { at = attempt.Ended }) u
-    ended false = drops-more w served t last now works counts number held (record plan { at = attempt.Ended }) u
+    ended true = drops-last w t last now works counts number phase held (record plan { at = attempt.Ended }) u
+    ended false = drops-more w served t last now works counts number phase held (record plan { at = attempt.Ended }) u
 
     go : (found : Bool) (o : Option Word) → Turns w t (dropped_on held (record plan { at = attempt.Ended }) (nexts.Done (cond found (strong_down_end o) (downs.Again (record { seen = seen; found = unwrap_or last 0 })))) (record t { doing = Ended; first = false; event = None })) last now
-    go true None = drops-more w served t last now works counts number held (record plan { at = attempt.Ended }) u
-    go true (Some Free) = drops-more w served t last now works counts number held (record plan { at = attempt.Ended }) u
-    go true (Some (Slow e)) = drops-more w served t last now works counts number held (record plan { at = attempt.Ended }) u
+    go true None = drops-more w served t last now works counts number phase held (record plan { at = attempt.Ended }) u
+    go true (Some Free) = drops-more w served t last now works counts number phase held (record plan { at = attempt.Ended }) u
+    go true (Some (Slow e)) = drops-more w served t last now works counts number phase held (record plan { at = attempt.Ended }) u
     go true (Some (Counts c)) = ended (eqb c.strong_extra 0)
     go false o = plainly w t (drop_begun held (record t { doing = Ended; first = false; event = None })) last now None (record {
       after = now;
       says = nothing;
       event = refl;
-      stands = drop-asks w (record t { doing = Ended; first = false; event = None }) held now works counts number u;
+      stands = drop-asks w (record t { doing = Ended; first = false; event = None }) held now works counts number phase u;
     })
-drops w served t last now works counts number held plan attempt.Ended u takes in_line = absurd takes
+drops w served t last now works counts number phase held plan attempt.Ended u takes in_line = absurd takes
 
 -- ---- an object dies
 
-dies-on : (w : Work) → IsServedWork w → (t : Thread) (last : Option ℕ) (now : List Note) → WorksOn w t.layout t.shape t.thread t.program → IsCounted w t.hands t.made t.kept now → number_of now ≡ number_at w t.index →
+dies-on : (w : Work) → IsServedWork w → (t : Thread) (last : Option ℕ) (now : List Note) → WorksOn w t.layout t.shape t.thread t.phases t.program → IsCounted w t.hands t.made t.kept now → number_of now ≡ number_at w t.index → IsOfPhase w t.phase t.index →
     (c : CascadeState) → IsDying w t.index c t.asked t.vars now → cascade_takes c last →
     Turns w t (dying_on (cascade_turned c last) (cascade_answer c last) (record t { doing = Ended; first = false; event = (cascade_turned c last).event })) last now
-dies-on w served t last now works counts number c u takes = go (cascade_answer c last) refl k.stands
+dies-on w served t last now works counts number phase c u takes = go (cascade_answer c last) refl k.stands
   where
     bare : HasNoFields c.shape
     bare = rw u.shape served.without_fields
@@ -336,6 +340,7 @@ dies-on w served t last now works counts number c u takes = go (cascade_answer c
           event = refl;
           stands = record {
             works = works;
+            in_phase = phase;
             counts = counted-line w t.hands t.made t.kept (thread.number_of t) (answers.Deinit name) k.found (number-here w t k.found works numbered) quiet;
             number = numbered;
             asks = tt;
@@ -357,6 +362,7 @@ dies-on w served t last now works counts number c u takes = go (cascade_answer c
       event = refl;
       stands = record {
         works = works;
+        in_phase = phase;
         counts = quiet;
         number = numbered;
         asks = tt;
@@ -365,20 +371,23 @@ dies-on w served t last now works counts number c u takes = go (cascade_answer c
     })
     go (says.Died name) e s = turned-by w t _ last now (cascade_turned c last).event k.found shows (dies name e s)
     go says.Done e s = turned-by w t _ last now (cascade_turned c last).event k.found shows
-        (goes-on w served (record t { doing = Ended; first = false; event = (cascade_turned c last).event }) k.found works quiet numbered (u.ends k.found (whole (k.done e))))
+        (goes-on w served (record t { doing = Ended; first = false; event = (cascade_turned c last).event }) k.found works quiet numbered phase (u.ends k.found (whole (k.done e))))
 
 -- Each word that a stepper may be given keeps what it stands for.
 turns : (w : Work) → IsServedWork w → (t : Thread) (last : Option ℕ) (now : List Note) → StandsFor w t now → takes t last → Turns w t (turned t last) last now
-turns w served t last now s takes = go t.doing s.up_to s.number takes
+turns w served t last now s takes = go t.doing s.up_to s.number s.in_phase takes
   where
-    go : (d : Doing) → StepperUpTo w t.index t.vars t.asked now d → IsNumberedIf (is_busy d) w t.index now → takes_at last d → Turns w t (turned_at last d (record t { doing = Ended; first = false; event = None })) last now
-    go Ready u number takes = plainly w t _ last now None
-        (begins w served (drop t.index t.program) (record t { doing = Ended; first = false; event = None }) now s.works s.counts (ap (λ (p : List Op). drop t.index p) s.works.program_is) u)
-    go (Making to name slot plan) u number takes = makes w served t last now s.works s.counts number to name slot plan plan.at u
-    go (Copying to held plan) u number takes = copies w served t last now s.works s.counts number to held plan plan.at u takes.0 takes.1
-    go (Dropping held plan) u number takes = drops w served t last now s.works s.counts number held plan plan.at u takes.0 takes.1
-    go (Dying c) u number takes = dies-on w served t last now s.works s.counts number c u takes
-    go Ended u number takes = absurd takes
+    go : (d : Doing) → StepperUpTo w t.index t.vars t.asked now d → IsNumberedIf (is_busy d) w t.index now → IsInPhase w t.phase t.index d → takes_at last d →
+        Turns w t (turned_at last d (record t { doing = Ended; first = false; event = None })) last now
+    go Ready u number phase takes = plainly w t _ last now None
+        (begins w served (drop t.index (take (ops_in_first (t.phase + 1) t.phases) t.program)) (record t { doing = Ended; first = false; event = None }) now s.works s.counts
+        (ap (λ ps. drop t.index (take (ops_in_first (t.phase + 1) ps) t.program)) s.works.phases_is ∙ ap (λ (p : List Op). drop t.index (take (ops_in_first (t.phase + 1) w.phases) p)) s.works.program_is)
+        (rw phase (first_more t.phase w.phases)) u)
+    go (Making to name slot plan) u number phase takes = makes w served t last now s.works s.counts number phase to name slot plan plan.at u
+    go (Copying to held plan) u number phase takes = copies w served t last now s.works s.counts number phase to held plan plan.at u takes.0 takes.1
+    go (Dropping held plan) u number phase takes = drops w served t last now s.works s.counts number phase held plan plan.at u takes.0 takes.1
+    go (Dying c) u number phase takes = dies-on w served t last now s.works s.counts number phase c u takes
+    go Ended u number phase takes = absurd takes
 
 pub stepper_goes_on : (w : Work) → IsServedWork w → (t : Thread) (last : Option ℕ) (now : List Note) → StandsFor w t now → takes t last → StepperGoesOn w t last now
 stepper_goes_on w served t last now s takes =

@@ -2,12 +2,12 @@
 use Rattle.std.proofs.Common.{◌≡◌, ◌≢◌, ℕ, zero, suc, ◌+◌, ◌<◌, ◌≤◌, Bool, true, false, not, cond, ltb, List, [], ◌∷◌, ◌++◌, length, take, drop, set, get_or, Option, Some, None, ◌⊎◌, inl, inr, refl, sym, ap, subst, ◌∙◌, arith, add-one}
 use Rattle.std.proofs.lemmas.Bool.{ltb-true, ltb-false, lt-ltb, cases_lt}
 use Rattle.std.proofs.Math.ListN.{get_or-map}
-use Rattle.std.proofs.lemmas.List.{map-set, set-get_or, length-set, length-append, length-map, length-take-le, take_all, take-append-le, reverse-append, get_or-set_same, get_or-set_other, drop_all}
+use Rattle.std.proofs.lemmas.List.{map-set, set-get_or, length-set, length-append, length-map, length-take, length-take-le, take_all, take-append-le, reverse-append, get_or-set_same, get_or-set_other, drop_all}
 use Rattle.std.proofs.lemmas.List.Elements.{All-get_or}
 use Rattle.std.proofs.lemmas.List.Quantifiers.{position-Some}
 use Rattle.std.proofs.lemmas.List.Sums.{prefix_len_passes}
 use Rattle.std.proofs.lemmas.Option.{slice_get_within, get_or_from_slice_get}
-use Rattle.std.specs.Prelude.{slice_get, position}
+use Rattle.std.specs.Prelude.{slice_get, position, flat_map}
 use Rattle.std.specs.List.{prefix_len}
 use Rattle.arc_model.specs.declared.answer.Answer.{Answer}
 use Rattle.arc_model.specs.declared.answer.Answer.TheVariants as answers
@@ -22,23 +22,26 @@ use Rattle.arc_script.specs.declared.script.Op.{Op}
 use Rattle.arc_script.specs.declared.script.Op.TheVariants as op
 use Rattle.arc_programs.specs.Variables.{Variables, put as put_var}
 use Rattle.arc_programs.specs.Variables as programs
-use Rattle.arc_programs.specs.Programs.{OpsDone, IsAnswered, ScopeEnds}
-use Rattle.arc_programs.specs.Programs.OpsDone.{none as ops_none, one as ops_one}
+use Rattle.arc_programs.specs.Programs.{IsFromNil, IsAnswered, ScopeEnds}
+use Rattle.arc_programs.specs.Programs.IsFromNil.{copy as copy_from_nil, move as move_from_nil}
+use Rattle.arc_programs.specs.Programs.IsAnswered.{from_nil as takes_nil, moved as moves_held}
 use Rattle.arc_programs.specs.Programs.ScopeEnds.{begins as scope_starts, dropped as var_dropped}
 use Rattle.arc_programs.specs.ProgramsLines.{lines_of, number_of, told}
-use Rattle.arc_programs.proofs.ProgramsSteps.{IsNext, answers_last, drops_last, copy_of_nil, drop_of, drop_of_nil, scope_goes_on}
+use Rattle.arc_programs.proofs.ProgramsSteps.{IsNext, answers_last, drops_last, drop_of, drop_of_nil, scope_goes_on}
 use Rattle.arc_ops.specs.declared.stepper.Held.{Held}
-use Rattle.arc_ops.specs.declared.stepper.Doing.TheVariants.{Ended}
+use Rattle.arc_ops.specs.declared.stepper.Doing.TheVariants.{Ready, Ended}
+use Rattle.arc_ops.specs.declared.stepper.Move.TheVariants as moves
 use Rattle.arc_ops.specs.Kept.{Kept, with_line}
-use Rattle.arc_ops.specs.Programs.{room_for}
+use Rattle.arc_ops.specs.Programs.{ops_in_first}
+use Rattle.arc_ops.proofs.Counts.{first_few, first_all}
 use Rattle.arc_ops.specs.Served.{IsServedOp}
-use Rattle.arc_ops.specs.Thread.{Thread, value, is_held, put, set_var, skipped, drop_begun, begun_copy, begun_drop, begun_at, begun, scope_drop, scope_at, scope_begun, next_op, replaced_old, replaced}
+use Rattle.arc_ops.specs.Thread.{Thread, value, is_held, put, set_var, skipped, drop_begun, begun_nil, begun_copy, moved, begun_move, begun_drop, phase_over, begun_at, begun, scope_drop, scope_at, scope_begun, next_op, replaced_old, replaced}
 use Rattle.arc_ops.specs.Thread as thread
 use Rattle.arc_spelled.specs.Shown.{ReadsName, FindsNoEntry, Says, Adds, with_act, with_event}
 use Rattle.arc_spelled.specs.Shown.ReadsName.{nothing as read_nothing, name as read_name}
 use Rattle.arc_spelled.specs.Shown.FindsNoEntry.{nothing as found_nothing, no_entry}
 use Rattle.arc_spelled.specs.Shown.Says.{nothing, line, operation}
-use Rattle.arc_spelled.specs.StepperStands.{Work, IsServedWork, strong_held, held_in, variables, AreDone, IsInScope, IsOverIf, IsOver, DropEnds, WorksOn, first_lines, IsCounted, number_at, StandsFor}
+use Rattle.arc_spelled.specs.StepperStands.{Work, IsServedWork, strong_held, held_in, variables, AreDone, IsInScope, IsOverIf, IsOver, DropEnds, WorksOn, first_lines, IsCounted, number_at, IsOfPhaseIf, IsOfPhase, StandsFor}
 
 -- ---- variables
 
@@ -100,14 +103,19 @@ pub counted-line : (w : Work) (hands made : ℕ) (kept : Kept) (n : ℕ) (a : An
 counted-line w hands made kept n a now e c = record {
   hands_are = c.hands_are;
   made_is = c.made_is;
-  lines_are = ap (λ (k : Kept). with_line (record { operation = n; answer = a }) k) c.lines_are ∙ line-kept (room_for w.program) n a now e;
+  lines_are = ap (λ (k : Kept). with_line (record { operation = n; answer = a }) k) c.lines_are ∙ line-kept w.room n a now e;
 }
 
 pub counted-operation : (w : Work) (hands made : ℕ) (kept : Kept) (n : ℕ) (now : List Note) → IsCounted w hands made kept now → IsCounted w hands made kept (Operation n ∷ now)
 counted-operation w hands made kept n now c = record { hands_are = c.hands_are; made_is = c.made_is; lines_are = c.lines_are }
 
+-- the line of an operation that is done at once
+skipped-line : (w : Work) (t : Thread) (a : Answer) (now : List Note) → IsCounted w t.hands t.made t.kept (Operation (t.index + 1) ∷ now) →
+    IsCounted w t.hands t.made (with_line (record { operation = t.index + 1; answer = a }) t.kept) (Line a ∷ Operation (t.index + 1) ∷ now)
+skipped-line w t a now c = counted-line w t.hands t.made t.kept (t.index + 1) a (Operation (t.index + 1) ∷ now) refl c
+
 -- the number that the stepper gives a line is that of the notes
-pub number-here : (w : Work) (t : Thread) (now : List Note) → WorksOn w t.layout t.shape t.thread t.program → number_of now ≡ number_at w t.index → thread.number_of t ≡ number_of now
+pub number-here : (w : Work) (t : Thread) (now : List Note) → WorksOn w t.layout t.shape t.thread t.phases t.program → number_of now ≡ number_at w t.index → thread.number_of t ≡ number_of now
 number-here w t now works e = ap (λ (p : List Op). cond (ltb t.index (length p)) (t.index + 1) 0) works.program_is ∙ sym e
 
 -- ---- notes that are added
@@ -174,26 +182,22 @@ nothing-left [] i e = omega arith
 nothing-left (y ∷ xs) zero e = absurd (cc)
 nothing-left (y ∷ xs) (suc i) e = let h = nothing-left xs i e in omega arith
 
-done-within : {w : Work} {i : ℕ} {vars : Variables} {now : List Note} → OpsDone w.shape w.thread w.came w.program w.count i vars now → i ≤ length w.program
-done-within (ops_none e) = omega arith
-done-within {w = w} (ops_one {i = i} {o = o} d there e x) = let h = slice_get_within w.program i o there in omega arith
-
 -- a drop begins
-pub drop-asks : (w : Work) (t : Thread) (held : Held) (now : List Note) → WorksOn w t.layout t.shape t.thread t.program → IsCounted w t.hands t.made t.kept now → number_of now ≡ number_at w t.index →
-    DropEnds w t.index held t.vars now → StandsFor w (drop_begun held t) now
-drop-asks w t held now works counts number ends = record { works = works; counts = counts; number = number; asks = tt; up_to = ends }
+pub drop-asks : (w : Work) (t : Thread) (held : Held) (now : List Note) → WorksOn w t.layout t.shape t.thread t.phases t.program → IsCounted w t.hands t.made t.kept now → number_of now ≡ number_at w t.index →
+    IsOfPhase w t.phase t.index → DropEnds w t.index held t.vars now → StandsFor w (drop_begun held t) now
+drop-asks w t held now works counts number phase ends = record { works = works; in_phase = phase; counts = counts; number = number; asks = tt; up_to = ends }
 
 -- ---- the end of the scope
 
-scopes : (w : Work) (t : Thread) (now : List Note) → WorksOn w t.layout t.shape t.thread t.program → IsCounted w t.hands t.made t.kept now → ltb t.index (length w.program) ≡ false → number_of now ≡ 0 →
-    IsInScope w t.vars now → Comes w (scope_begun t) t.event now
-scopes w t now works counts past number s = go (position is_held t.vars) refl
+scopes : (w : Work) (t : Thread) (now : List Note) → WorksOn w t.layout t.shape t.thread t.phases t.program → IsCounted w t.hands t.made t.kept now → ltb t.index (length w.program) ≡ false → number_of now ≡ 0 →
+    length w.phases ≤ t.phase + 1 → IsInScope w t.vars now → Comes w (scope_begun t) t.event now
+scopes w t now works counts past number last s = go (position is_held t.vars) refl
   where
     number_is : number_of now ≡ number_at w t.index
     number_is = rw past number
 
     held : (v : ℕ) (h : Held) → value t.vars v ≡ Some h → v < length t.vars → ((u : ℕ) → u < v → is_held (value t.vars u) ≡ false) → Comes w (drop_begun h (set_var v None t)) t.event now
-    held v h e within before = record { after = now; says = nothing; event = refl; stands = drop-asks w (set_var v None t) h now works counts number_is (λ after x. rw past (over after x)) }
+    held v h e within before = record { after = now; says = nothing; event = refl; stands = drop-asks w (set_var v None t) h now works counts number_is (rw past last) (λ after x. rw past (over after x)) }
       where
         above : s.below ≤ v
         above = at (cases_lt v s.below)
@@ -238,6 +242,7 @@ scopes w t now works counts past number s = go (position is_held t.vars) refl
           event = refl;
           stands = record {
             works = works;
+            in_phase = tt;
             counts = counts;
             number = tt;
             asks = refl;
@@ -259,158 +264,284 @@ scopes w t now works counts past number s = go (position is_held t.vars) refl
         at None f g = absurd (cc)
         at (Some h) f g = held v h f found.0 found.2
 
--- the first operation of the rest that asks for a step begins, or the scope ends
-pub begins : (w : Work) → IsServedWork w → (rest : List Op) (t : Thread) (now : List Note) → WorksOn w t.layout t.shape t.thread t.program → IsCounted w t.hands t.made t.kept now →
-    rest ≡ drop t.index w.program → AreDone w t.index t.vars now → Comes w (begun_at rest t) t.event now
-begins w served [] t now works counts r d =
-    let most : length w.program ≤ t.index = nothing-left w.program t.index r in
-    let least = done-within {w = w} d in
-    let past : ltb t.index (length w.program) ≡ false = over_all (ltb t.index (length w.program)) refl in
-    let at_end : t.index ≡ length w.program = omega arith in
-    comes-after w (scope_begun t) t.event now (Operation 0 ∷ now) (operation nothing)
-    (scopes w t (Operation 0 ∷ now) works (counted-operation w t.hands t.made t.kept 0 now counts) past refl (record {
-      first = variables t.vars;
-      worked = now;
-      ops = rw (← at_end) d;
-      same_count = length-map t.vars held_in;
-      below = 0;
-      within = omega arith;
-      ends = scope_starts;
-      nils = λ v below. absurd (omega arith);
-    }))
+-- ---- the operations of a phase
+
+get-take : {X : Type 0} (n : ℕ) (xs : List X) (i : ℕ) (x : X) → slice_get (take n xs) i ≡ Some x → (slice_get xs i ≡ Some x) × (i < n)
+get-take zero xs i x e = absurd (cc)
+get-take (suc n) [] i x e = absurd (cc)
+get-take (suc n) (y ∷ xs) zero x e = (e, omega arith)
+get-take (suc n) (y ∷ xs) (suc i) x e = let h = get-take n xs i x e in (h.0, omega arith)
+
+-- the operation at this place of the phase that is under way, and the rest of the phase behind it
+record IsHere (w : Work) (t : Thread) (o : Op) (rest : List Op) : Type 0 where
+  there : slice_get w.program t.index ≡ Some o
+  within : t.index < length w.program
+  in_phase : IsOfPhase w t.phase t.index
+  before_end : t.index + 1 ≤ ops_in_first (t.phase + 1) w.phases
+  behind : rest ≡ drop (t.index + 1) (take (ops_in_first (t.phase + 1) w.phases) w.program)
+
+is-here : (w : Work) (t : Thread) (o : Op) (rest : List Op) → o ∷ rest ≡ drop t.index (take (ops_in_first (t.phase + 1) w.phases) w.program) → IsHere w t o rest
+is-here w t o rest r =
+    let g = get-drop (take (ops_in_first (t.phase + 1) w.phases) w.program) rest t.index o r in
+    let here = get-take (ops_in_first (t.phase + 1) w.phases) w.program t.index o g.0 in
+    let below = slice_get_within w.program t.index o here.0 in
+    record { there = here.0; within = below; in_phase = rw (lt-ltb t.index (length w.program) below) here.1; before_end = let h = here.1 in omega arith; behind = g.1 }
+
+-- the operations of the phase are done: it waits for the next phase, or the scope ends
+ends-phase : (w : Work) → IsServedWork w → (t : Thread) (now : List Note) → WorksOn w t.layout t.shape t.thread t.phases t.program → IsCounted w t.hands t.made t.kept now →
+    [] ≡ drop t.index (take (ops_in_first (t.phase + 1) w.phases) w.program) → t.index ≤ ops_in_first (t.phase + 1) w.phases → AreDone w t.index t.vars now → Comes w (phase_over t) t.event now
+ends-phase w served t now works counts r before d = subst P (sym works.phases_is) (go (ltb (t.phase + 1) (length w.phases)) refl)
   where
-    over_all : (b : Bool) → ltb t.index (length w.program) ≡ b → ltb t.index (length w.program) ≡ false
-    over_all true e = let below = ltb-true t.index (length w.program) e in let most : length w.program ≤ t.index = nothing-left w.program t.index r in absurd (omega arith)
-    over_all false e = e
-begins w served (op.New to class ∷ rest) t now works counts r d =
-    let g = get-drop w.program rest t.index (op.New to class) r in
+    P : List (List Op) → Type 0
+    P phases = Comes w (cond (ltb (t.phase + 1) (length phases)) (record t { doing = Ready; asked = moves.PhaseEnd; phase = t.phase + 1 }) (scope_begun t)) t.event now
+
+    total : length w.program ≡ length (flat_map (λ ops. ops) w.phases)
+    total = ap length served.whole
+
+    at_end : t.index ≡ ops_in_first (t.phase + 1) w.phases
+    at_end =
+        let most = nothing-left (take (ops_in_first (t.phase + 1) w.phases) w.program) t.index r in
+        let few = first_few (t.phase + 1) w.phases in
+        let all = total in
+        let long : length (take (ops_in_first (t.phase + 1) w.phases) w.program) ≡ ops_in_first (t.phase + 1) w.phases = length-take-le (ops_in_first (t.phase + 1) w.phases) w.program (omega arith) in
+        omega arith
+
+    ending : length w.phases ≤ t.phase + 1 → Comes w (scope_begun t) t.event now
+    ending last = comes-after w (scope_begun t) t.event now (Operation 0 ∷ now) (operation nothing)
+        (scopes w t (Operation 0 ∷ now) works (counted-operation w t.hands t.made t.kept 0 now counts) (past (ltb t.index (length w.program)) refl) refl last (record {
+          first = variables t.vars;
+          worked = now;
+          ops = rw (← over) d;
+          same_count = length-map t.vars held_in;
+          below = 0;
+          within = omega arith;
+          ends = scope_starts;
+          nils = λ v below. absurd (omega arith);
+        }))
+      where
+        over : t.index ≡ length w.program
+        over = at_end ∙ first_all (t.phase + 1) w.phases last ∙ sym total
+
+        past : (b : Bool) → ltb t.index (length w.program) ≡ b → ltb t.index (length w.program) ≡ false
+        past true e = let below = ltb-true t.index (length w.program) e in let same = over in absurd (omega arith)
+        past false e = e
+
+    go : (b : Bool) → ltb (t.phase + 1) (length w.phases) ≡ b → Comes w (cond b (record t { doing = Ready; asked = moves.PhaseEnd; phase = t.phase + 1 }) (scope_begun t)) t.event now
+    go true e = record {
+      after = now;
+      says = nothing;
+      event = refl;
+      stands = record { works = works; in_phase = at_end; counts = counts; number = tt; asks = refl; up_to = d };
+    }
+    go false e = ending (ltb-false (t.phase + 1) (length w.phases) e)
+
+-- an operation that is next, with what every operation needs
+record Opens (w : Work) (t : Thread) (now : List Note) (o : Op) : Type 0 where
+  next : IsNext w.shape w.thread w.came w.program w.count t.index o (variables t.vars) now
+  number : number_of (Operation (t.index + 1) ∷ now) ≡ number_at w t.index
+  opened : IsCounted w t.hands t.made t.kept (Operation (t.index + 1) ∷ now)
+
+opens : (w : Work) (t : Thread) (now : List Note) (o : Op) (rest : List Op) → IsHere w t o rest → IsCounted w t.hands t.made t.kept now → AreDone w t.index t.vars now → Opens w t now o
+opens w t now o rest here counts d = record {
+  next = record { done = d; there = here.there };
+  number = sym (number-within w t.index here.within);
+  opened = counted-operation w t.hands t.made t.kept (t.index + 1) now counts;
+}
+
+-- a nil reference is taken for a variable
+from-nil : (w : Work) (t : Thread) (now : List Note) (o : Op) (rest : List Op) (to : ℕ) (go : Thread → Thread) → WorksOn w t.layout t.shape t.thread t.phases t.program → IsHere w t o rest → Opens w t now o →
+    IsFromNil (variables t.vars) o to →
+    (AreDone w (t.index + 1) t.vars (Line answers.Nil ∷ Operation (t.index + 1) ∷ now) → Comes w (go (skipped answers.Nil t)) t.event (Line answers.Nil ∷ Operation (t.index + 1) ∷ now)) →
+    Comes w (begun_nil to (value t.vars to) t go) t.event now
+from-nil w t now o rest to go works here x nil skip = at (value t.vars to) refl
+  where
+    answered : (old : Option Held) → value t.vars to ≡ old →
+        IsAnswered w.thread w.came o (variables t.vars) (Operation (t.index + 1) ∷ now) (put_var (variables t.vars) to None) answers.Nil (held_in old) (Operation (t.index + 1) ∷ now)
+    answered old e = takes_nil nil (record { replaced = refl; old = sym (value-held t.vars to old e) }) refl
+
+    at : (old : Option Held) → value t.vars to ≡ old → Comes w (begun_nil to old t go) t.event now
+    at (Some old) e = record {
+      after = Line answers.Nil ∷ Operation (t.index + 1) ∷ now;
+      says = line (operation nothing);
+      event = refl;
+      stands = drop-asks w (set_var to None (put answers.Nil (record t { first = true }))) old (Line answers.Nil ∷ Operation (t.index + 1) ∷ now) works
+          (counted-line w t.hands t.made t.kept (thread.number_of t) answers.Nil (Operation (t.index + 1) ∷ now) (number-here w t (Operation (t.index + 1) ∷ now) works x.number) x.opened)
+          x.number here.in_phase
+          (λ after y. over-done w t.index (set t.vars to None) after here.within (rw (put-held t.vars to None) (drops_last x.next (answered (Some old) e) y)));
+    }
+    at None e =
+        let same : put_var (variables t.vars) to None ≡ variables t.vars = put-nil (variables t.vars) to (value-held t.vars to None e) in
+        comes-after w (go (skipped answers.Nil t)) t.event now (Line answers.Nil ∷ Operation (t.index + 1) ∷ now) (line (operation nothing)) (skip (rw same at (answers_last x.next (answered None e))))
+
+-- a reference is copied
+copying : (w : Work) (t : Thread) (now : List Note) (to from : ℕ) (rest : List Op) (go : Thread → Thread) → WorksOn w t.layout t.shape t.thread t.phases t.program → IsHere w t (op.Copy to from) rest →
+    Opens w t now (op.Copy to from) → AreDone w t.index t.vars now →
+    (AreDone w (t.index + 1) t.vars (Line answers.Nil ∷ Operation (t.index + 1) ∷ now) → Comes w (go (skipped answers.Nil t)) t.event (Line answers.Nil ∷ Operation (t.index + 1) ∷ now)) →
+    Comes w (begun_copy to (value t.vars from) (value t.vars to) t go) t.event now
+copying w t now to from rest go works here x d skip = at (value t.vars from) refl
+  where
+    at : (source : Option Held) → value t.vars from ≡ source → Comes w (begun_copy to source (value t.vars to) t go) t.event now
+    at (Some h) e = record {
+      after = Operation (t.index + 1) ∷ now;
+      says = operation nothing;
+      event = refl;
+      stands = record {
+        works = works;
+        in_phase = here.in_phase;
+        counts = x.opened;
+        number = x.number;
+        asks = tt;
+        up_to = record { from = from; begun = record { base = now; done = d; there = here.there; now_is = refl }; source = e };
+      };
+    }
+    at None e = from-nil w t now (op.Copy to from) rest to go works here x (copy_from_nil (value-held t.vars from None e)) skip
+
+-- a reference is moved
+moving : (w : Work) (t : Thread) (now : List Note) (to from : ℕ) (rest : List Op) (go : Thread → Thread) → WorksOn w t.layout t.shape t.thread t.phases t.program → IsHere w t (op.Move to from) rest →
+    Opens w t now (op.Move to from) →
+    (AreDone w (t.index + 1) t.vars (Line answers.Nil ∷ Operation (t.index + 1) ∷ now) → Comes w (go (skipped answers.Nil t)) t.event (Line answers.Nil ∷ Operation (t.index + 1) ∷ now)) →
+    ((held : Held) → AreDone w (t.index + 1) (set (set t.vars to (Some held)) from None) (Line answers.Ok ∷ Operation (t.index + 1) ∷ now) →
+    Comes w (go (moved to from held (skipped answers.Ok t))) t.event (Line answers.Ok ∷ Operation (t.index + 1) ∷ now)) →
+    Comes w (begun_move to from (value t.vars from) (value t.vars to) t go) t.event now
+moving w t now to from rest go works here x skip move = at (value t.vars from) refl
+  where
+    replaced_vars : (h : Held) → variables (set (set t.vars to (Some h)) from None) ≡ put_var (put_var (variables t.vars) to (Some (strong_held h))) from None
+    replaced_vars h = put-held (set t.vars to (Some h)) from None ∙ ap (λ vs. put_var vs from None) (put-held t.vars to (Some h))
+
+    answered : (h : Held) (old : Option Held) → value t.vars from ≡ Some h → value t.vars to ≡ old →
+        IsAnswered w.thread w.came (op.Move to from) (variables t.vars) (Operation (t.index + 1) ∷ now) (put_var (put_var (variables t.vars) to (Some (strong_held h))) from None) answers.Ok (held_in old)
+        (Operation (t.index + 1) ∷ now)
+    answered h old e f = moves_held (value-held t.vars from (Some h) e) (record { replaced = refl; old = sym (value-held t.vars to old f) }) refl refl
+
+    to_place : (h : Held) (old : Option Held) → value t.vars from ≡ Some h → value t.vars to ≡ old → Comes w (begun_move to from (Some h) old t go) t.event now
+    to_place h (Some old) e f = record {
+      after = Line answers.Ok ∷ Operation (t.index + 1) ∷ now;
+      says = line (operation nothing);
+      event = refl;
+      stands = drop-asks w (moved to from h (put answers.Ok (record t { first = true }))) old (Line answers.Ok ∷ Operation (t.index + 1) ∷ now) works
+          (counted-line w t.hands t.made t.kept (thread.number_of t) answers.Ok (Operation (t.index + 1) ∷ now) (number-here w t (Operation (t.index + 1) ∷ now) works x.number) x.opened)
+          x.number here.in_phase
+          (λ after y. over-done w t.index (set (set t.vars to (Some h)) from None) after here.within (rw (replaced_vars h) (drops_last x.next (answered h (Some old) e f) y)));
+    }
+    to_place h None e f =
+        comes-after w (go (moved to from h (skipped answers.Ok t))) t.event now (Line answers.Ok ∷ Operation (t.index + 1) ∷ now) (line (operation nothing))
+        (move h (rw (replaced_vars h) (answers_last x.next (answered h None e f))))
+
+    at : (source : Option Held) → value t.vars from ≡ source → Comes w (begun_move to from source (value t.vars to) t go) t.event now
+    at (Some h) e = to_place h (value t.vars to) e refl
+    at None e = from-nil w t now (op.Move to from) rest to go works here x (move_from_nil (value-held t.vars from None e)) skip
+
+-- a reference is dropped
+dropping : (w : Work) (t : Thread) (now : List Note) (v : ℕ) (rest : List Op) (go : Thread → Thread) → WorksOn w t.layout t.shape t.thread t.phases t.program → IsHere w t (op.Drop v) rest → Opens w t now (op.Drop v) →
+    (AreDone w (t.index + 1) t.vars (Line answers.Nil ∷ Operation (t.index + 1) ∷ now) → Comes w (go (skipped answers.Nil t)) t.event (Line answers.Nil ∷ Operation (t.index + 1) ∷ now)) →
+    Comes w (begun_drop v (value t.vars v) t go) t.event now
+dropping w t now v rest go works here x skip = at (value t.vars v) refl
+  where
+    at : (old : Option Held) → value t.vars v ≡ old → Comes w (begun_drop v old t go) t.event now
+    at (Some old) e = record {
+      after = Line answers.Ok ∷ Operation (t.index + 1) ∷ now;
+      says = line (operation nothing);
+      event = refl;
+      stands = drop-asks w (set_var v None (put answers.Ok (record t { first = true }))) old (Line answers.Ok ∷ Operation (t.index + 1) ∷ now) works
+          (counted-line w t.hands t.made t.kept (thread.number_of t) answers.Ok (Operation (t.index + 1) ∷ now) (number-here w t (Operation (t.index + 1) ∷ now) works x.number) x.opened)
+          x.number here.in_phase
+          (λ after y. over-done w t.index (set t.vars v None) after here.within
+          (rw (put-held t.vars v None) (drops_last x.next (drop_of w.thread v w.came (strong_held old) (variables t.vars) (Operation (t.index + 1) ∷ now) (value-held t.vars v (Some old) e)) y)));
+    }
+    at None e = comes-after w (go (skipped answers.Nil t)) t.event now (Line answers.Nil ∷ Operation (t.index + 1) ∷ now) (line (operation nothing))
+        (skip (answers_last x.next (drop_of_nil w.thread v w.came (variables t.vars) (Operation (t.index + 1) ∷ now) (value-held t.vars v None e))))
+
+-- the first operation of the rest of the phase that asks for a step begins, or the phase is over
+pub begins : (w : Work) → IsServedWork w → (rest : List Op) (t : Thread) (now : List Note) → WorksOn w t.layout t.shape t.thread t.phases t.program → IsCounted w t.hands t.made t.kept now →
+    rest ≡ drop t.index (take (ops_in_first (t.phase + 1) w.phases) w.program) → t.index ≤ ops_in_first (t.phase + 1) w.phases → AreDone w t.index t.vars now → Comes w (begun_at rest t) t.event now
+begins w served [] t now works counts r before d = ends-phase w served t now works counts r before d
+begins w served (op.New to class ∷ rest) t now works counts r before d =
+    let here = is-here w t (op.New to class) rest r in
     record {
       after = Operation (t.index + 1) ∷ now;
       says = operation nothing;
       event = refl;
       stands = record {
         works = works;
+        in_phase = here.in_phase;
         counts = counted-operation w t.hands t.made t.kept (t.index + 1) now counts;
-        number = sym (number-within w t.index (slice_get_within w.program t.index (op.New to class) g.0));
+        number = sym (number-within w t.index here.within);
         asks = tt;
         up_to = (
           refl,
           record {
-            begun = record { base = now; done = d; there = g.0; now_is = refl };
+            begun = record { base = now; done = d; there = here.there; now_is = refl };
             named = rw (works.thread_is, counts.made_is) refl;
           },
         );
       };
     }
-begins w served (op.Copy to from ∷ rest) t now works counts r d = copying (value t.vars from) (value t.vars to) refl refl (λ e f.
-    begins w served rest (skipped t) (Line answers.Nil ∷ Operation (t.index + 1) ∷ now) works
-    (counted-line w t.hands t.made t.kept (t.index + 1) answers.Nil (Operation (t.index + 1) ∷ now) refl opened)
-    (get-drop w.program rest t.index (op.Copy to from) r).1
-    (stays e f))
-  where
-    there : slice_get w.program t.index ≡ Some (op.Copy to from)
-    there = (get-drop w.program rest t.index (op.Copy to from) r).0
-
-    within : t.index < length w.program
-    within = slice_get_within w.program t.index (op.Copy to from) there
-
-    next : IsNext w.shape w.thread w.came w.program w.count t.index (op.Copy to from) (variables t.vars) now
-    next = record { done = d; there = there }
-
-    number : number_of (Operation (t.index + 1) ∷ now) ≡ number_at w t.index
-    number = sym (number-within w t.index within)
-
-    opened : IsCounted w t.hands t.made t.kept (Operation (t.index + 1) ∷ now)
-    opened = counted-operation w t.hands t.made t.kept (t.index + 1) now counts
-
-    stays : value t.vars from ≡ None → value t.vars to ≡ None → AreDone w (t.index + 1) t.vars (Line answers.Nil ∷ Operation (t.index + 1) ∷ now)
-    stays e f =
-        let same : put_var (variables t.vars) to None ≡ variables t.vars = put-nil (variables t.vars) to (value-held t.vars to None f) in
-        rw same at (answers_last next (copy_of_nil w.thread to from w.came None (variables t.vars) (Operation (t.index + 1) ∷ now) (value-held t.vars from None e) (sym (value-held t.vars to None f))))
-
-    copying : (source old : Option Held) → value t.vars from ≡ source → value t.vars to ≡ old →
-        (value t.vars from ≡ None → value t.vars to ≡ None → Comes w (begun_at rest (skipped t)) t.event (Line answers.Nil ∷ Operation (t.index + 1) ∷ now)) →
-        Comes w (begun_copy to source old t (begun_at rest (skipped t))) t.event now
-    copying (Some h) old e f skip = record {
-      after = Operation (t.index + 1) ∷ now;
-      says = operation nothing;
-      event = refl;
-      stands = record { works = works; counts = opened; number = number; asks = tt; up_to = record { from = from; begun = record { base = now; done = d; there = there; now_is = refl }; source = e } };
-    }
-    copying None (Some old) e f skip = record {
-      after = Line answers.Nil ∷ Operation (t.index + 1) ∷ now;
-      says = line (operation nothing);
-      event = refl;
-      stands = drop-asks w (set_var to None (put answers.Nil (record t { first = true }))) old (Line answers.Nil ∷ Operation (t.index + 1) ∷ now) works
-          (counted-line w t.hands t.made t.kept (thread.number_of t) answers.Nil (Operation (t.index + 1) ∷ now) (number-here w t (Operation (t.index + 1) ∷ now) works number) opened)
-          number
-          (λ after x. over-done w t.index (set t.vars to None) after within
-          (rw (put-held t.vars to None) (drops_last next (copy_of_nil w.thread to from w.came (Some (strong_held old)) (variables t.vars) (Operation (t.index + 1) ∷ now) (value-held t.vars from None e) (sym (value-held t.vars to (Some old) f))) x)));
-    }
-    copying None None e f skip = comes-after w (begun_at rest (skipped t)) t.event now (Line answers.Nil ∷ Operation (t.index + 1) ∷ now) (line (operation nothing)) (skip e f)
-begins w served (op.Drop v ∷ rest) t now works counts r d = dropping (value t.vars v) refl (λ e.
-    begins w served rest (skipped t) (Line answers.Nil ∷ Operation (t.index + 1) ∷ now) works
-    (counted-line w t.hands t.made t.kept (t.index + 1) answers.Nil (Operation (t.index + 1) ∷ now) refl opened)
-    (get-drop w.program rest t.index (op.Drop v) r).1
-    (answers_last next (drop_of_nil w.thread v w.came (variables t.vars) (Operation (t.index + 1) ∷ now) (value-held t.vars v None e))))
-  where
-    there : slice_get w.program t.index ≡ Some (op.Drop v)
-    there = (get-drop w.program rest t.index (op.Drop v) r).0
-
-    within : t.index < length w.program
-    within = slice_get_within w.program t.index (op.Drop v) there
-
-    next : IsNext w.shape w.thread w.came w.program w.count t.index (op.Drop v) (variables t.vars) now
-    next = record { done = d; there = there }
-
-    number : number_of (Operation (t.index + 1) ∷ now) ≡ number_at w t.index
-    number = sym (number-within w t.index within)
-
-    opened : IsCounted w t.hands t.made t.kept (Operation (t.index + 1) ∷ now)
-    opened = counted-operation w t.hands t.made t.kept (t.index + 1) now counts
-
-    dropping : (old : Option Held) → value t.vars v ≡ old → (value t.vars v ≡ None → Comes w (begun_at rest (skipped t)) t.event (Line answers.Nil ∷ Operation (t.index + 1) ∷ now)) →
-        Comes w (begun_drop v old t (begun_at rest (skipped t))) t.event now
-    dropping (Some old) e skip = record {
-      after = Line answers.Ok ∷ Operation (t.index + 1) ∷ now;
-      says = line (operation nothing);
-      event = refl;
-      stands = drop-asks w (set_var v None (put answers.Ok (record t { first = true }))) old (Line answers.Ok ∷ Operation (t.index + 1) ∷ now) works
-          (counted-line w t.hands t.made t.kept (thread.number_of t) answers.Ok (Operation (t.index + 1) ∷ now) (number-here w t (Operation (t.index + 1) ∷ now) works number) opened)
-          number
-          (λ after x. over-done w t.index (set t.vars v None) after within
-          (rw (put-held t.vars v None) (drops_last next (drop_of w.thread v w.came (strong_held old) (variables t.vars) (Operation (t.index + 1) ∷ now) (value-held t.vars v (Some old) e)) x)));
-    }
-    dropping None e skip = comes-after w (begun_at rest (skipped t)) t.event now (Line answers.Nil ∷ Operation (t.index + 1) ∷ now) (line (operation nothing)) (skip e)
-begins w served (op.Move to from ∷ rest) t now works counts r d = absurd (served-at w t.index (op.Move to from) served (get-drop w.program rest t.index (op.Move to from) r).0)
-begins w served (op.Unown to of ∷ rest) t now works counts r d = absurd (served-at w t.index (op.Unown to of) served (get-drop w.program rest t.index (op.Unown to of) r).0)
-begins w served (op.Weak to of ∷ rest) t now works counts r d = absurd (served-at w t.index (op.Weak to of) served (get-drop w.program rest t.index (op.Weak to of) r).0)
-begins w served (op.Load to of ∷ rest) t now works counts r d = absurd (served-at w t.index (op.Load to of) served (get-drop w.program rest t.index (op.Load to of) r).0)
-begins w served (op.Get to cell ∷ rest) t now works counts r d = absurd (served-at w t.index (op.Get to cell) served (get-drop w.program rest t.index (op.Get to cell) r).0)
-begins w served (op.Set cell from ∷ rest) t now works counts r d = absurd (served-at w t.index (op.Set cell from) served (get-drop w.program rest t.index (op.Set cell from) r).0)
+begins w served (op.Copy to from ∷ rest) t now works counts r before d =
+    let here = is-here w t (op.Copy to from) rest r in
+    let x = opens w t now (op.Copy to from) rest here counts d in
+    copying w t now to from rest (λ behind. begun_at rest behind) works here x d
+    (λ done. begins w served rest (skipped answers.Nil t) (Line answers.Nil ∷ Operation (t.index + 1) ∷ now) works (skipped-line w t answers.Nil now x.opened) here.behind here.before_end done)
+begins w served (op.Move to from ∷ rest) t now works counts r before d =
+    let here = is-here w t (op.Move to from) rest r in
+    let x = opens w t now (op.Move to from) rest here counts d in
+    moving w t now to from rest (λ behind. begun_at rest behind) works here x
+    (λ done. begins w served rest (skipped answers.Nil t) (Line answers.Nil ∷ Operation (t.index + 1) ∷ now) works (skipped-line w t answers.Nil now x.opened) here.behind here.before_end done)
+    (λ held done. begins w served rest (moved to from held (skipped answers.Ok t)) (Line answers.Ok ∷ Operation (t.index + 1) ∷ now) works (skipped-line w t answers.Ok now x.opened) here.behind here.before_end done)
+begins w served (op.Drop v ∷ rest) t now works counts r before d =
+    let here = is-here w t (op.Drop v) rest r in
+    let x = opens w t now (op.Drop v) rest here counts d in
+    dropping w t now v rest (λ behind. begun_at rest behind) works here x
+    (λ done. begins w served rest (skipped answers.Nil t) (Line answers.Nil ∷ Operation (t.index + 1) ∷ now) works (skipped-line w t answers.Nil now x.opened) here.behind here.before_end done)
+begins w served (op.Unown to of ∷ rest) t now works counts r before d = absurd (served-at w t.index (op.Unown to of) served (is-here w t (op.Unown to of) rest r).there)
+begins w served (op.Weak to of ∷ rest) t now works counts r before d = absurd (served-at w t.index (op.Weak to of) served (is-here w t (op.Weak to of) rest r).there)
+begins w served (op.Load to of ∷ rest) t now works counts r before d = absurd (served-at w t.index (op.Load to of) served (is-here w t (op.Load to of) rest r).there)
+begins w served (op.Get to cell ∷ rest) t now works counts r before d = absurd (served-at w t.index (op.Get to cell) served (is-here w t (op.Get to cell) rest r).there)
+begins w served (op.Set cell from ∷ rest) t now works counts r before d = absurd (served-at w t.index (op.Set cell from) served (is-here w t (op.Set cell from) rest r).there)
 
 -- what was under way is over
-pub goes-on : (w : Work) → IsServedWork w → (t : Thread) (now : List Note) → WorksOn w t.layout t.shape t.thread t.program → IsCounted w t.hands t.made t.kept now →
-    number_of now ≡ number_at w t.index → IsOver w t.index t.vars now → Comes w (next_op t) t.event now
-goes-on w served t now works counts number over =
+pub goes-on : (w : Work) → IsServedWork w → (t : Thread) (now : List Note) → WorksOn w t.layout t.shape t.thread t.phases t.program → IsCounted w t.hands t.made t.kept now →
+    number_of now ≡ number_at w t.index → IsOfPhase w t.phase t.index → IsOver w t.index t.vars now → Comes w (next_op t) t.event now
+goes-on w served t now works counts number phase over =
     let P : List Op → Type 0 = λ (p : List Op). Comes w (begun (record t { doing = Ended; index = cond (ltb t.index (length p)) (t.index + 1) t.index })) t.event now in
-    subst P (sym works.program_is) (go (ltb t.index (length w.program)) refl over number)
+    subst P (sym works.program_is) (go (ltb t.index (length w.program)) refl over number phase)
   where
-    go : (b : Bool) → ltb t.index (length w.program) ≡ b → IsOverIf b w t.index t.vars now → number_of now ≡ cond b (t.index + 1) 0 →
+    -- the rest of the phase at a place
+    rest_is : (i : ℕ) → drop i (take (ops_in_first (t.phase + 1) t.phases) t.program) ≡ drop i (take (ops_in_first (t.phase + 1) w.phases) w.program)
+    rest_is i = ap (λ ps. drop i (take (ops_in_first (t.phase + 1) ps) t.program)) works.phases_is ∙ ap (λ (p : List Op). drop i (take (ops_in_first (t.phase + 1) w.phases) p)) works.program_is
+
+    go : (b : Bool) → ltb t.index (length w.program) ≡ b → IsOverIf b w t.index t.vars now → number_of now ≡ cond b (t.index + 1) 0 → IsOfPhaseIf b w t.phase t.index →
         Comes w (begun (record t { doing = Ended; index = cond b (t.index + 1) t.index })) t.event now
-    go true e over number = begins w served (drop (t.index + 1) t.program) (record t { doing = Ended; index = t.index + 1 }) now works counts (ap (λ (p : List Op). drop (t.index + 1) p) works.program_is) over
-    go false e over number =
-        let past = ltb-false t.index (length w.program) e in
-        let none : drop t.index t.program ≡ [] = ap (λ (p : List Op). drop t.index p) works.program_is ∙ drop_all t.index w.program past in
-        let Q : List Op → Type 0 = λ (rest : List Op). Comes w (begun_at rest (record t { doing = Ended; index = t.index })) t.event now in
-        subst Q (sym none) (scopes w (record t { doing = Ended; index = t.index }) now works counts e number over)
+    go true e over number phase =
+        begins w served (drop (t.index + 1) (take (ops_in_first (t.phase + 1) t.phases) t.program)) (record t { doing = Ended; index = t.index + 1 }) now works counts (rest_is (t.index + 1)) (omega arith) over
+    go false e over number phase = subst Q (sym none) (subst R (sym works.phases_is) (last (ltb (t.phase + 1) (length w.phases)) refl))
+      where
+        past : length w.program ≤ t.index
+        past = ltb-false t.index (length w.program) e
+
+        none : drop t.index (take (ops_in_first (t.phase + 1) t.phases) t.program) ≡ []
+        none =
+            let short = length-take (ops_in_first (t.phase + 1) w.phases) w.program in
+            let most = past in
+            rest_is t.index ∙ drop_all t.index (take (ops_in_first (t.phase + 1) w.phases) w.program) (omega arith)
+
+        Q : List Op → Type 0
+        Q rest = Comes w (begun_at rest (record t { doing = Ended; index = t.index })) t.event now
+
+        R : List (List Op) → Type 0
+        R phases = Comes w
+            (cond (ltb (t.phase + 1) (length phases)) (record t { doing = Ready; asked = moves.PhaseEnd; phase = t.phase + 1 }) (scope_begun (record t { doing = Ended; index = t.index }))) t.event now
+
+        last : (b : Bool) → ltb (t.phase + 1) (length w.phases) ≡ b →
+            Comes w (cond b (record t { doing = Ready; asked = moves.PhaseEnd; phase = t.phase + 1 }) (scope_begun (record t { doing = Ended; index = t.index }))) t.event now
+        last true f = let more = ltb-true (t.phase + 1) (length w.phases) f in absurd (omega arith)
+        last false f = scopes w (record t { doing = Ended; index = t.index }) now works counts e number phase over
 
 -- the destination has its new reference, and what it held is dropped last
-pub replaces : (w : Work) → IsServedWork w → (t : Thread) (to : ℕ) (held : Held) (o : Op) (answer : Answer) (base ns : List Note) → WorksOn w t.layout t.shape t.thread t.program →
-    IsCounted w t.hands t.made t.kept (Line answer ∷ ns) → number_of ns ≡ number_at w t.index → AreDone w t.index t.vars base → slice_get w.program t.index ≡ Some o →
+pub replaces : (w : Work) → IsServedWork w → (t : Thread) (to : ℕ) (held : Held) (o : Op) (answer : Answer) (base ns : List Note) → WorksOn w t.layout t.shape t.thread t.phases t.program →
+    IsCounted w t.hands t.made t.kept (Line answer ∷ ns) → number_of ns ≡ number_at w t.index → IsOfPhase w t.phase t.index → AreDone w t.index t.vars base → slice_get w.program t.index ≡ Some o →
     IsAnswered w.thread w.came o (variables t.vars) (Operation (t.index + 1) ∷ base) (put_var (variables t.vars) to (Some (strong_held held))) answer (programs.value (variables t.vars) to) ns →
     Comes w (replaced to held t) t.event (Line answer ∷ ns)
-replaces w served t to held o answer base ns works counts number done there answered = go (value t.vars to) refl
+replaces w served t to held o answer base ns works counts number phase done there answered = go (value t.vars to) refl
   where
     within : t.index < length w.program
     within = slice_get_within w.program t.index o there
@@ -421,11 +552,11 @@ replaces w served t to held o answer base ns works counts number done there answ
     go : (old : Option Held) → value t.vars to ≡ old → Comes w (replaced_old old (set_var to (Some held) t)) t.event (Line answer ∷ ns)
     go None e =
         let d : AreDone w (t.index + 1) (set t.vars to (Some held)) (Line answer ∷ ns) = rw (put-held t.vars to (Some held)) (answers_last next (rw (value-held t.vars to None e) at answered)) in
-        goes-on w served (set_var to (Some held) t) (Line answer ∷ ns) works counts number (over-done w t.index (set t.vars to (Some held)) (Line answer ∷ ns) within d)
+        goes-on w served (set_var to (Some held) t) (Line answer ∷ ns) works counts number phase (over-done w t.index (set t.vars to (Some held)) (Line answer ∷ ns) within d)
     go (Some old) e = record {
       after = Line answer ∷ ns;
       says = nothing;
       event = refl;
-      stands = drop-asks w (set_var to (Some held) t) old (Line answer ∷ ns) works counts number
+      stands = drop-asks w (set_var to (Some held) t) old (Line answer ∷ ns) works counts number phase
           (λ after x. over-done w t.index (set t.vars to (Some held)) after within (rw (put-held t.vars to (Some held)) (drops_last next (rw (value-held t.vars to (Some old) e) at answered) x)));
     }

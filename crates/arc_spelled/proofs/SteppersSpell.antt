@@ -1,9 +1,9 @@
 -- A thread's stepper begins with no note, and its notes spell the thread's program where it has ended.
-use Rattle.std.proofs.Common.{◌≡◌, ℕ, zero, suc, ◌-◌, ◌<◌, ◌≤◌, Bool, true, false, cond, eqb, List, [], ◌∷◌, length, replicate, take, Option, Some, None, refl, sym, ap, subst, ◌∙◌, arith}
+use Rattle.std.proofs.Common.{◌≡◌, ℕ, zero, suc, ◌-◌, ◌<◌, ◌≤◌, Bool, true, false, cond, eqb, List, [], ◌∷◌, ◌++◌, length, replicate, take, Option, Some, None, refl, ap, subst, ◌∙◌, arith}
 use Rattle.std.proofs.Math.Seq.{take-nil}
 use Rattle.std.proofs.lemmas.Bool.{eqb-true}
-use Rattle.std.proofs.lemmas.List.{append-nil, take_all}
-use Rattle.std.proofs.lemmas.List.Elements.{All-nil, All-get_or, recursion_from_All}
+use Rattle.std.proofs.lemmas.List.{take_all}
+use Rattle.std.proofs.lemmas.List.Elements.{All-get_or, All-from_recursion, recursion_from_All}
 use Rattle.std.proofs.lemmas.Option.{slice_get_within, get_or_from_slice_get}
 use Rattle.std.specs.Prelude.{slice_get, All, flat_map}
 use Rattle.std.specs.List.{AllByRecursion}
@@ -33,7 +33,7 @@ use Rattle.arc_programs.specs.ProgramsTied.Spells.{thread, end}
 use Rattle.arc_ops.specs.declared.stepper.Doing.{Doing}
 use Rattle.arc_ops.specs.declared.stepper.Doing.TheVariants.{Ready, Making, Copying, Dropping, Dying, Ended}
 use Rattle.arc_ops.specs.declared.stepper.Move.TheVariants as moves
-use Rattle.arc_ops.specs.Programs.{ops_in, first_phase, program_of, count_of_vars, vars_of, room_for}
+use Rattle.arc_ops.specs.Programs.{phases_in, program_of, ops_in_first, count_of_vars, vars_of, room_in}
 use Rattle.arc_ops.specs.Kept.{Kept}
 use Rattle.arc_ops.specs.Served.{IsServed, IsServedThread, IsServedOp}
 use Rattle.arc_ops.specs.Thread.{Thread}
@@ -41,30 +41,34 @@ use Rattle.arc_spelled.specs.Shown.{ReadsName, FindsNoEntry, Says, with_act}
 use Rattle.arc_spelled.specs.Shown.ReadsName.{nothing as read_nothing, name as read_name}
 use Rattle.arc_spelled.specs.Shown.FindsNoEntry.{nothing as found_nothing, no_entry as found_no_entry}
 use Rattle.arc_spelled.specs.Shown.Says.{nothing as said_nothing, line, operation}
-use Rattle.arc_spelled.specs.StepperStands.{Work, IsServedWork, variables, StepperUpTo, Asks, StandsFor}
-use Rattle.arc_spelled.specs.Spelled.{work_of, SteppersBegin, SteppersGoOn, EndedSteppersSpell, with_event_of, WordsHold, AddedNotesAreTied}
+use Rattle.arc_spelled.specs.StepperStands.{Work, IsServedWork, variables, AreDone, StepperUpTo, IsInPhase, Asks, StandsFor}
+use Rattle.arc_spelled.specs.Spelled.{work_of, SteppersBegin, SteppersGoOn, EndedSteppersSpell, ReadySteppersHaveDone, with_event_of, WordsHold, AddedNotesAreTied}
 use Rattle.arc_spelled.proofs.StepperKeeps.{stepper_goes_on}
 
 -- ---- what a script's thread works on is served
 
-phase-served : (phases : List (List Op)) → AllByRecursion (All IsServedOp) phases → All IsServedOp (ops_in (slice_get phases 0))
-phase-served [] h = All-nil IsServedOp
-phase-served (ops ∷ rest) h = h.0
+both-served : (front back : List Op) → AllByRecursion IsServedOp front → AllByRecursion IsServedOp back → AllByRecursion IsServedOp (front ++ back)
+both-served [] back f b = b
+both-served (o ∷ front) back f b = (f.0, both-served front back f.1 b)
 
-thread-served : (ts : List ThreadDecl) (i : ℕ) → AllByRecursion IsServedThread ts → All IsServedOp (first_phase (slice_get ts i))
-thread-served [] i h = All-nil IsServedOp
-thread-served (t ∷ ts) zero h = phase-served t.phases (recursion_from_All (All IsServedOp) t.phases h.0.ops)
+phases-served : (phases : List (List Op)) → AllByRecursion (All IsServedOp) phases → AllByRecursion IsServedOp (flat_map (λ ops. ops) phases)
+phases-served [] h = tt
+phases-served (ops ∷ rest) h = both-served ops (flat_map (λ ops. ops) rest) (recursion_from_All IsServedOp ops h.0) (phases-served rest h.1)
+
+thread-served : (ts : List ThreadDecl) (i : ℕ) → AllByRecursion IsServedThread ts → AllByRecursion IsServedOp (flat_map (λ ops. ops) (phases_in (slice_get ts i)))
+thread-served [] i h = tt
+thread-served (t ∷ ts) zero h = phases-served t.phases (recursion_from_All (All IsServedOp) t.phases h.0.ops)
 thread-served (t ∷ ts) (suc i) h = thread-served ts i h.1
 
 program-served : (s : Script) (p : ℕ) → IsServed s → All IsServedOp (program_of s p)
-program-served s p served = go (eqb p 0)
+program-served s p served = All-from_recursion IsServedOp (program_of s p) (go (eqb p 0))
   where
-    go : (b : Bool) → All IsServedOp (first_phase (cond b None (slice_get s.threads (p - 1))))
-    go true = All-nil IsServedOp
+    go : (b : Bool) → AllByRecursion IsServedOp (flat_map (λ ops. ops) (phases_in (cond b None (slice_get s.threads (p - 1)))))
+    go true = tt
     go false = thread-served s.threads (p - 1) (recursion_from_All IsServedThread s.threads served.threads)
 
-served-work : (s : Script) (p : ℕ) (came : Hands) → IsServed s → IsServedWork (work_of s p came)
-served-work s p came served = record { ops = program-served s p served; without_fields = served.without_fields }
+pub served-work : (s : Script) (p : ℕ) (came : Hands) → IsServed s → IsServedWork (work_of s p came)
+served-work s p came served = record { whole = refl; ops = program-served s p served; without_fields = served.without_fields }
 
 -- ---- a new stepper
 
@@ -74,7 +78,8 @@ all-nil (suc n) = ap (λ (vs : Variables). None ∷ vs) (all-nil n)
 
 pub steppers_begin : SteppersBegin
 steppers_begin script p came = record {
-  works = record { layout_is = refl; shape_is = refl; thread_is = refl; program_is = refl };
+  works = record { layout_is = refl; shape_is = refl; thread_is = refl; phases_is = refl; program_is = refl };
+  in_phase = refl;
   counts = record { hands_are = refl; made_is = refl; lines_are = rw take-nil refl };
   number = tt;
   asks = refl;
@@ -104,7 +109,7 @@ any-answered any s (swapped e h v k c l) = absurd s
 any-answered any s (no_owner e v n) = absurd s
 any-answered any s (given_up e r n) = given_up e r n
 any-answered any s (nothing_there e v n) = nothing_there e v n
-any-answered any s (moved e r v n) = absurd s
+any-answered any s (moved e r v n) = moved e r v n
 any-answered any s (from_nil f r n) = from_nil f r n
 any-answered any s (count_full c g v) = count_full c g v
 any-answered any s (no_entry c g v) = no_entry c g v
@@ -130,19 +135,10 @@ at-end w t now s e = go t.doing (rw e at s.asks) s.up_to
     go (Dying c) a u = absurd a
     go Ended a u = u
 
--- the operations of a thread of one phase
-one-phase : (phases : List (List Op)) → length phases ≡ 1 → ops_in (slice_get phases 0) ≡ flat_map (λ ops. ops) phases
-one-phase [] e = absurd (omega arith)
-one-phase (ops ∷ []) e = sym (append-nil ops)
-one-phase (ops ∷ more ∷ rest) e = absurd (omega arith)
-
 thread-there : (ts : List ThreadDecl) (i : ℕ) → i < length ts → slice_get ts i ≡ None → ⊥
 thread-there [] i within e = absurd (omega arith)
 thread-there (t ∷ ts) zero within e = absurd (cc)
 thread-there (t ∷ ts) (suc i) within e = thread-there ts i (omega arith) e
-
-served-decl : (ts : List ThreadDecl) (i : ℕ) (t : ThreadDecl) → All IsServedThread ts → slice_get ts i ≡ Some t → IsServedThread t
-served-decl ts i t all e = subst IsServedThread (get_or_from_slice_get ts i t t e) (All-get_or IsServedThread ts i t (slice_get_within ts i t e) all)
 
 -- nothing is done in an empty program, and no variable is there to drop
 none-done : {shape : HeapShape} {p : ℕ} {came : Hands} {count n : ℕ} {vars : Variables} {now : List Note} → OpsDone shape p came [] count n vars now → now ≡ []
@@ -169,26 +165,41 @@ threads-spell s zero any now valid served within program = rw alone (end (end_be
     no_globals = rw valid.heading.of_globals (rw served.no_globals refl)
 threads-spell s (suc n) any now valid served within program = numbered (eqb (suc n) 0) refl program
   where
-    go : (o : Option ThreadDecl) → slice_get s.threads (suc n - 1) ≡ o → IsProgram s.shape (suc n) any (first_phase o) (count_of_vars o) now → Spells s any (suc n) now
+    go : (o : Option ThreadDecl) → slice_get s.threads (suc n - 1) ≡ o → IsProgram s.shape (suc n) any (flat_map (λ ops. ops) (phases_in o)) (count_of_vars o) now → Spells s any (suc n) now
     go None e x = absurd (thread-there s.threads (suc n - 1) (omega arith) e)
-    go (Some decl) e x =
-        let P : List Op → Type 0 = λ (ops : List Op). IsProgram s.shape (suc n) any ops (length decl.vars) now in
-        let alone : IsServedThread decl = served-decl s.threads (suc n - 1) decl served.threads e in
-        thread (omega arith) e (subst P (one-phase decl.phases alone.one_phase) x)
+    go (Some decl) e x = thread (omega arith) e x
 
-    numbered : (b : Bool) → eqb (suc n) 0 ≡ b → IsProgram s.shape (suc n) any (first_phase (cond b None (slice_get s.threads (suc n - 1)))) (count_of_vars (cond b None (slice_get s.threads (suc n - 1)))) now → Spells s any (suc n) now
+    numbered : (b : Bool) → eqb (suc n) 0 ≡ b →
+        IsProgram s.shape (suc n) any (flat_map (λ ops. ops) (phases_in (cond b None (slice_get s.threads (suc n - 1))))) (count_of_vars (cond b None (slice_get s.threads (suc n - 1)))) now → Spells s any (suc n) now
     numbered true e x = let same = eqb-true (suc n) 0 e in absurd (omega arith)
     numbered false e x = go (slice_get s.threads (suc n - 1)) refl x
 
 pub ended_steppers_spell : EndedSteppersSpell
 ended_steppers_spell script p came any t now valid served within s e =
     let x = at-end (work_of script p came) t now s e in
-    let lines : t.kept.lines ≡ take (room_for (program_of script p)) (told now) = ap (λ (k : Kept). k.lines) s.counts.lines_are in
+    let lines : t.kept.lines ≡ take (room_in script p) (told now) = ap (λ (k : Kept). k.lines) s.counts.lines_are in
     record {
       spelled = threads-spell script p any now valid served within (record { vars = x.vars; worked = x.worked; ops = any-done any (program-served script p served) x.ops; left = x.left; scope = x.scope });
       first_lines = lines;
-      all_lines = λ few. lines ∙ take_all (room_for (program_of script p)) (told now) few;
+      all_lines = λ few. lines ∙ take_all (room_in script p) (told now) few;
     }
+
+-- ---- between phases
+
+-- a stepper that says that a phase is over stands behind the phases before
+between : (w : Work) (t : Thread) (now : List Note) → StandsFor w t now → t.asked ≡ moves.PhaseEnd → AreDone w (ops_in_first t.phase w.phases) t.vars now
+between w t now s e = go t.doing (rw e at s.asks) s.in_phase s.up_to
+  where
+    go : (d : Doing) → Asks d moves.PhaseEnd → IsInPhase w t.phase t.index d → StepperUpTo w t.index t.vars t.asked now d → AreDone w (ops_in_first t.phase w.phases) t.vars now
+    go Ready a i u = rw i at u
+    go (Making to name slot plan) a i u = absurd a
+    go (Copying to held plan) a i u = absurd a
+    go (Dropping held plan) a i u = absurd a
+    go (Dying c) a i u = absurd a
+    go Ended a i u = absurd (cc)
+
+pub ready_steppers_have_done : ReadySteppersHaveDone
+ready_steppers_have_done script p came any t now served s e = any-done any (program-served script p served) (between (work_of script p came) t now s e)
 
 -- ---- the notes in a history
 

@@ -2,4 +2,3 @@ pub mod Shown
 pub mod CascadeStands
 pub mod StepperStands
 pub mod Spelled
-pub mod Room

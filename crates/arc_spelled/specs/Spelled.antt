@@ -64,8 +64,7 @@ EndedSteppersSpell = (script : Script) (p : ℕ) (came any : Hands) (t : Thread)
 -- Where a stepper says that a phase is over, or that it is to begin its first one, its notes spell the operations of the phases
 -- before, whatever came out of cells.
 abbrev pub ReadySteppersHaveDone : Type 0
-ReadySteppersHaveDone = (script : Script) (p : ℕ) (came any : Hands) (t : Thread) (now : List Note) → IsScript script → IsServed script → p ≤ length script.threads →
-    StandsFor (work_of script p came) t now → t.asked ≡ moves.PhaseEnd →
+ReadySteppersHaveDone = (script : Script) (p : ℕ) (came any : Hands) (t : Thread) (now : List Note) → IsServed script → StandsFor (work_of script p came) t now → t.asked ≡ moves.PhaseEnd →
     OpsDone script.shape p any (program_of script p) (vars_of script p) (ops_in_first t.phase (phases_of script p)) (variables t.vars) now
 
 -- the history with the event at its end, if one was told

@@ -172,15 +172,18 @@ Asks Ended asked = asked ≡ moves.Ended
 Asks _ asked = IsStep asked
 
 -- the operation at this place is one of the phase, or where there is none, the phase is the last one
-abbrev pub IsInPhaseIf : Bool → Work → (phase index : ℕ) → Type 0
-IsInPhaseIf true w phase index = index < ops_in_first (phase + 1) w.phases
-IsInPhaseIf false w phase index = length w.phases ≤ phase + 1
+abbrev pub IsOfPhaseIf : Bool → Work → (phase index : ℕ) → Type 0
+IsOfPhaseIf true w phase index = index < ops_in_first (phase + 1) w.phases
+IsOfPhaseIf false w phase index = length w.phases ≤ phase + 1
 
--- What is under way is of the phase. Between phases the operations of the first ones are done.
+abbrev pub IsOfPhase : Work → (phase index : ℕ) → Type 0
+IsOfPhase w phase index = IsOfPhaseIf (nat_lt index (length w.program)) w phase index
+
+-- What is under way is of the phase. Before a phase the operations of the earlier ones are done.
 abbrev pub IsInPhase : Work → (phase index : ℕ) → Doing → Type 0
 IsInPhase w phase index Ready = index ≡ ops_in_first phase w.phases
 IsInPhase w phase index Ended = ⊤
-IsInPhase w phase index _ = IsInPhaseIf (nat_lt index (length w.program)) w phase index
+IsInPhase w phase index _ = IsOfPhase w phase index
 
 -- The stepper, at work on these operations, stands for the notes.
 pub record StandsFor (w : Work) (t : Thread) (now : List Note) : Type 0 where

@@ -2,8 +2,7 @@
 #![tactic(auto)]
 
 ghost use Rattle.arc_spelled.specs.CascadeStands.{CascadesBegin, CascadesGoOn};
-ghost use Rattle.arc_spelled.specs.Spelled.{SteppersBegin, SteppersGoOn, EndedSteppersSpell, AddedNotesAreTied};
-ghost use Rattle.arc_spelled.specs.Room.{NoLineIsLost};
+ghost use Rattle.arc_spelled.specs.Spelled.{SteppersBegin, SteppersGoOn, EndedSteppersSpell, ReadySteppersHaveDone, AddedNotesAreTied};
 
 /// A cascade stands for the notes that spell the deinit up to where it is: a new one for those behind which it begins, and after
 /// each word that it may be given for these with what the word shows. It tells an object once for each line of a deinit. Where it is
@@ -26,14 +25,13 @@ pub fn ended_is_spelled()
     ensures { EndedSteppersSpell }
 {}
 
+/// Where a stepper waits for a phase, its notes spell the operations of the phases before that one.
+pub fn ready_has_done()
+    ensures { ReadySteppersHaveDone }
+{}
+
 /// Where the words that a thread's steps found show what holds of the heap, the notes that they add are those of the thread in the
 /// history with the event.
 pub fn added_notes_are_tied()
     ensures { AddedNotesAreTied }
-{}
-
-/// Where every event of a legal history is the thread's, its stepper has room for all lines of its program: one for each operation, and
-/// one for the deinit of each object that it may make.
-pub fn no_line_is_lost()
-    ensures { NoLineIsLost }
 {}

@@ -1,9 +1,9 @@
 -- The plan that drops a strong reference by the inline word, on the shared heap.
 use Rattle.arc_model.specs.declared.event.Act.TheVariants as acts
 use Rattle.arc_table.proofs.Making.{grew_on}
-use Rattle.arc_table.proofs.Counted.{told_alone}
-use Rattle.arc_table.specs.Strangers.{SeesNoStranger}
-use Rattle.arc_table.specs.Tokens.{IsStrongOf, StandsAs}
+use Rattle.arc_view_laws.proofs.Counted.{told_alone}
+use Rattle.arc_view_laws.specs.Strangers.{SeesNoStranger}
+use Rattle.arc_view_laws.specs.Having.{IsStrongOf, StandsAs}
 use Rattle.arc_table.specs.Causes.{ReadTwice, HasEntry}
 use Rattle.arc_table.specs.Attempts.{IsLoweredInline}
 use Rattle.arc_rule.specs.declared.step.Changed.{Changed}
@@ -58,9 +58,10 @@ use Rattle.arc_plan.specs.declared.strong.StrongDownAnswer.TheVariants as downs
 use Rattle.arc_plan.specs.Attempts.{Attempt, turned_at, exchanging, chosen, left_at}
 use Rattle.arc_plan.specs.Strong.{strong_down_row, strong_down_end, strong_down_takes, strong_down_turned, strong_down_answer}
 use Rattle.arc_table.specs.Runs.{MayRun, Ran}
-use Rattle.arc_table.proofs.Upping.{ShowsStrong, shows_strong, stands_as}
-use Rattle.arc_table.proofs.Upping.ShowsStrong.{counts, slow}
-use Rattle.arc_table.proofs.Growing.{acts_of, told_grew}
+use Rattle.arc_view_laws.proofs.Kept.{stands_as}
+use Rattle.arc_view_laws.proofs.StrongWords.{ShowsStrong, shows_strong}
+use Rattle.arc_view_laws.proofs.StrongWords.ShowsStrong.{counts, slow}
+use Rattle.arc_view_laws.proofs.Growing.{acts_of, told_grew}
 use Rattle.arc_table.proofs.Invariant.{Keeps, may_run, has_run}
 
 module _ (shape : HeapShape) (k s : ℕ) (v0 : View) (sized : IsSized shape) (lt : s < shape.slots) (free : v0.working.owes ≡ None) (no_access : v0.working.access ≡ None) (i : ℕ) (o0 : Object)

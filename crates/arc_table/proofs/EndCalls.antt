@@ -20,11 +20,12 @@ use Rattle.arc_view.proofs.Held.{stays_after, dying_busy}
 use Rattle.arc_table.specs.declared.ends.Ended.{Ended}
 use Rattle.arc_table.specs.declared.ends.Ended.TheVariants as endings
 use Rattle.arc_table.specs.Causes.{ReadTwice}
-use Rattle.arc_table.specs.Ends.{IsEnded, IsDyingWith, ChangedUnowned, KeepsDyingBut}
+use Rattle.arc_table.specs.Ends.{IsEnded, IsDyingWith, ChangedUnowned}
+use Rattle.arc_view_laws.specs.Having.{KeepsDyingBut}
 use Rattle.arc_table.specs.Ends.ChangedUnowned.{in_entry}
 use Rattle.arc_table.specs.Runs.{Walked}
-use Rattle.arc_table.proofs.Moving.{called_follows, cut, legal_tail}
-use Rattle.arc_table.proofs.Deinits.{IsDyingAt, dying_on, is_dying}
+use Rattle.arc_view_laws.proofs.Moving.{called_follows, cut, legal_tail}
+use Rattle.arc_view_laws.proofs.Deinits.{IsDyingAt, dying_on, is_dying}
 use Rattle.arc_table.proofs.StrongCalls.{SameNumbers, same_none, same_one}
 use Rattle.arc_table.proofs.TwoParts.{called_on, read_on}
 

@@ -16,7 +16,8 @@ use Rattle.arc_table.specs.declared.ends.Freed.{Freed}
 use Rattle.arc_table.specs.declared.ends.Vacated.{Vacated}
 use Rattle.arc_table.specs.declared.ends.Finish.{Finish}
 use Rattle.arc_table.specs.declared.ends.Finish.TheVariants as finishes
-use Rattle.arc_table.specs.Tokens.{hand_of, IsDyingOf, IsHeld, IsOwed, IsReleased}
+use Rattle.arc_table.specs.Tokens.{hand_of, IsHeld, IsOwed, IsReleased}
+use Rattle.arc_view_laws.specs.Having.{IsDyingOf}
 use Rattle.arc_table.specs.Ends.{HasNoField, IsFinished, IsVacated, finish_works}
 use Rattle.arc_table.proofs.EndCalls.{vacated_same}
 use Rattle.arc_table.proofs.StrongCalls.{SameNumbers, same_none, same_one}

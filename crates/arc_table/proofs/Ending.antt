@@ -62,50 +62,21 @@ use Rattle.arc_side.specs.declared.down.EntryDownAnswer.{EntryDownAnswer}
 use Rattle.arc_side.specs.declared.down.EntryDownAnswer.TheVariants as entry_downs
 use Rattle.arc_side.specs.Entries.{EntryFall, EntryDownWord, entry_down_row, entry_down_end, entry_down_takes, entry_down_turned, entry_down_answer}
 use Rattle.arc_table.specs.Causes.{ReadTwice}
-use Rattle.arc_table.specs.Strangers.{SeesNoStranger}
-use Rattle.arc_table.specs.Ends.{IsBareDyingWith, IsFreedOf, IsFinishedInline, IsFinishedInEntry, deinit_ended, inline_works, entry_works}
+use Rattle.arc_view_laws.specs.Strangers.{SeesNoStranger}
+use Rattle.arc_table.specs.Ends.{IsBareDyingWith, IsFinishedInline, IsFinishedInEntry, deinit_ended, inline_works, entry_works}
+use Rattle.arc_view_laws.specs.Having.{IsFreedOf}
 use Rattle.arc_table.specs.Runs.{MayRun, Ran}
 use Rattle.arc_table.proofs.Attempt.{IsAttempt, MayTry, Comes, may_attempt, has_attempted}
-use Rattle.arc_table.proofs.Counted.{told_alone}
-use Rattle.arc_table.proofs.Entries.{entry_kept}
-use Rattle.arc_table.proofs.Growing.{acts_of, told_grew}
+use Rattle.arc_view_laws.proofs.Counted.{told_alone}
+use Rattle.arc_view_laws.proofs.Entries.{entry_kept}
+use Rattle.arc_view_laws.proofs.Growing.{acts_of, told_grew}
+use Rattle.arc_view_laws.proofs.DyingWords.{ShowsDying, counts, slow, dying_lists, shows_dying}
 use Rattle.arc_table.proofs.Making.{grew_on}
 
 index_or : {A : Type 0} (xs : List A) (i : ℕ) (d x : A) → slice_get xs i ≡ Some x → slice_index_or xs i d ≡ x
 index_or [] i d x e = absurd (None≢Some x e)
 index_or (y ∷ ys) zero d x e = Some-inj e
 index_or (y ∷ ys) (suc i) d x e = index_or ys i d x e
-
--- what the inline word of an object whose deinit is owed shows: its counts, or its entry
-pub data ShowsDying (shape : HeapShape) (o : Object) (w : ℕ) : Type 0 where
-  counts : (c : Inline) → unpacked w ≡ Some (Counts c) → IsWordOf (Counts c) w → c.deiniting ≡ true → 1 ≤ c.unowned → o.entry ≡ None → ShowsDying shape o w
-  slow : (e : ℕ) → unpacked w ≡ Some (Slow e) → o.entry ≡ Some e → e < shape.entries → ShowsDying shape o w
-
-tally_some : (xs : List Holder) → tally Strongs xs ≡ 1 → 1 ≤ length xs
-tally_some [] t = absurd (omega (arith, t))
-tally_some (x ∷ xs) t = omega arith
-
--- its strong list is empty, and Strongs is an unowned holder
-dying_lists : (shape : HeapShape) (h : History) (p i : ℕ) (o : Object) → IsLegal shape h → At (heap_after h) i o → duty_of p i (heap_after h) ≡ Some Deinit → (is_empty o.strong ≡ true) × (1 ≤ length o.unowned)
-dying_lists shape h p i o legal here duty = let f = dying-facts o ((well_formed shape h legal).whole i o here) (duty_parts h p i Deinit o here duty).1 in (f.strong, tally_some o.unowned f.strongs)
-
-pub shows_dying : (shape : HeapShape) (h : History) (p i s w : ℕ) (o : Object) → IsSized shape → IsLegal shape h → InShape shape h → At (heap_after h) i o → duty_of p i (heap_after h) ≡ Some Deinit → o.slot ≡ Some s → Says shape (heap_after h) (Count s) w → ShowsDying shape o w
-shows_dying shape h p i s w o sized legal within here duty slot says = go o.entry refl (subst (λ m. ShowsCounts shape m w) (slot_found shape h i s o legal here slot) says)
-  where
-    lists : (is_empty o.strong ≡ true) × (1 ≤ length o.unowned)
-    lists = dying_lists shape h p i o legal here duty
-
-    go : (m : Option ℕ) → o.entry ≡ m → IsHeader shape o m w → ShowsDying shape o w
-    go None none (is, strong_cap, unowned_cap) =
-        let fits : CountsFit (counts_in o) = record {
-          strong = (let most = sized.caps_fit.strong_fits in omega (arith, strong_cap, most));
-          unowned = (let most = sized.caps_fit.unowned_fits.1 in omega (arith, unowned_cap, most));
-          some = (let some = lists.1 in omega (arith, some));
-        } in
-        counts (counts_in o) (ap unpacked is ∙ unpacked-packed (Counts (counts_in o)) fits) (record { packable = fits; packed_is = sym is }) lists.0 lists.1 none
-    go (Some e) entry is =
-        let lt : e < shape.entries = (each_at (IsWithin shape) (heap_after h).objects i o within.within here).1 e entry in
-        slow e (ap unpacked is ∙ unpacked-packed (Slow e) (let few = sized.shape_fits.entries_fit.1 in omega (arith, lt, few))) entry lt
 
 -- the entry's unowned count
 pub shows_count : (shape : HeapShape) (h : History) (p i e w : ℕ) (o : Object) → IsLegal shape h → At (heap_after h) i o → duty_of p i (heap_after h) ≡ Some Deinit → o.entry ≡ Some e → Says shape (heap_after h) (places.Unowned e) w → 1 ≤ w

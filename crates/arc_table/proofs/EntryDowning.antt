@@ -37,9 +37,9 @@ use Rattle.arc_side.specs.declared.down.EntryDownAnswer.TheVariants as downs
 use Rattle.arc_side.specs.Entries.{EntryFall, entry_down_row, entry_down_end, entry_down_takes, entry_down_turned, entry_down_answer}
 use Rattle.arc_table.specs.Attempts.{IsLoweredInEntry}
 use Rattle.arc_table.specs.Runs.{MayRun, Ran}
-use Rattle.arc_table.specs.Strangers.{SeesNoStranger}
-use Rattle.arc_table.proofs.Counted.{told_alone}
-use Rattle.arc_table.proofs.Growing.{acts_of, told_grew}
+use Rattle.arc_view_laws.specs.Strangers.{SeesNoStranger}
+use Rattle.arc_view_laws.proofs.Counted.{told_alone}
+use Rattle.arc_view_laws.proofs.Growing.{acts_of, told_grew}
 use Rattle.arc_table.proofs.InEntry.{Holding, holds_first, holds_on, word_later, knows_entry, its_entry, counted_there}
 use Rattle.arc_table.proofs.Invariant.{Keeps, may_run, has_run}
 use Rattle.arc_table.proofs.Making.{grew_on}

@@ -44,10 +44,10 @@ use Rattle.arc_side.specs.declared.up.EntryUpAnswer.TheVariants as ups
 use Rattle.arc_side.specs.Entries.{EntryRise, entry_up_row, entry_up_takes, entry_up_turned, entry_up_answer}
 use Rattle.arc_table.specs.Attempts.{IsRaisedInEntry}
 use Rattle.arc_table.specs.Runs.{MayRun, Ran}
-use Rattle.arc_table.specs.Strangers.{SeesNoStranger}
-use Rattle.arc_table.specs.Tokens.{StandsAs}
-use Rattle.arc_table.proofs.Counted.{told_alone}
-use Rattle.arc_table.proofs.Growing.{acts_of, told_grew}
+use Rattle.arc_view_laws.specs.Strangers.{SeesNoStranger}
+use Rattle.arc_view_laws.specs.Having.{StandsAs}
+use Rattle.arc_view_laws.proofs.Counted.{told_alone}
+use Rattle.arc_view_laws.proofs.Growing.{acts_of, told_grew}
 use Rattle.arc_table.proofs.InEntry.{Holding, holds_first, held_later, hand_later, holds_on, word_later, knows_entry, its_entry, counted_there, stands_as}
 use Rattle.arc_table.proofs.Invariant.{Keeps, may_run, has_run}
 use Rattle.arc_table.proofs.Making.{grew_on, next_none}

@@ -55,12 +55,12 @@ use Rattle.arc_table.specs.declared.tokens.Any.TheVariants as anys
 use Rattle.arc_table.specs.Causes.{ReadTwice}
 use Rattle.arc_table.specs.Cells.{hand_in, word_of, HoldsStrong, IsNamed, MayPut, hand_for, IsExchanged}
 use Rattle.arc_table.specs.Runs.{MayRun, Ran}
-use Rattle.arc_table.specs.Strangers.{SeesNoStranger}
-use Rattle.arc_table.specs.Tokens.{IsStrongOf}
-use Rattle.arc_table.proofs.Counted.{told_alone}
-use Rattle.arc_table.proofs.Growing.{acts_of, told_grew, told_called}
+use Rattle.arc_view_laws.specs.Strangers.{SeesNoStranger}
+use Rattle.arc_view_laws.specs.Having.{IsStrongOf}
+use Rattle.arc_view_laws.proofs.Counted.{told_alone}
+use Rattle.arc_view_laws.proofs.Growing.{acts_of, told_grew, told_called}
 use Rattle.arc_table.proofs.Invariant.{Keeps, may_run, has_run}
-use Rattle.arc_table.proofs.Kept.{stands}
+use Rattle.arc_view_laws.proofs.Kept.{stands}
 use Rattle.arc_table.proofs.Making.{grew_on, next_none}
 
 -- what the view has to put in, with its word: nothing, or a strong hand of an object of the global's class

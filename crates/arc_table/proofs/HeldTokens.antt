@@ -14,7 +14,8 @@ use Rattle.arc_table.specs.declared.tokens.Made.TheVariants as made
 use Rattle.arc_table.specs.declared.tokens.Up.TheVariants as ups
 use Rattle.arc_table.specs.declared.tokens.Release.{Release}
 use Rattle.arc_table.specs.declared.tokens.Release.TheVariants as releases
-use Rattle.arc_table.specs.Tokens.{hand_of, IsStrongOf, IsHeld, IsOwed, IsMade, IsUp, IsReleased, KeepsStrong, KeepsRest, KeepsDying}
+use Rattle.arc_table.specs.Tokens.{hand_of, IsHeld, IsOwed, IsMade, IsUp, IsReleased, KeepsRest}
+use Rattle.arc_view_laws.specs.Having.{IsStrongOf, KeepsStrong, KeepsDying}
 use Rattle.arc_table.specs.declared.tokens.Any.{Any}
 use Rattle.arc_table.specs.declared.tokens.Any.TheVariants as anys
 use Rattle.arc_table.specs.declared.tokens.Swapped.TheVariants as swapped

@@ -17,7 +17,7 @@ use Rattle.arc_view.specs.Admission.{KnowsEntry}
 use Rattle.arc_view.proofs.Held.{Held, held_stays, hand_listed, strong≢weak}
 use Rattle.arc_view.proofs.Strongs.{entry_found}
 use Rattle.arc_table.specs.Causes.{HasEntry}
-use Rattle.arc_table.specs.Tokens.{StandsAs}
+use Rattle.arc_view_laws.specs.Having.{StandsAs}
 
 some_length : (xs : List Holder) → is_empty xs ≡ false → 1 ≤ length xs
 some_length [] some = absurd (cc)

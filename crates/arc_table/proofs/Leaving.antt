@@ -37,11 +37,11 @@ use Rattle.arc_plan.specs.declared.slots.Once.{Once}
 use Rattle.arc_plan.specs.declared.slots.Once.TheVariants as onces
 use Rattle.arc_plan.specs.Slots.{OneStep, one_turned, one_left, vacate_takes, vacate_answer}
 use Rattle.arc_table.specs.Runs.{MayRun, Ran}
-use Rattle.arc_table.specs.Strangers.{SeesNoStranger}
+use Rattle.arc_view_laws.specs.Strangers.{SeesNoStranger}
 use Rattle.arc_table.specs.Ends.{IsLeft}
-use Rattle.arc_table.proofs.Counted.{told_alone}
-use Rattle.arc_table.proofs.Entries.{none_stays, entry_kept}
-use Rattle.arc_table.proofs.Growing.{acts_of, told_grew}
+use Rattle.arc_view_laws.proofs.Counted.{told_alone}
+use Rattle.arc_view_laws.proofs.Entries.{none_stays, entry_kept}
+use Rattle.arc_view_laws.proofs.Growing.{acts_of, told_grew}
 use Rattle.arc_table.proofs.Invariant.{Keeps, may_run, has_run}
 
 module _ (shape : HeapShape) (s : ℕ) (m : Option ℕ) (v0 : View) (sized : IsSized shape) (lt : s < shape.slots) (free : v0.working.owes ≡ None) (i : ℕ) (o0 : Object)

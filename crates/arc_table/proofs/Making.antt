@@ -39,7 +39,7 @@ use Rattle.arc_view.proofs.Classes.{made_named, news_named}
 use Rattle.arc_view.proofs.Held.{Held, held_stays, strong≢weak}
 use Rattle.arc_view.proofs.Strongs.{slot_found}
 use Rattle.arc_model.proofs.Own.{own_gains}
-use Rattle.arc_table.specs.Strangers.{SeesNoStranger}
+use Rattle.arc_view_laws.specs.Strangers.{SeesNoStranger}
 use Rattle.std.specs.Option.{unwrap_or}
 use Rattle.arc_rule.specs.declared.plan.Next.{Next}
 use Rattle.arc_rule.specs.declared.plan.Next.TheVariants as nexts
@@ -51,10 +51,11 @@ use Rattle.arc_plan.specs.declared.slots.NewObjectAnswer.{NewObjectAnswer}
 use Rattle.arc_plan.specs.declared.slots.NewObjectAnswer.TheVariants.{Slot, NoSlot}
 use Rattle.arc_plan.specs.Slots.{Creation, creation_takes, creation_turned, creation_answer, creation_left, making_turned, making_left}
 use Rattle.arc_table.specs.Runs.{MayRun, Ran}
-use Rattle.arc_table.specs.Tokens.{IsStrongOf, IsCreated}
+use Rattle.arc_table.specs.Tokens.{IsCreated}
+use Rattle.arc_view_laws.specs.Having.{IsStrongOf}
 use Rattle.arc_table.proofs.Invariant.{Keeps, may_run, has_run}
-use Rattle.arc_table.proofs.Growing.{acts_of, told_grew, grew_none}
-use Rattle.arc_table.proofs.Counted.{counted, counted_same, counted_one, told_alone}
+use Rattle.arc_view_laws.proofs.Growing.{acts_of, told_grew, grew_none}
+use Rattle.arc_view_laws.proofs.Counted.{counted, counted_same, counted_one, told_alone}
 
 -- one call after another
 pub grew_on : (xs ys : List Act) (m n : ℕ) (v u w : View) → Grew xs m v u → Grew ys n u w → Grew (ys ++ xs) (m + n) v w

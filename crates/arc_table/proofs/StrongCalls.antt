@@ -13,9 +13,10 @@ use Rattle.arc_table.specs.declared.strong.Raised.{Raised}
 use Rattle.arc_table.specs.declared.strong.Raised.TheVariants as raised
 use Rattle.arc_table.specs.declared.strong.Lowered.{Lowered}
 use Rattle.arc_table.specs.declared.strong.Lowered.TheVariants as lowered
-use Rattle.arc_table.specs.Tokens.{IsRaised, IsLowered, KeepsStrongBut}
-use Rattle.arc_table.proofs.Counted.{news_none, news_one}
-use Rattle.arc_table.proofs.Kept.{stands}
+use Rattle.arc_table.specs.Tokens.{IsRaised, IsLowered}
+use Rattle.arc_view_laws.specs.Having.{KeepsStrongBut}
+use Rattle.arc_view_laws.proofs.Counted.{news_none, news_one}
+use Rattle.arc_view_laws.proofs.Kept.{stands}
 
 -- the pass has made no object and split off no pass
 pub record SameNumbers (v w : View) : Type 0 where

@@ -13,7 +13,7 @@ use Rattle.arc_table.specs.declared.tokens.Any.TheVariants as anys
 use Rattle.arc_table.specs.declared.tokens.Swapped.TheVariants as swapped
 use Rattle.arc_table.specs.Cells.{hand_in, IsOfGlobal, hand_for, IsExchanged, IsTokenOf, IsSwapped, KeepsUnput}
 use Rattle.arc_table.specs.Tokens.{hand_of}
-use Rattle.arc_table.proofs.Kept.{keeps_strong, stands}
+use Rattle.arc_view_laws.proofs.Kept.{keeps_strong, stands}
 use Rattle.arc_table.proofs.Making.{next_one}
 use Rattle.arc_table.proofs.StrongCalls.{SameNumbers, same_none, same_one}
 

@@ -16,7 +16,8 @@ use Rattle.arc_table.specs.declared.tokens.Strong.{Strong as Token}
 use Rattle.arc_table.specs.Causes.{ReadTwice, Loaded, LoadedFull, HasEntry, ChangedCount}
 use Rattle.arc_table.specs.Causes.ChangedCount.{in_entry}
 use Rattle.arc_table.specs.Runs.{Walked}
-use Rattle.arc_table.specs.Tokens.{hand_of, StandsAs, IsHeld}
+use Rattle.arc_table.specs.Tokens.{hand_of, IsHeld}
+use Rattle.arc_view_laws.specs.Having.{StandsAs}
 use Rattle.arc_table.proofs.Making.{grew_on, grew_most, next_none}
 
 pub called_most : (shape : HeapShape) (xs : List Act) (m n : ℕ) (v w : View) → m ≤ n → Called shape xs m v w → Called shape xs n v w

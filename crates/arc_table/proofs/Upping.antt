@@ -55,12 +55,14 @@ use Rattle.arc_view.specs.Built.{IsAllowed}
 use Rattle.arc_view.specs.Steps.{Told}
 use Rattle.arc_view.specs.Calls.{Grew, Called}
 use Rattle.arc_model.proofs.Own.{own_gains}
-use Rattle.arc_table.specs.Strangers.{SeesNoStranger}
-use Rattle.arc_table.specs.Tokens.{IsStrongOf, StandsAs}
+use Rattle.arc_view_laws.specs.Strangers.{SeesNoStranger}
+use Rattle.arc_view_laws.specs.Having.{IsStrongOf, StandsAs}
 use Rattle.arc_table.specs.Causes.{ReadTwice, LoadedAtCap, HasEntry}
 use Rattle.arc_table.specs.Attempts.{IsRaisedInline}
 use Rattle.arc_rule.specs.declared.step.Changed.{Changed}
-use Rattle.arc_table.proofs.Counted.{told_alone}
+use Rattle.arc_view_laws.proofs.Counted.{told_alone}
+use Rattle.arc_view_laws.proofs.StrongWords.{ShowsStrong, counts, slow, shows_strong, is_count_word}
+use Rattle.arc_view_laws.proofs.Kept.{stands_as}
 use Rattle.arc_table.proofs.Making.{grew_on, next_none}
 use Rattle.arc_view.proofs.Held.{Held, held_stays, strong≢weak}
 use Rattle.arc_plan.specs.declared.attempt.At.{At as At'}
@@ -72,72 +74,8 @@ use Rattle.arc_plan.specs.declared.strong.StrongUpAnswer.TheVariants as ups
 use Rattle.arc_plan.specs.Attempts.{CappedAttempt, turned_at, exchanging, chosen, left_at}
 use Rattle.arc_plan.specs.Strong.{strong_up_row, strong_up_takes, strong_up_turned, strong_up_answer}
 use Rattle.arc_table.specs.Runs.{MayRun, Ran}
-use Rattle.arc_table.proofs.Growing.{acts_of, told_grew}
+use Rattle.arc_view_laws.proofs.Growing.{acts_of, told_grew}
 use Rattle.arc_table.proofs.Invariant.{Keeps, may_run, has_run}
-
--- what the inline word of an object with a strong reference shows: its counts, with room or at the cap, or its entry
-pub data ShowsStrong (shape : HeapShape) (o : Object) (w : ℕ) : Type 0 where
-  counts : (c : Inline) → unpacked w ≡ Some (Counts c) → IsWordOf (Counts c) w → c.deiniting ≡ false → c.strong_extra ≤ shape.caps.strong → 1 ≤ c.unowned → o.entry ≡ None → ShowsStrong shape o w
-  slow : (e : ℕ) → unpacked w ≡ Some (Slow e) → o.entry ≡ Some e → e < shape.entries → ShowsStrong shape o w
-
-tally_some : (xs : List Rattle.arc_model.specs.Heaps.Holder) → tally Strongs xs ≡ 1 → 1 ≤ length xs
-tally_some [] t = absurd (omega (arith, t))
-tally_some (x ∷ xs) t = omega arith
-
--- a live object has an unowned holder
-live_unowned : (o : Object) → is_empty o.strong ≡ false → IsWhole o → 1 ≤ length o.unowned
-live_unowned o some (live s d l a b p) = tally_some o.unowned a
-live_unowned o some (deiniting s d l a b p) = tally_some o.unowned a
-live_unowned o some (deinited s d l a u b p) = clash (is_empty o.strong) s some
-live_unowned o some (vacating s d l u b p) = clash (is_empty o.strong) s some
-live_unowned o some (going s d l u b e) = clash (is_empty o.strong) s some
-live_unowned o some (freed s d l u b w e) = clash (is_empty o.strong) s some
-live_unowned o some (dead s d l u w e) = clash (is_empty o.strong) s some
-
--- the word that a step finds in the slot of an object of which p has a strong hand
-pub shows_strong : (shape : HeapShape) (h : History) (p k i s w : ℕ) (o : Object) → IsSized shape → IsLegal shape h → InShape shape h → spot (Hand p k) (heap_after h) ≡ Some (record { place = i; kind = kinds.Strong }) → At (heap_after h) i o → o.slot ≡ Some s
-    → Says shape (heap_after h) (Count s) w → ShowsStrong shape o w
-shows_strong shape h p k i s w o sized legal within hand here slot says = go o.entry refl (subst (λ m. ShowsCounts shape m w) (slot_found shape h i s o legal here slot) says)
-  where
-    some : is_empty o.strong ≡ false
-    some = in-not_empty (Hand p k) o.strong (hand_listed shape h p k i kinds.Strong o legal hand here)
-
-    unowned : 1 ≤ length o.unowned
-    unowned = live_unowned o some ((well_formed shape h legal).whole i o here)
-
-    go : (m : Option ℕ) → o.entry ≡ m → IsHeader shape o m w → ShowsStrong shape o w
-    go None none (is, strong_cap, unowned_cap) =
-        let fits : CountsFit (counts_in o) = record {
-          strong = (let cap = sized.caps_fit.strong_fits in omega (arith, strong_cap, cap));
-          unowned = (let cap = sized.caps_fit.unowned_fits.1 in omega (arith, unowned_cap, cap));
-          some = omega (arith, unowned);
-        } in
-        counts (counts_in o) (ap unpacked is ∙ unpacked-packed (Counts (counts_in o)) fits) (record { packable = fits; packed_is = sym is }) some (omega (arith, strong_cap)) unowned none
-    go (Some e) entry is =
-        let lt : e < shape.entries = (each_at (IsWithin shape) (heap_after h).objects i o within.within here).1 e entry in
-        slow e (ap unpacked is ∙ unpacked-packed (Slow e) (let few = sized.shape_fits.entries_fit.1 in omega (arith, lt, few))) entry lt
-
--- which the attempt may be given
-pub is_count_word : (shape : HeapShape) (o : Object) (w : ℕ) → ShowsStrong shape o w → IsCountWord shape.entries (λ c. c.strong_extra ≤ shape.caps.strong) (unpacked w)
-is_count_word shape o w (counts c is word lives cap unowned none) = subst (IsCountWord shape.entries (λ c. c.strong_extra ≤ shape.caps.strong)) (sym is) (unowned, cap)
-is_count_word shape o w (slow e is entry lt) = subst (IsCountWord shape.entries (λ c. c.strong_extra ≤ shape.caps.strong)) (sym is) lt
-
--- a hand is a strong one of a single object: its slot and class are settled
-pub strong_one : (v : View) (k s t class class' : ℕ) → IsStrongOf v k s class → IsStrongOf v k t class' → (s ≡ t) × (class ≡ class')
-strong_one v k s t class class' (i, o, hand, here, slot, is) (j, q, hand', here', slot', is') =
-    let place : i ≡ j = spot_inj i j (sym hand ∙ hand') in
-    let same : o ≡ q = some_inj (sym here ∙ (ap (slice_get (heap_of v).objects) place ∙ here')) in
-    (some_inj (sym slot ∙ (ap (λ (x : Object). x.slot) same ∙ slot')), sym is ∙ (ap (λ (x : Object). x.class) same ∙ is'))
-  where
-    some_inj : {X : Type 0} {a b : X} → Some a ≡ Some b → a ≡ b
-    some_inj e = cc
-
-    spot_inj : (a b : ℕ) → Path (Option Spot) (Some (record { place = a; kind = kinds.Strong })) (Some (record { place = b; kind = kinds.Strong })) → a ≡ b
-    spot_inj a b e = ap (λ (x : Spot). x.place) (some_inj e)
-
--- so one strong reference tells how the hand stands
-pub stands_as : (v w : View) (k m s class : ℕ) → IsStrongOf v k s class → IsStrongOf w m s class → StandsAs v k w m
-stands_as v w k m s class had has t class' other = let same = strong_one v k s t class class' had other in subst (λ (x : ℕ × ℕ). IsStrongOf w m x.0 x.1) (λ j. (same.0 j, same.1 j)) has
 
 module _ (shape : HeapShape) (k s : ℕ) (v0 : View) (sized : IsSized shape) (lt : s < shape.slots) (free : v0.working.owes ≡ None) (i : ℕ) (o0 : Object)
     (hand0 : spot (Hand v0.number k) (heap_of v0) ≡ Some (record { place = i; kind = kinds.Strong })) (here0 : At (heap_of v0) i o0) (slot0 : o0.slot ≡ Some s) where

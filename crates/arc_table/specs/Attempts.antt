@@ -18,7 +18,7 @@ use Rattle.arc_side.specs.declared.up.EntryUpAnswer.TheVariants as entry_ups
 use Rattle.arc_side.specs.declared.down.EntryDownAnswer.{EntryDownAnswer}
 use Rattle.arc_side.specs.declared.down.EntryDownAnswer.TheVariants as entry_downs
 use Rattle.arc_table.specs.Causes.{ReadTwice, Loaded, LoadedAtCap, HasEntry}
-use Rattle.arc_table.specs.Tokens.{StandsAs}
+use Rattle.arc_view_laws.specs.Having.{StandsAs}
 
 -- the copy of hand k of an object in slot s by the inline word; a slow word names the object's entry
 abbrev pub IsRaisedInline : HeapShape → ℕ → ℕ → View → View → StrongUpAnswer → Type 0

@@ -19,7 +19,8 @@ use Rattle.arc_table.specs.declared.tokens.Any.TheVariants as anys
 use Rattle.arc_table.specs.declared.tokens.Swapped.{Swapped}
 use Rattle.arc_table.specs.declared.tokens.Swapped.TheVariants as swapped
 use Rattle.arc_table.specs.Causes.{ReadTwice, Loaded}
-use Rattle.arc_table.specs.Tokens.{last_hand, hand_of, IsStrongOf, KeepsStrong, KeepsStrongBut}
+use Rattle.arc_table.specs.Tokens.{hand_of}
+use Rattle.arc_view_laws.specs.Having.{last_hand, IsStrongOf, KeepsStrong, KeepsStrongBut}
 
 -- the hand that a reference is; nil is none
 abbrev pub hand_in : Any → Option ℕ

@@ -26,7 +26,7 @@ use Rattle.arc_table.specs.declared.ends.Finish.TheVariants as finishes
 use Rattle.arc_table.specs.declared.ends.Ended.{Ended}
 use Rattle.arc_table.specs.declared.ends.Ended.TheVariants as endings
 use Rattle.arc_table.specs.Causes.{ReadTwice}
-use Rattle.arc_table.specs.Tokens.{IsDyingOf, KeepsDying}
+use Rattle.arc_view_laws.specs.Having.{IsDyingOf, IsFreedOf, KeepsDying, KeepsDyingBut}
 
 -- the class of the object in the slot, whose deinit the view owes, has no field
 abbrev pub HasNoField : HeapShape → View → ℕ → Type 0
@@ -44,10 +44,6 @@ IsBareDyingWith shape v s e = (i : ℕ) × (o : Object) × At (heap_of v) i o ×
 abbrev pub IsDyingWith : View → ℕ → ℕ → Type 0
 IsDyingWith v s e = (i : ℕ) × (o : Object) × At (heap_of v) i o × HasDuty v Deinit i × (o.slot ≡ Some s) × (o.entry ≡ Some e)
 
--- the view owes the vacating of the object in the slot, which has this entry or none
-abbrev pub IsFreedOf : View → ℕ → Option ℕ → Type 0
-IsFreedOf v s entry = (i : ℕ) × (o : Object) × At (heap_of v) i o × HasDuty v Vacating i × (o.slot ≡ Some s) × (o.entry ≡ entry)
-
 -- the duty of a pass: the vacating of a slot
 abbrev pub IsFreed : HeapShape → View → Freed → Type 0
 IsFreed shape v f = (f.slot < shape.slots) × IsFreedOf v f.slot f.entry
@@ -55,14 +51,6 @@ IsFreed shape v f = (f.slot < shape.slots) × IsFreedOf v f.slot f.entry
 -- the view owes the end, in its entry, of an object that has left its slot
 abbrev pub IsGoneOf : View → ℕ → Type 0
 IsGoneOf v e = (i : ℕ) × (o : Object) × At (heap_of v) i o × HasDuty v Gone i × (o.entry ≡ Some e)
-
--- each vacating that the pass owed it owes still, of an object with the same entry or none
-abbrev pub KeepsFreed : View → View → Type 0
-KeepsFreed v w = (s : ℕ) (entry : Option ℕ) → IsFreedOf v s entry → IsFreedOf w s entry
-
--- each but that of slot s
-abbrev pub KeepsFreedBut : ℕ → View → View → Type 0
-KeepsFreedBut s v w = (t : ℕ) (entry : Option ℕ) → t ≢ s → IsFreedOf v t entry → IsFreedOf w t entry
 
 -- The word that changed counts the unowned references: the inline word of the slot, or that of the object's entry.
 pub data ChangedUnowned (shape : HeapShape) (s : ℕ) (c : Changed) (v w : View) : Type 0 where
@@ -100,10 +88,6 @@ abbrev pub finish_act : Dying → Finish → Option Act
 finish_act d finishes.More = Some (acts.Finish d.slot false)
 finish_act d (finishes.Last f) = Some (acts.Finish d.slot true)
 finish_act d (finishes.Again t c) = None
-
--- each deinit that the pass owed, but that of the object in slot s, it owes still
-abbrev pub KeepsDyingBut : ℕ → View → View → Type 0
-KeepsDyingBut s v w = (t class : ℕ) → t ≢ s → IsDyingOf v t class → IsDyingOf w t class
 
 abbrev pub KeepsDyingRest : Dying → Finish → View → View → Type 0
 KeepsDyingRest d (finishes.Again t c) v w = KeepsDying v w

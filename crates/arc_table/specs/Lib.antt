@@ -1,7 +1,5 @@
 pub mod Seats
 pub mod Runs
-pub mod Hands
-pub mod Strangers
 pub mod Causes
 pub mod Tokens
 pub mod Ends

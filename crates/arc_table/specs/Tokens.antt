@@ -18,6 +18,7 @@ use Rattle.arc_view.specs.Views.{made_in}
 use Rattle.arc_view.specs.Holding.{At, HasHand, HasDuty, heap_of}
 use Rattle.arc_view.specs.Kinds.{searched}
 use Rattle.arc_view.specs.Calls.{Called}
+use Rattle.arc_view_laws.specs.Having.{last_hand, IsStrongOf, IsNewHand, StandsAs, KeepsStrong, KeepsStrongBut, IsDyingOf}
 use Rattle.arc_plan.specs.declared.slots.NewObjectAnswer.{NewObjectAnswer}
 use Rattle.arc_plan.specs.declared.slots.NewObjectAnswer.TheVariants.{Slot, NoSlot}
 use Rattle.arc_table.specs.declared.tokens.Strong.{Strong as Token}
@@ -34,21 +35,9 @@ use Rattle.arc_table.specs.declared.strong.Lowered.{Lowered}
 use Rattle.arc_table.specs.declared.strong.Lowered.TheVariants as lowered
 use Rattle.arc_table.specs.Causes.{LoadedAtCap, LoadedFull, ChangedCount}
 
--- the last hand that a pass got
-abbrev pub last_hand : View → ℕ
-last_hand v = next_hand v.number v.seen - 1
-
 -- the hand that a token is
 abbrev pub hand_of : Token → ℕ
 hand_of t = last_hand t.at.value.me.0
-
--- hand k of the view is a strong one of the object in the slot, which is of the class
-abbrev pub IsStrongOf : View → ℕ → ℕ → ℕ → Type 0
-IsStrongOf v k s class = (i : ℕ) × (o : Object) × HasHand v k Strong i × At (heap_of v) i o × (o.slot ≡ Some s) × (o.class ≡ class)
-
--- the pass didn't have the hand
-abbrev pub IsNewHand : View → ℕ → Type 0
-IsNewHand v k = spot (Hand v.number k) (heap_of v) ≡ None
 
 -- The steps of the call between the two views are an exchange at each slot, from the first to the last, and each found the slot taken.
 abbrev pub FoundTaken : HeapShape → View → View → Type 0
@@ -67,26 +56,6 @@ IsMade shape class v w made.NoSlot = Called shape (acts.Full ∷ []) (shape.slot
 -- the name of the pass's next object, of any class
 abbrev pub IsNextName : View → ObjectName → Type 0
 IsNextName v name = (name.thread ≡ v.number) × (name.number ≡ news v.number v.seen + 1)
-
--- what hand j was in v, hand k is in w: a strong reference to the same object in the same slot
-abbrev pub StandsAs : View → ℕ → View → ℕ → Type 0
-StandsAs v j w k = (s class : ℕ) → IsStrongOf v j s class → IsStrongOf w k s class
-
--- each strong reference that the pass had it has still, to the same object in the same slot
-abbrev pub KeepsStrong : View → View → Type 0
-KeepsStrong v w = (k : ℕ) → StandsAs v k w k
-
--- each but hand h
-abbrev pub KeepsStrongBut : ℕ → View → View → Type 0
-KeepsStrongBut h v w = (k : ℕ) → k ≢ h → StandsAs v k w k
-
--- the view owes the deinit of the object in the slot, which is of the class
-abbrev pub IsDyingOf : View → ℕ → ℕ → Type 0
-IsDyingOf v s class = (i : ℕ) × (o : Object) × At (heap_of v) i o × HasDuty v Deinit i × (o.slot ≡ Some s) × (o.class ≡ class)
-
--- each deinit that the pass owed it owes still, of the same object in the same slot
-abbrev pub KeepsDying : View → View → Type 0
-KeepsDying v w = (s class : ℕ) → IsDyingOf v s class → IsDyingOf w s class
 
 -- a token of the pass: a strong hand of an object in its slot
 abbrev pub IsHeld : HeapShape → View → Token → Type 0

@@ -3,12 +3,12 @@ ghost use Rattle.std.specs.Prelude.{◌≡◌, ◌≢◌, ◌+◌, ◌<◌, ◌^
 ghost use Rattle.arc_model.specs.declared.event.CellName.TheVariants.{Global};
 ghost use Rattle.arc_rule.specs.declared.step.Intent.TheVariants.{Swap as swap_intent};
 ghost use Rattle.arc_view.specs.Admission.{OwesNoName, HasNoAccess};
-ghost use Rattle.arc_table.specs.Ends.{KeepsFreed};
+ghost use Rattle.arc_view_laws.specs.Having.{KeepsFreed};
 ghost use Rattle.arc_table.specs.Cells.{hand_in, word_of, HoldsStrong, MayPut, IsExchanged, IsTokenOf, IsSwapped, swap_act, KeepsOthers};
-ghost use Rattle.arc_table.specs.Hands.{Moves};
+ghost use Rattle.arc_view_laws.specs.Hands.{Moves};
 ghost use Rattle.arc_table.specs.Seats.{heap_id, shape_of, part_id, part_view, pass_id, view_of};
-ghost use Rattle.arc_table.specs.Strangers.{SeesNoStranger};
-ghost use Rattle.arc_table.specs.Tokens.{KeepsDying};
+ghost use Rattle.arc_view_laws.specs.Strangers.{SeesNoStranger};
+ghost use Rattle.arc_view_laws.specs.Having.{KeepsDying};
 
 use crate::asks::Asks;
 use crate::heap::{Heap, Part, Pass};

@@ -3,12 +3,14 @@ ghost use Rattle.std.specs.Prelude.{◌≡◌, ◌<◌, Some};
 ghost use Rattle.arc_model.specs.declared.event.Act.TheVariants.{Vacate as vacate_act};
 ghost use Rattle.arc_rule.specs.declared.step.Intent.TheVariants.{Deinit as deinit_intent, Vacate as vacate_intent};
 ghost use Rattle.arc_view.specs.Admission.{OwesNoName};
-ghost use Rattle.arc_table.specs.Ends.{IsBareDying, IsBareDyingWith, HasNoField, IsFinishedInline, IsFinishedInEntry, IsEnded, IsFinished, IsFreed, IsVacatedSlot, IsVacated, KeepsDyingRest, KeepsFreed, KeepsFreedBut, finish_act, inline_works, entry_works, ended_works, finish_works};
-ghost use Rattle.arc_table.specs.Hands.{Moves};
+ghost use Rattle.arc_table.specs.Ends.{IsBareDying, IsBareDyingWith, HasNoField, IsFinishedInline, IsFinishedInEntry, IsEnded, IsFinished, IsFreed, IsVacatedSlot, IsVacated, KeepsDyingRest, finish_act, inline_works, entry_works, ended_works, finish_works};
+ghost use Rattle.arc_view_laws.specs.Having.{KeepsFreed, KeepsFreedBut};
+ghost use Rattle.arc_view_laws.specs.Hands.{Moves};
 ghost use Rattle.arc_table.specs.Runs.{Walked};
 ghost use Rattle.arc_table.specs.Seats.{heap_id, shape_of, part_id, part_view, pass_id, view_of};
-ghost use Rattle.arc_table.specs.Strangers.{SeesNoStranger};
-ghost use Rattle.arc_table.specs.Tokens.{IsOwed, KeepsStrong, KeepsDying};
+ghost use Rattle.arc_view_laws.specs.Strangers.{SeesNoStranger};
+ghost use Rattle.arc_table.specs.Tokens.{IsOwed};
+ghost use Rattle.arc_view_laws.specs.Having.{KeepsStrong, KeepsDying};
 
 use crate::asks::Asks;
 use crate::heap::{Heap, Part, Pass};

@@ -3,7 +3,7 @@ ghost use Rattle.std.specs.Prelude.{◌≡◌, ◌≤◌, [], IfOk, vec_len};
 ghost use Rattle.arc_rule.specs.Places.{extent_of, word_count};
 ghost use Rattle.arc_view.specs.declared.view.Role.TheVariants.{Pass as pass_role, Note as note_role};
 ghost use Rattle.arc_view.specs.Rule.{IsSized, news};
-ghost use Rattle.arc_table.specs.Strangers.{SeesNoStranger};
+ghost use Rattle.arc_view_laws.specs.Strangers.{SeesNoStranger};
 
 use arc_model::{Memory, Shape};
 use arc_rule::Layout;

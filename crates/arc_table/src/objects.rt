@@ -4,11 +4,12 @@ ghost use Rattle.arc_model.specs.declared.event.ObjectName.{ObjectName as Name};
 ghost use Rattle.arc_rule.specs.declared.step.Intent.TheVariants.{New};
 ghost use Rattle.arc_view.specs.Admission.{OwesNoName};
 ghost use Rattle.arc_view.specs.Rule.{news};
-ghost use Rattle.arc_table.specs.Ends.{KeepsFreed};
+ghost use Rattle.arc_view_laws.specs.Having.{KeepsFreed};
 ghost use Rattle.arc_table.specs.Seats.{heap_id, shape_of, part_id, part_view, pass_id, view_of};
-ghost use Rattle.arc_table.specs.Strangers.{SeesNoStranger};
-ghost use Rattle.arc_table.specs.Hands.{Moves};
-ghost use Rattle.arc_table.specs.Tokens.{IsNextName, IsCreated, IsMade, KeepsStrong, KeepsDying, made_act};
+ghost use Rattle.arc_view_laws.specs.Strangers.{SeesNoStranger};
+ghost use Rattle.arc_view_laws.specs.Hands.{Moves};
+ghost use Rattle.arc_table.specs.Tokens.{IsNextName, IsCreated, IsMade, made_act};
+ghost use Rattle.arc_view_laws.specs.Having.{KeepsStrong, KeepsDying};
 
 use crate::asks::Asks;
 use crate::heap::{Heap, Part, Pass};

@@ -4,11 +4,11 @@ ghost use Rattle.arc_view.specs.Admission.{OwesNoName};
 ghost use Rattle.arc_view.specs.Views.{StartsWith, spent_view};
 ghost use Rattle.arc_view.specs.Passes.{parted, newcomer, noted, glanced, met, joined, IsFirst, HoldsNothing};
 ghost use Rattle.arc_view.specs.Calls.{Grew, Called, Took};
-ghost use Rattle.arc_table.specs.Ends.{KeepsFreed};
+ghost use Rattle.arc_view_laws.specs.Having.{KeepsFreed};
 ghost use Rattle.arc_table.specs.Seats.{heap_id, shape_of, part_id, part_view, pass_id, view_of, note_id, seen_of};
-ghost use Rattle.arc_table.specs.Hands.{Moves};
-ghost use Rattle.arc_table.specs.Strangers.{SeesNoStranger};
-ghost use Rattle.arc_table.specs.Tokens.{KeepsStrong, KeepsDying};
+ghost use Rattle.arc_view_laws.specs.Hands.{Moves};
+ghost use Rattle.arc_view_laws.specs.Strangers.{SeesNoStranger};
+ghost use Rattle.arc_view_laws.specs.Having.{KeepsStrong, KeepsDying};
 
 use crate::heap::{Heap, Note, Part, Pass};
 use arc_rule::Intent;

@@ -4,7 +4,7 @@ ghost use Rattle.arc_rule.specs.declared.step.Step.TheVariants.{Load, Exchange, 
 ghost use Rattle.arc_view.specs.Built.{IsAllowed};
 ghost use Rattle.arc_view.specs.Steps.{Told};
 ghost use Rattle.arc_table.specs.Seats.{heap_id, shape_of, part_id, part_view, pass_id, view_of};
-ghost use Rattle.arc_table.specs.Strangers.{makes_object};
+ghost use Rattle.arc_view_laws.specs.Strangers.{makes_object};
 
 use crate::asks::{Asks, Exchanging, Loading, Storing};
 use crate::heap::{Heap, Part, Pass};

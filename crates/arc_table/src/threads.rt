@@ -2,7 +2,8 @@
 ghost use Rattle.std.specs.Prelude.{◌≡◌, ◌≢◌, ◌<◌, length, IfSome};
 ghost use Rattle.arc_view.specs.Admission.{OwesNoName, HasNoAccess};
 ghost use Rattle.arc_table.specs.Seats.{heap_id, shape_of, pass_id, view_of};
-ghost use Rattle.arc_table.specs.Tokens.{hand_of, IsHeld, KeepsStrong, KeepsStrongBut};
+ghost use Rattle.arc_table.specs.Tokens.{hand_of, IsHeld};
+ghost use Rattle.arc_view_laws.specs.Having.{KeepsStrong, KeepsStrongBut};
 
 use crate::heap::{Heap, Pass};
 use crate::tests::classed_heap;

@@ -270,3 +270,9 @@ advance shape s k id v y act st found work c at pass sees g =
           access = λ a ua. absurd (None≢Some a (sym idle.1 ∙ ua));
         })
         (k.fits j u e).working
+
+-- the history has the step's event more
+pub advance_log : {S : Type 0} (shape : HeapShape) (s : State S View) (k : IsKept shape s) (id : ℕ) (v : View) (y : ℕ) (act : Option Act) (st : Step) (found : ℕ) (work : Working) (c : List (ℕ × S)) (at : get_elem? s.views id ≡ some v) (pass : v.role ≡ Pass)
+    (sees : Sees shape k.log st found) (g : Good shape v k.log (place_of st) (slice_index s.words (place_of st)) y act work) → (advance shape s k id v y act st found work c at pass sees g).log ≡ event_list v.number act ++ k.log
+unfolding advance
+advance_log shape s k id v y act st found work c at pass sees g = refl

@@ -33,11 +33,11 @@ use Rattle.arc_view.specs.Views.{Each, within, private_words, Excepts}
 use Rattle.arc_view.specs.Holding.{At}
 use Rattle.arc_view.specs.Rule.{MarkFits, OldFits, IsOwn, IsMine, IsNew, EnteredFits, WorkFits, Lies, Lying, Excepted, InShape, IsSized, IsKept}
 use Rattle.arc_view.specs.Kinds.{act_of, event_list, working_after}
-use Rattle.arc_view.specs.Steps.{given_back, Reads, moved, Stands, IsUnsettled, IsKeptAt, IsRead, Tells}
+use Rattle.arc_view.specs.Steps.{KeepsRule, given_back, Reads, moved, Stands, IsUnsettled, IsKeptAt, IsRead, Tells}
 use Rattle.arc_view.proofs.Lists.{each_more, others_came}
 use Rattle.arc_view.proofs.Held.{dying_stays, new_stays, owed_duty}
 use Rattle.arc_view.proofs.Keeps.{legal_left, owner_stays, reach_stays, stays_self}
-use Rattle.arc_view.proofs.Advance.{Good, Sees, advance}
+use Rattle.arc_view.proofs.Advance.{Good, Sees, advance, advance_log}
 
 -- an object whose deinit is owed isn't live
 pub dying_dead : (shape : HeapShape) (h : History) (p i : ℕ) (o : Object) → IsLegal shape h → At (heap_after h) i o → duty_of p i (heap_after h) ≡ Some Deinit → is_live o ≡ false
@@ -148,11 +148,11 @@ module _ {S : Type 0} (shape : HeapShape) (s : State S View) (k : IsKept shape s
       entry_seen e lt is ne true t = t
       entry_seen e lt is ne false t = absurd (ne (given_zero st (slice_index s.words (place_of st)) (ap (slice_index s.words) is ∙ (never_excepted (Link e) (λ x. x.3) lt).free.1 t)))
 
--- A kind's fact makes a step that the rule allows, and tells.
-pub steps : {S : Type 0} (shape : HeapShape) (slots id : ℕ) (me : Me S View) (intent : Intent) (st : Step) (f : ℕ → ℕ) → me.0.role ≡ Pass → (Reads st → me.0.working.owes ≡ None)
+-- A kind's fact makes a step that keeps the rule, and tells.
+pub steps : {S : Type 0} (shape : HeapShape) (id : ℕ) (me : Me S View) (intent : Intent) (st : Step) (f : ℕ → ℕ) → me.0.role ≡ Pass → (Reads st → me.0.working.owes ≡ None)
     → ((h : History) → Before shape me.0 h → (x : ℕ) → Reading shape me.0 h (place_of st) x → Good shape me.0 h (place_of st) x (f x) (act_of shape me.0 st intent (given_back st x)) (working_after shape me.0 st intent (given_back st x)))
-    → Allows (IsKept shape) slots id me (place_of st) f (Tells shape intent st me)
-steps shape slots id me intent st f pass free good s k _ at _ =
+    → KeepsRule shape id me intent st f
+steps shape id me intent st f pass free good s k at =
     let v = me.0 in
     let mine = k.fits id v at in
     let i = place_of st in
@@ -177,32 +177,32 @@ steps shape slots id me intent st f pass free good s k _ at _ =
     let act = act_of shape v st intent found in
     let ev = event_list v.number act in
     let work = working_after shape v st intent found in
-    let g = good k.log before x (reads shape s k id v at pass i) in (
-      moved v k.log (ev ++ k.log) st found work,
-      keeps,
-      tt,
-      advance shape s k id v (f x) act st found work me.1 at pass (sees shape s k st) g,
-      (
-        refl,
-        record {
-          between = rest;
-          others = others;
-          gone = λ p w. let c = mine.kept pass p w in ((λ is. true≢false (sym c.0 ∙ (ap (λ q. within q k.taken) is ∙ (mine.numbered pass).1))), others_came p k.log v.seen rest e c.1);
-          legal = g.may;
-          in_shape = g.in_shape;
-          met_in_shape = subst (InShape shape) e k.in_shape;
-          after = ap (λ l. moved v l (ev ++ l) st found work) e;
-          read = λ pl r inside is. read_back shape v k.log (rest ++ v.seen) st pl x e r (reads shape s k id v at pass i (free r) pl inside is);
-          olds = subst (λ l. Each (Stands l) v.olds) e (each_more (OldFits k.log (IsOwn v k.taken)) (Stands k.log) (λ o h. (h.begins, λ p w. (h.whole p w).0)) v.olds mine.olds);
-          strange = λ z p lt. ap (λ l. share l p) (sym e) ∙ k.strange p (let g = mine.first pass z in omega (arith, g.0, lt));
-        },
-      ),
-    )
+    let g = good k.log before x (reads shape s k id v at pass i) in record {
+      view = moved v k.log (ev ++ k.log) st found work;
+      kept = advance shape s k id v (f x) act st found work me.1 at pass (sees shape s k st) g;
+      log_is = advance_log shape s k id v (f x) act st found work me.1 at pass (sees shape s k st) g;
+      told = record {
+        between = rest;
+        others = others;
+        gone = λ p w. let c = mine.kept pass p w in ((λ is. true≢false (sym c.0 ∙ (ap (λ q. within q k.taken) is ∙ (mine.numbered pass).1))), others_came p k.log v.seen rest e c.1);
+        legal = g.may;
+        in_shape = g.in_shape;
+        met_in_shape = subst (InShape shape) e k.in_shape;
+        after = ap (λ l. moved v l (ev ++ l) st found work) e;
+        read = λ pl r inside is. read_back shape v k.log (rest ++ v.seen) st pl x e r (reads shape s k id v at pass i (free r) pl inside is);
+        olds = subst (λ l. Each (Stands l) v.olds) e (each_more (OldFits k.log (IsOwn v k.taken)) (Stands k.log) (λ o h. (h.begins, λ p w. (h.whole p w).0)) v.olds mine.olds);
+        strange = λ z p lt. ap (λ l. share l p) (sym e) ∙ k.strange p (let g = mine.first pass z in omega (arith, g.0, lt));
+      };
+    }
   where
     read_back : (shape : HeapShape) (v : View) (h since : History) (st : Step) (pl : Place) (x : ℕ) → h ≡ since → Reads st → IsRead shape v h pl x → IsRead shape v since pl (given_back st x)
     read_back shape v h since (Load place) pl x e r read = subst (λ l. IsRead shape v l pl x) e read
     read_back shape v h since (Exchange place old new) pl x e r read = subst (λ l. IsRead shape v l pl x) e read
     read_back shape v h since (Store place new) pl x e r read = absurd (r)
+
+-- the table allows a step that keeps the rule, whatever slots it has
+pub allows : {S : Type 0} (shape : HeapShape) (slots id : ℕ) (me : Me S View) (intent : Intent) (st : Step) (f : ℕ → ℕ) → KeepsRule shape id me intent st f → Allows (IsKept shape) slots id me (place_of st) f (Tells shape intent st me)
+allows shape slots id me intent st f keep s k _ at _ = let r = keep s k at in (r.view, keeps, tt, r.kept, (refl, r.told))
 
 -- a step that changes no word and has no event
 pub silent_good : (shape : HeapShape) (v : View) (h : History) → Before shape v h → (i x : ℕ) → Good shape v h i x x None v.working

@@ -17,6 +17,7 @@ pub mod Relist
 pub mod Finishing
 pub mod Vacating
 pub mod NewObject
+pub mod Entering
 pub mod Moves
 pub mod Seats
 pub mod Ends

@@ -22,7 +22,10 @@ use Rattle.std.proofs.Common.{◌≡◌, ◌≢◌, ℕ, ◌<◌, ◌==◌, eqb,
 use mathlib.Core.Logic.{dite}
 use native.Mathlib.Decide.{ℕ_discrete}
 use prog.Atomic.{either}
-use Rattle.atomic_table.specs.Table.{Me, Allows}
+use Rattle.atomic_table.specs.Table.{State, Me}
+use Rattle.std.specs.Prelude.{slice_index}
+use mathlib.Core.Option.{some as just}
+use lib.ListN.{get_elem?}
 use Rattle.arc_bits.specs.declared.packing.Word.TheVariants.{Counts}
 use Rattle.arc_bits.specs.Words.{IsWordOf, unpacked}
 use Rattle.arc_bits.proofs.Unpacking.{unpacked-packed}
@@ -51,10 +54,10 @@ use Rattle.arc_view.specs.declared.view.Working.{Working}
 use Rattle.arc_view.specs.declared.view.View.{View}
 use Rattle.arc_view.specs.Holding.{At, HasHand, HasDuty, is_counted, heap_of}
 use Rattle.arc_view.specs.Rule.{IsKept, news}
-use Rattle.arc_view.specs.Kinds.{kind_at, is_last, is_last_in, hit_act, missed_act, act_of, working_hit, working_after}
+use Rattle.arc_view.specs.Kinds.{event_list, kind_at, is_last, is_last_in, hit_act, missed_act, act_of, working_hit, working_after}
 use Rattle.arc_view.specs.Admission.{Admits, IsDown, IsUp}
 use Rattle.arc_view.specs.Built.{IsBuilt}
-use Rattle.arc_view.specs.Steps.{Tells}
+use Rattle.arc_view.specs.Steps.{KeepsRule}
 use Rattle.arc_view.proofs.Held.{Held, held_stays, strong≢weak}
 use Rattle.arc_view.proofs.Advance.{Good}
 use Rattle.arc_view.proofs.Bridge.{Before, Reading, steps, silent_good, dying_dead}
@@ -65,6 +68,7 @@ use Rattle.arc_view.proofs.Swapping.{put_given, swap_good}
 use Rattle.arc_view.proofs.Owed.{OwedLater, owed_stays}
 use Rattle.arc_view.proofs.Finishing.{finish_good, finish_entry_good}
 use Rattle.arc_view.proofs.Vacating.{vacate_good}
+use Rattle.arc_view.proofs.Entering.{enter_admitted}
 use Rattle.arc_view.proofs.NewObject.{slot_free, new_good, missed_good, name_good}
 
 -- a load without event
@@ -381,7 +385,7 @@ module _ (shape : HeapShape) (v : View) (h : History) (b : Before shape v h) whe
   store_admitted place new intents.Back admits built x = absurd (built)
   store_admitted place new (intents.Swap cell put) admits built x = absurd (built)
   store_admitted place new (intents.Access cell) admits built x = absurd (built)
-  store_admitted place new (intents.Deinit slot) admits built x = absurd (built)
+  store_admitted place new (intents.Deinit slot) admits built x = enter_admitted shape v place new slot admits built.0 built.1 h b x
   store_admitted place new intents.Vacate (pl, at, inside, (owes, (s, i, o, is, zero_is, here, in_it, duty))) built x =
       let place_is = at ∙ ap (number (extent_of shape)) is in
       let lt = subst (IsPlace (extent_of shape)) is inside in
@@ -391,14 +395,12 @@ module _ (shape : HeapShape) (v : View) (h : History) (b : Before shape v h) whe
       (vacate_good shape v h b i s now.0.q now.0.here (now.0.slot ∙ in_it) now.1 x lt owes))
   store_admitted place new intents.Gone admits built x = absurd (built)
 
-pub loads : {S : Type 0} (shape : HeapShape) (slots id : ℕ) (me : Me S View) (intent : Intent) (place : ℕ) → me.0.role ≡ Pass → Admits shape me.0 (Load place) intent → IsBuilt shape me.0 (Load place) intent
-    → Allows (IsKept shape) slots id me place (λ x. x) (Tells shape intent (Load place) me)
-loads shape slots id me intent place pass admits built = steps shape slots id me intent (Load place) (λ x. x) pass (λ _. admits.3) (λ h b x read. loaded shape me.0 h b place intent admits built x read)
+pub loads : {S : Type 0} (shape : HeapShape) (id : ℕ) (me : Me S View) (intent : Intent) (place : ℕ) → me.0.role ≡ Pass → Admits shape me.0 (Load place) intent → IsBuilt shape me.0 (Load place) intent → KeepsRule shape id me intent (Load place) (λ x. x)
+loads shape id me intent place pass admits built = steps shape id me intent (Load place) (λ x. x) pass (λ _. admits.3) (λ h b x read. loaded shape me.0 h b place intent admits built x read)
 
-pub exchanges : {S : Type 0} (shape : HeapShape) (slots id : ℕ) (me : Me S View) (intent : Intent) (place old new : ℕ) → me.0.role ≡ Pass → Admits shape me.0 (Exchange place old new) intent → IsBuilt shape me.0 (Exchange place old new) intent
-    → Allows (IsKept shape) slots id me place (λ x. either (eqb x old) new x) (Tells shape intent (Exchange place old new) me)
-exchanges shape slots id me intent place old new pass admits built = steps shape slots id me intent (Exchange place old new) (λ x. either (eqb x old) new x) pass (λ _. admits.3) (λ h b x read. exchange_admitted shape me.0 h b place old new intent admits built x read)
+pub exchanges : {S : Type 0} (shape : HeapShape) (id : ℕ) (me : Me S View) (intent : Intent) (place old new : ℕ) → me.0.role ≡ Pass → Admits shape me.0 (Exchange place old new) intent → IsBuilt shape me.0 (Exchange place old new) intent
+    → KeepsRule shape id me intent (Exchange place old new) (λ x. either (eqb x old) new x)
+exchanges shape id me intent place old new pass admits built = steps shape id me intent (Exchange place old new) (λ x. either (eqb x old) new x) pass (λ _. admits.3) (λ h b x read. exchange_admitted shape me.0 h b place old new intent admits built x read)
 
-pub stores : {S : Type 0} (shape : HeapShape) (slots id : ℕ) (me : Me S View) (intent : Intent) (place new : ℕ) → me.0.role ≡ Pass → Admits shape me.0 (Store place new) intent → IsBuilt shape me.0 (Store place new) intent
-    → Allows (IsKept shape) slots id me place (λ _. new) (Tells shape intent (Store place new) me)
-stores shape slots id me intent place new pass admits built = steps shape slots id me intent (Store place new) (λ _. new) pass (λ r. absurd (r)) (λ h b x read. store_admitted shape me.0 h b place new intent admits built x)
+pub stores : {S : Type 0} (shape : HeapShape) (id : ℕ) (me : Me S View) (intent : Intent) (place new : ℕ) → me.0.role ≡ Pass → Admits shape me.0 (Store place new) intent → IsBuilt shape me.0 (Store place new) intent → KeepsRule shape id me intent (Store place new) (λ _. new)
+stores shape id me intent place new pass admits built = steps shape id me intent (Store place new) (λ _. new) pass (λ r. absurd (r)) (λ h b x read. store_admitted shape me.0 h b place new intent admits built x)

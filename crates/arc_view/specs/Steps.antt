@@ -1,6 +1,8 @@
 -- The view after a step, and what the step tells.
-use Rattle.std.specs.Prelude.{ℕ, ◌≡◌, ◌≢◌, ◌<◌, true, [], ◌∷◌, ◌++◌, length, ⊤}
-use Rattle.atomic_table.specs.Table.{Me}
+use Rattle.std.specs.Prelude.{ℕ, ◌≡◌, ◌≢◌, ◌<◌, true, [], ◌∷◌, ◌++◌, length, slice_index, ⊤}
+use mathlib.Core.Option.{some}
+use lib.ListN.{get_elem?}
+use Rattle.atomic_table.specs.Table.{State, Me, keeps, stepped}
 use Rattle.arc_model.specs.Shapes.{HeapShape}
 use Rattle.arc_model.specs.Heaps.{Heap}
 use Rattle.arc_model.specs.History.{History, heap_after, share, IsLegal}
@@ -17,7 +19,7 @@ use Rattle.arc_view.specs.declared.view.Stored.{Stored}
 use Rattle.arc_view.specs.declared.view.Working.{Working}
 use Rattle.arc_view.specs.declared.view.View.{View}
 use Rattle.arc_view.specs.Views.{StartsWith, Each, within, made_in, private_words}
-use Rattle.arc_view.specs.Rule.{InShape, IsNew}
+use Rattle.arc_view.specs.Rule.{InShape, IsNew, IsKept}
 use Rattle.arc_view.specs.Kinds.{act_of, event_list, working_after}
 
 -- a step that gives back the word that it found; a store gives back 0
@@ -82,3 +84,15 @@ pub record Told (shape : HeapShape) (intent : Intent) (st : Step) (v : View) (fo
 -- the same for a seat, which holds no slot of the table
 abbrev pub Tells : {S : Type 0} → HeapShape → Intent → Step → Me S View → ℕ → Me S View → Type 0
 Tells shape intent st me found me' = (me'.1 ≡ me.1) × Told shape intent st me.0 (given_back st found) me'.0
+
+-- The table after a step of the seat that made f of the word at its place, where the history was `log`: the rule holds, the history has the step's
+-- event more and nothing else, and the step tells.
+pub record Stepped {S : Type 0} (shape : HeapShape) (s : State S View) (log : History) (id : ℕ) (me : Me S View) (intent : Intent) (st : Step) (f : ℕ → ℕ) : Type 0 where
+  pub view : View
+  pub kept : IsKept shape (stepped s (place_of st) (f (slice_index s.words (place_of st))) id me.1 view keeps)
+  pub log_is : kept.log ≡ event_list me.0.number (act_of shape me.0 st intent (given_back st (slice_index s.words (place_of st)))) ++ log
+  pub told : Told shape intent st me.0 (given_back st (slice_index s.words (place_of st))) view
+
+-- a step that keeps the rule, whatever the table is
+abbrev pub KeepsRule : {S : Type 0} → HeapShape → ℕ → Me S View → Intent → Step → (ℕ → ℕ) → Type 0
+KeepsRule {S} shape id me intent st f = (s : State S View) (k : IsKept shape s) → get_elem? s.views id ≡ some me.0 → Stepped shape s k.log id me intent st f

@@ -1,9 +1,9 @@
-use Rattle.std.proofs.Common.{◌≡◌, ℕ, List, Some, inl, ap, subst, sym, ◌∙◌}
+use Rattle.std.proofs.Common.{◌≡◌, ℕ, Bool, List, Some, inl, ap, subst, sym, ◌∙◌}
 use Rattle.std.specs.Io.KnownBytes.{Appends}
 use Rattle.arc_model.proofs.Basics.{Some-inj}
-use Rattle.arc.specs.Commands.{command_of}
-use Rattle.arc.proofs.Printed.{prints_schedule, prints_once, prints_loads, prints_slots, prints_entries}
-use Rattle.arc.specs.Statuses.{Sends, ended}
+use Rattle.arc_command.specs.Commands.{command_of}
+use Rattle.arc.proofs.Printed.{prints_schedule, prints_phases, prints_main_last, prints_no_other, prints_once, prints_deinits, prints_loads, prints_slots, prints_entries, prints_no_claim, prints_leaves}
+use Rattle.arc.specs.Statuses.{Sends, ended, number_of}
 use Rattle.arc.proofs.Judged.{told_legal, not_refused}
 use Rattle.arc.proofs.calls.arc_plain_top.Goals as goal
 
@@ -29,10 +29,34 @@ returns-in-Ok-write_all-clause-scheduled g c = λ done is.
     prints_schedule c.in-Some.command (g.S.Source.left c.args.source.now) (g.K.Sink.taken c.args.sink.now) (g.K.Sink.taken c.write_all.new.sink) c.in-Ok.output.legal c.in-Ok.output.text.items (Some-inj (c.in-Some.ensures.command ∙ is))
     c.in-Ok.ensures.output (subst sent c.deref.ensures.value c.in-Ok-write_all.ensures.ok)
 
+pub returns-in-Ok-write_all-clause-phases_follow : goal.returns-in-Ok-write_all-clause-phases_follow
+returns-in-Ok-write_all-clause-phases_follow g c = λ done is.
+    let sent = λ (text : List ℕ). Appends (g.K.Sink.taken c.args.sink.now) (g.K.Sink.taken c.write_all.new.sink) text in
+    prints_phases c.in-Some.command (g.S.Source.left c.args.source.now) (g.K.Sink.taken c.args.sink.now) (g.K.Sink.taken c.write_all.new.sink) c.in-Ok.output.legal c.in-Ok.output.text.items (Some-inj (c.in-Some.ensures.command ∙ is))
+    c.in-Ok.ensures.output (subst sent c.deref.ensures.value c.in-Ok-write_all.ensures.ok)
+
+pub returns-in-Ok-write_all-clause-main_stands_last : goal.returns-in-Ok-write_all-clause-main_stands_last
+returns-in-Ok-write_all-clause-main_stands_last g c = λ done is.
+    let sent = λ (text : List ℕ). Appends (g.K.Sink.taken c.args.sink.now) (g.K.Sink.taken c.write_all.new.sink) text in
+    prints_main_last c.in-Some.command (g.S.Source.left c.args.source.now) (g.K.Sink.taken c.args.sink.now) (g.K.Sink.taken c.write_all.new.sink) c.in-Ok.output.legal c.in-Ok.output.text.items (Some-inj (c.in-Some.ensures.command ∙ is))
+    c.in-Ok.ensures.output (subst sent c.deref.ensures.value c.in-Ok-write_all.ensures.ok)
+
+pub returns-in-Ok-write_all-clause-no_other_thread : goal.returns-in-Ok-write_all-clause-no_other_thread
+returns-in-Ok-write_all-clause-no_other_thread g c = λ done is.
+    let sent = λ (text : List ℕ). Appends (g.K.Sink.taken c.args.sink.now) (g.K.Sink.taken c.write_all.new.sink) text in
+    prints_no_other c.in-Some.command (g.S.Source.left c.args.source.now) (g.K.Sink.taken c.args.sink.now) (g.K.Sink.taken c.write_all.new.sink) c.in-Ok.output.legal c.in-Ok.output.text.items (Some-inj (c.in-Some.ensures.command ∙ is))
+    c.in-Ok.ensures.output (subst sent c.deref.ensures.value c.in-Ok-write_all.ensures.ok)
+
 pub returns-in-Ok-write_all-clause-deinited_once : goal.returns-in-Ok-write_all-clause-deinited_once
 returns-in-Ok-write_all-clause-deinited_once g c = λ done is.
     let sent = λ (text : List ℕ). Appends (g.K.Sink.taken c.args.sink.now) (g.K.Sink.taken c.write_all.new.sink) text in
     prints_once c.in-Some.command (g.S.Source.left c.args.source.now) (g.K.Sink.taken c.args.sink.now) (g.K.Sink.taken c.write_all.new.sink) c.in-Ok.output.legal c.in-Ok.output.text.items (Some-inj (c.in-Some.ensures.command ∙ is))
+    c.in-Ok.ensures.output (subst sent c.deref.ensures.value c.in-Ok-write_all.ensures.ok)
+
+pub returns-in-Ok-write_all-clause-deinits_told : goal.returns-in-Ok-write_all-clause-deinits_told
+returns-in-Ok-write_all-clause-deinits_told g c = λ done is.
+    let sent = λ (text : List ℕ). Appends (g.K.Sink.taken c.args.sink.now) (g.K.Sink.taken c.write_all.new.sink) text in
+    prints_deinits c.in-Some.command (g.S.Source.left c.args.source.now) (g.K.Sink.taken c.args.sink.now) (g.K.Sink.taken c.write_all.new.sink) c.in-Ok.output.legal c.in-Ok.output.text.items (Some-inj (c.in-Some.ensures.command ∙ is))
     c.in-Ok.ensures.output (subst sent c.deref.ensures.value c.in-Ok-write_all.ensures.ok)
 
 pub returns-in-Ok-write_all-clause-loads_before : goal.returns-in-Ok-write_all-clause-loads_before
@@ -53,11 +77,23 @@ returns-in-Ok-write_all-clause-entries_given_back g c = λ done is.
     prints_entries c.in-Some.command (g.S.Source.left c.args.source.now) (g.K.Sink.taken c.args.sink.now) (g.K.Sink.taken c.write_all.new.sink) c.in-Ok.output.legal c.in-Ok.output.text.items (Some-inj (c.in-Some.ensures.command ∙ is))
     c.in-Ok.ensures.output (subst sent c.deref.ensures.value c.in-Ok-write_all.ensures.ok)
 
+pub returns-in-Ok-write_all-clause-none_claimed : goal.returns-in-Ok-write_all-clause-none_claimed
+returns-in-Ok-write_all-clause-none_claimed g c = λ done is.
+    let sent = λ (text : List ℕ). Appends (g.K.Sink.taken c.args.sink.now) (g.K.Sink.taken c.write_all.new.sink) text in
+    prints_no_claim c.in-Some.command (g.S.Source.left c.args.source.now) (g.K.Sink.taken c.args.sink.now) (g.K.Sink.taken c.write_all.new.sink) c.in-Ok.output.legal c.in-Ok.output.text.items (Some-inj (c.in-Some.ensures.command ∙ is))
+    c.in-Ok.ensures.output (subst sent c.deref.ensures.value c.in-Ok-write_all.ensures.ok)
+
+pub returns-in-Ok-write_all-clause-leaves_nothing : goal.returns-in-Ok-write_all-clause-leaves_nothing
+returns-in-Ok-write_all-clause-leaves_nothing g c = λ done is.
+    let sent = λ (text : List ℕ). Appends (g.K.Sink.taken c.args.sink.now) (g.K.Sink.taken c.write_all.new.sink) text in
+    prints_leaves c.in-Some.command (g.S.Source.left c.args.source.now) (g.K.Sink.taken c.args.sink.now) (g.K.Sink.taken c.write_all.new.sink) c.in-Ok.output.legal c.in-Ok.output.text.items (Some-inj (c.in-Some.ensures.command ∙ is))
+    c.in-Ok.ensures.output (subst sent c.deref.ensures.value c.in-Ok-write_all.ensures.ok)
+
 pub returns-in-Ok-write_all-clause-replays_are_legal : goal.returns-in-Ok-write_all-clause-replays_are_legal
 returns-in-Ok-write_all-clause-replays_are_legal g c = λ is events had read wrote.
     let sent = λ (text : List ℕ). Appends (g.K.Sink.taken c.args.sink.now) (g.K.Sink.taken c.write_all.new.sink) text in
     let told = told_legal (g.S.Source.left c.args.source.now) events had c.in-Some.command (Some-inj (c.in-Some.ensures.command ∙ is)) c.in-Ok.output.legal c.in-Ok.output.text.items c.in-Ok.ensures.output in
-    inl (c.ended.ensures ∙ ap ended told.0, subst sent (c.deref.ensures.value ∙ told.1) c.in-Ok-write_all.ensures.ok)
+    inl (c.ended.ensures ∙ ap (λ (b : Bool). number_of (ended b)) told.0, subst sent (c.deref.ensures.value ∙ told.1) c.in-Ok-write_all.ensures.ok)
 
 pub returns-in-Ok-refused_line-clause-replays_are_legal : goal.returns-in-Ok-refused_line-clause-replays_are_legal
 returns-in-Ok-refused_line-clause-replays_are_legal g c = λ is events had read wrote.

@@ -1,7 +1,7 @@
 use Rattle.std.proofs.Common.{◌≡◌, ◌≤◌, ◌-◌, length, drop}
 use Rattle.std.specs.Prelude.{find}
 use Rattle.arc_model.specs.Holders.{same_id}
-use Rattle.arc_heap.specs.declared.counted.Counted.{Counted}
+use Rattle.arc_heap_index.specs.declared.counted.Counted.{Counted}
 use Rattle.arc_heap.proofs.model.first_named.Given as goal
 
 abbrev pub invariant-loop-at : goal.invariant-loop-at

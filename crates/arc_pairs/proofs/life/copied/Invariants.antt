@@ -1,5 +1,5 @@
 use Rattle.arc_table.specs.Seats.{view_of}
-use Rattle.arc_table.specs.Tokens.{KeepsStrong}
+use Rattle.arc_view_laws.specs.Having.{KeepsStrong}
 use Rattle.arc_pairs.specs.Ready.{IsReady}
 use Rattle.arc_pairs.proofs.life.copied.Given as goal
 

@@ -2,7 +2,7 @@ use Rattle.std.proofs.Common.{◌+◌, arith}
 use Rattle.arc_model.specs.declared.event.Act.TheVariants.{New, Full}
 use Rattle.arc_table.specs.Seats.{shape_of, view_of}
 use Rattle.arc_table.specs.Tokens.{hand_of}
-use Rattle.arc_table.proofs.Counted.{news_one}
+use Rattle.arc_view_laws.proofs.Counted.{news_one}
 use Rattle.arc_table.proofs.tests.fill.Goals as goal
 
 pub returns-in-Ok-clause-few : goal.returns-in-Ok-clause-few

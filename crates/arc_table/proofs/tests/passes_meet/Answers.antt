@@ -2,7 +2,7 @@ use Rattle.std.proofs.Common.{◌∙◌, ap}
 use Rattle.arc_view.specs.declared.view.View.{View}
 use Rattle.arc_view.specs.declared.view.Working.{Working}
 use Rattle.arc_table.specs.Seats.{shape_of, view_of}
-use Rattle.arc_table.proofs.Growing.{look_allowed}
+use Rattle.arc_view_laws.proofs.Growing.{look_allowed}
 use Rattle.arc_table.proofs.tests.passes_meet.Goals as goal
 
 pub step-word-requires-clause-kind : goal.step-word-requires-clause-kind

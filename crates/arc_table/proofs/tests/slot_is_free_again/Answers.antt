@@ -10,7 +10,7 @@ use Rattle.arc_view.specs.declared.view.View.{View}
 use Rattle.arc_table.specs.Seats.{heap_id, shape_of, pass_id, view_of}
 use Rattle.arc_table.specs.Tokens.{hand_of, IsMade, IsReleased}
 use Rattle.arc_table.specs.Ends.{IsFinished}
-use Rattle.arc_table.proofs.Counted.{news_one}
+use Rattle.arc_view_laws.proofs.Counted.{news_one}
 use Rattle.arc_table.proofs.HeldTokens.{made_held}
 use Rattle.arc_table.proofs.EndTokens.{released_owed, no_field, released_same, finished_same, slot_same}
 use Rattle.arc_table.proofs.tests.slot_is_free_again.Goals as goal

@@ -1,6 +1,6 @@
 use Rattle.std.proofs.Common.{◌≡◌}
 use Rattle.arc_table.specs.Seats.{pass_id, view_of}
-use Rattle.arc_table.specs.Tokens.{KeepsStrong}
+use Rattle.arc_view_laws.specs.Having.{KeepsStrong}
 use Rattle.arc_table.proofs.threads.copied.Given as goal
 
 abbrev pub invariant-loop : goal.invariant-loop

@@ -1,4 +1,4 @@
-use Rattle.arc_heap.specs.Judging.{verdict}
+use Rattle.arc_heap_judge.specs.Judging.{verdict}
 use Rattle.arc_heap.proofs.Applying.{applies}
 use Rattle.arc_heap.proofs.Threads.{event_keeps}
 use Rattle.arc_heap.proofs.model.ModelHeap.apply.Goals as goal

@@ -1,6 +1,6 @@
 use Rattle.std.proofs.Common.{◌+◌, length}
-use Rattle.arc_heap.specs.Fresh.{IsBlankTable, AreZero, AreMarked}
-use Rattle.arc_heap.specs.Freeing.{AreFree}
+use Rattle.arc_heap_index.specs.Fresh.{IsBlankTable, AreZero, AreMarked}
+use Rattle.arc_heap_index.specs.Freeing.{AreFree}
 use Rattle.arc_heap.proofs.Fresh.{fresh}
 use Rattle.arc_heap.proofs.model.ModelHeap.make.Goals as goal
 

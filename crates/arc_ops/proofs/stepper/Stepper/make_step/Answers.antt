@@ -9,7 +9,7 @@ invariant_of-self c =
     let idle = ap (λ (t : Thread). t.doing) c.self.view_is ∙ c.requires.idle in
     let goes_on = rw c.in-Store.is at c.requires.goes_on in
     let made = rw (← c.self.view_is) at goes_on.2 in
-    made_one _ c.self.invariant idle made (c.self.inside.hands + 1) (Some (acts.New (c.self.inside.hands + 1) c.args.name.class c.args.slot))
+    made_one _ c.self.invariant idle made (Some (acts.New (c.self.inside.hands + 1) c.args.name.class c.args.slot))
 
 pub ask-requires-clause-in_operation : goal.ask-requires-clause-in_operation
 ask-requires-clause-in_operation c =

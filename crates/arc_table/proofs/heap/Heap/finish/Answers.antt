@@ -1,10 +1,10 @@
 use Rattle.std.proofs.Common.{true, false, [], ◌∷◌, refl, ◌∙◌}
 use Rattle.arc_model.specs.declared.event.Act.TheVariants.{Finish}
 use Rattle.arc_table.specs.Seats.{shape_of, view_of, part_view}
-use Rattle.arc_table.proofs.Moving.{moved, moved_none}
-use Rattle.arc_table.proofs.Kept.{keeps_strong}
-use Rattle.arc_table.proofs.Deinits.{keeps_dying}
-use Rattle.arc_table.proofs.Vacatings.{keeps_freed, finish_keeps_freed}
+use Rattle.arc_view_laws.proofs.Moving.{moved, moved_none}
+use Rattle.arc_view_laws.proofs.Kept.{keeps_strong}
+use Rattle.arc_view_laws.proofs.Deinits.{keeps_dying}
+use Rattle.arc_view_laws.proofs.Vacatings.{keeps_freed, finish_keeps_freed}
 use Rattle.arc_table.proofs.EndCalls.{ended_same, keeps_dying_but}
 use Rattle.arc_table.proofs.heap.Heap.finish.Goals as goal
 

@@ -1,11 +1,11 @@
 use Rattle.std.proofs.Common.{ap, ◌∙◌}
 use Rattle.arc_view.specs.Rule.{is_new, news}
 use Rattle.arc_table.specs.Seats.{shape_of, view_of, part_view}
-use Rattle.arc_table.proofs.Counted.{counted_same}
-use Rattle.arc_table.proofs.Moving.{moved_took}
-use Rattle.arc_table.proofs.Kept.{took_strong}
-use Rattle.arc_table.proofs.Deinits.{took_dying}
-use Rattle.arc_table.proofs.Vacatings.{took_freed}
+use Rattle.arc_view_laws.proofs.Counted.{counted_same}
+use Rattle.arc_view_laws.proofs.Moving.{moved_took}
+use Rattle.arc_view_laws.proofs.Kept.{took_strong}
+use Rattle.arc_view_laws.proofs.Deinits.{took_dying}
+use Rattle.arc_view_laws.proofs.Vacatings.{took_freed}
 use Rattle.arc_table.proofs.heap.Heap.join.Goals as goal
 
 pub invariant_of-pass : goal.invariant_of-pass

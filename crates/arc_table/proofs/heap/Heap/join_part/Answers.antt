@@ -10,8 +10,8 @@ use Rattle.arc_view.specs.Passes.{joined}
 use Rattle.arc_view.specs.Calls.{Took}
 use Rattle.arc_view.proofs.Ends.{takes_in}
 use Rattle.arc_table.specs.Seats.{shape_of, part_view}
-use Rattle.arc_table.proofs.Counted.{told_alone}
-use Rattle.arc_table.proofs.Growing.{look_allowed, joined_took}
+use Rattle.arc_view_laws.proofs.Counted.{told_alone}
+use Rattle.arc_view_laws.proofs.Growing.{look_allowed, joined_took}
 use Rattle.arc_table.proofs.heap.Heap.join_part.Goals as goal
 
 pub join_seat-requires : goal.join_seat-requires

@@ -1,10 +1,10 @@
 use Rattle.std.proofs.Common.{[], ◌∙◌}
 use Rattle.arc_table.specs.Seats.{shape_of, view_of, part_view}
-use Rattle.arc_table.proofs.Counted.{news_none}
-use Rattle.arc_table.proofs.Moving.{moved_none}
-use Rattle.arc_table.proofs.Kept.{keeps_strong}
-use Rattle.arc_table.proofs.Deinits.{keeps_dying}
-use Rattle.arc_table.proofs.Vacatings.{keeps_freed_by}
+use Rattle.arc_view_laws.proofs.Counted.{news_none}
+use Rattle.arc_view_laws.proofs.Moving.{moved_none}
+use Rattle.arc_view_laws.proofs.Kept.{keeps_strong}
+use Rattle.arc_view_laws.proofs.Deinits.{keeps_dying}
+use Rattle.arc_view_laws.proofs.Vacatings.{keeps_freed_by}
 use Rattle.arc_table.proofs.heap.Heap.meet.Goals as goal
 
 pub invariant_of-pass : goal.invariant_of-pass

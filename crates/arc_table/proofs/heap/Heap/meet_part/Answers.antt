@@ -10,8 +10,8 @@ use Rattle.arc_view.specs.Passes.{met}
 use Rattle.arc_view.specs.Calls.{Called}
 use Rattle.arc_view.proofs.Ends.{meets}
 use Rattle.arc_table.specs.Seats.{shape_of, part_view, seen_of}
-use Rattle.arc_table.proofs.Counted.{told_alone}
-use Rattle.arc_table.proofs.Growing.{look_allowed, met_called}
+use Rattle.arc_view_laws.proofs.Counted.{told_alone}
+use Rattle.arc_view_laws.proofs.Growing.{look_allowed, met_called}
 use Rattle.arc_table.proofs.heap.Heap.meet_part.Goals as goal
 
 pub join_seat-requires : goal.join_seat-requires

@@ -2,16 +2,16 @@ use Rattle.std.proofs.Common.{◌≡◌, ◌+◌, [], ◌∷◌, Some, sym, ap, 
 use Rattle.arc_model.specs.declared.event.Act.TheVariants.{New, Full}
 use Rattle.arc_model.specs.History.{next_hand}
 use Rattle.arc_view.specs.Calls.{Called}
-use Rattle.arc_table.specs.Hands.{Moves}
+use Rattle.arc_view_laws.specs.Hands.{Moves}
 use Rattle.arc_table.specs.Seats.{shape_of, view_of, part_view}
-use Rattle.arc_table.specs.Tokens.{IsStrongOf, last_hand, IsNewHand}
-use Rattle.arc_table.proofs.Counted.{news_one}
-use Rattle.arc_table.proofs.Fresh.{fresh_hand}
-use Rattle.arc_table.proofs.Kept.{keeps_strong}
-use Rattle.arc_table.proofs.Deinits.{keeps_dying}
+use Rattle.arc_view_laws.specs.Having.{IsStrongOf, last_hand, IsNewHand}
+use Rattle.arc_view_laws.proofs.Counted.{news_one}
+use Rattle.arc_view_laws.proofs.Fresh.{fresh_hand}
+use Rattle.arc_view_laws.proofs.Kept.{keeps_strong}
+use Rattle.arc_view_laws.proofs.Deinits.{keeps_dying}
 use Rattle.arc_table.proofs.Making.{next_one}
-use Rattle.arc_table.proofs.Moving.{moved}
-use Rattle.arc_table.proofs.Vacatings.{keeps_freed_by}
+use Rattle.arc_view_laws.proofs.Moving.{moved}
+use Rattle.arc_view_laws.proofs.Vacatings.{keeps_freed_by}
 use Rattle.arc_table.proofs.heap.Heap.new_object.Goals as goal
 
 pub invariant_of-pass : goal.invariant_of-pass

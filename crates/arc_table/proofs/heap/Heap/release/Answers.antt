@@ -2,11 +2,11 @@ use Rattle.std.proofs.Common.{true, false, [], ◌∷◌, refl, ◌∙◌}
 use Rattle.arc_model.specs.declared.event.Act.TheVariants.{Drop}
 use Rattle.arc_table.specs.Seats.{shape_of, view_of, part_view}
 use Rattle.arc_table.specs.Tokens.{hand_of}
-use Rattle.arc_table.proofs.Moving.{moved, moved_none}
-use Rattle.arc_table.proofs.Kept.{keeps_strong}
-use Rattle.arc_table.proofs.Deinits.{keeps_dying, dies}
+use Rattle.arc_view_laws.proofs.Moving.{moved, moved_none}
+use Rattle.arc_view_laws.proofs.Kept.{keeps_strong}
+use Rattle.arc_view_laws.proofs.Deinits.{keeps_dying, dies}
 use Rattle.arc_table.proofs.StrongCalls.{lowered_same, keeps_but}
-use Rattle.arc_table.proofs.Vacatings.{keeps_freed_by}
+use Rattle.arc_view_laws.proofs.Vacatings.{keeps_freed_by}
 use Rattle.arc_table.proofs.heap.Heap.release.Goals as goal
 
 pub invariant_of-pass : goal.invariant_of-pass

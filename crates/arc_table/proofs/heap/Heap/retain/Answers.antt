@@ -4,16 +4,17 @@ use Rattle.arc_model.specs.declared.event.Origin.TheVariants.{Hand}
 use Rattle.arc_model.specs.declared.shape.Kind.TheVariants.{Strong}
 use Rattle.arc_model.specs.History.{next_hand}
 use Rattle.arc_view.specs.Calls.{Called}
-use Rattle.arc_table.specs.Hands.{Moves}
+use Rattle.arc_view_laws.specs.Hands.{Moves}
 use Rattle.arc_table.specs.Seats.{shape_of, view_of, part_view}
-use Rattle.arc_table.specs.Tokens.{hand_of, last_hand, IsNewHand, StandsAs}
-use Rattle.arc_table.proofs.Fresh.{fresh_hand}
+use Rattle.arc_table.specs.Tokens.{hand_of}
+use Rattle.arc_view_laws.specs.Having.{last_hand, IsNewHand, StandsAs}
+use Rattle.arc_view_laws.proofs.Fresh.{fresh_hand}
 use Rattle.arc_table.proofs.Making.{next_one}
-use Rattle.arc_table.proofs.Moving.{moved, moved_none}
-use Rattle.arc_table.proofs.Kept.{keeps_strong}
-use Rattle.arc_table.proofs.Deinits.{keeps_dying}
+use Rattle.arc_view_laws.proofs.Moving.{moved, moved_none}
+use Rattle.arc_view_laws.proofs.Kept.{keeps_strong}
+use Rattle.arc_view_laws.proofs.Deinits.{keeps_dying}
 use Rattle.arc_table.proofs.StrongCalls.{raised_same}
-use Rattle.arc_table.proofs.Vacatings.{keeps_freed_by}
+use Rattle.arc_view_laws.proofs.Vacatings.{keeps_freed_by}
 use Rattle.arc_table.proofs.heap.Heap.retain.Goals as goal
 
 pub invariant_of-pass : goal.invariant_of-pass

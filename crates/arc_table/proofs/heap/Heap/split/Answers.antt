@@ -2,8 +2,8 @@ use Rattle.std.proofs.Common.{◌≡◌, sym, ap, ◌∙◌, subst, arith}
 use Rattle.atomic_table.specs.Table.{Me}
 use Rattle.arc_view.specs.declared.view.View.{View}
 use Rattle.arc_table.specs.Seats.{view_of}
-use Rattle.arc_table.specs.Strangers.{SeesNoStranger}
-use Rattle.arc_table.proofs.Counted.{newcomer_made}
+use Rattle.arc_view_laws.specs.Strangers.{SeesNoStranger}
+use Rattle.arc_view_laws.proofs.Counted.{newcomer_made}
 use Rattle.arc_view.specs.Rule.{news}
 use Rattle.atomic_table.specs.Table.{Splits}
 use Rattle.arc_view.specs.Rule.{IsKept}

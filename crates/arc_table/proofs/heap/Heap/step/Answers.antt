@@ -1,8 +1,8 @@
 use Rattle.std.proofs.Common.{◌≡◌, zero, suc, sym, ap, ◌∙◌, cond, arith}
 use Rattle.arc_table.specs.Seats.{shape_of, view_of, part_view}
-use Rattle.arc_table.specs.Strangers.{makes_object}
-use Rattle.arc_table.proofs.Growing.{told_grew}
-use Rattle.arc_table.proofs.Counted.{news_step, told_alone}
+use Rattle.arc_view_laws.specs.Strangers.{makes_object}
+use Rattle.arc_view_laws.proofs.Growing.{told_grew}
+use Rattle.arc_view_laws.proofs.Counted.{news_step, told_alone}
 use Rattle.arc_table.proofs.heap.Heap.step.Goals as goal
 
 pub invariant_of-pass : goal.invariant_of-pass

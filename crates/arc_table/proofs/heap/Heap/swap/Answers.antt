@@ -3,11 +3,11 @@ use Rattle.arc_model.specs.declared.event.Act.TheVariants.{Swap}
 use Rattle.arc_model.specs.declared.event.CellName.TheVariants.{Global}
 use Rattle.arc_table.specs.Seats.{shape_of, view_of, part_view}
 use Rattle.arc_table.specs.Cells.{hand_in, hand_for}
-use Rattle.arc_table.proofs.Moving.{moved, moved_none}
-use Rattle.arc_table.proofs.Kept.{keeps_strong}
-use Rattle.arc_table.proofs.Deinits.{keeps_dying}
+use Rattle.arc_view_laws.proofs.Moving.{moved, moved_none}
+use Rattle.arc_view_laws.proofs.Kept.{keeps_strong}
+use Rattle.arc_view_laws.proofs.Deinits.{keeps_dying}
 use Rattle.arc_table.proofs.SwapCalls.{exchanged_same, swapped_ok, keeps_unput}
-use Rattle.arc_table.proofs.Vacatings.{keeps_freed_by}
+use Rattle.arc_view_laws.proofs.Vacatings.{keeps_freed_by}
 use Rattle.arc_table.proofs.heap.Heap.swap.Goals as goal
 
 pub invariant_of-pass : goal.invariant_of-pass

@@ -1,0 +1,18 @@
+//! The parts of the index of a heap: rows of places, counts of hands, logs of slots and entries, and an object's counts in
+//! place of its holders.
+#![tactic(auto)]
+
+mod counted;
+mod mark;
+mod reach;
+mod slots;
+mod table;
+
+pub use counted::{
+    Counted, Debt, Due, Found, Held, Place, count, enter, finish, go, is_live, most, one_less,
+    one_more, owes, raised, vacate,
+};
+pub use mark::{Mark, first_marks};
+pub use reach::{Reach, Tally};
+pub use slots::{Owner, SlotState, Slots};
+pub use table::{Row, Table};

@@ -1,0 +1,4 @@
+pub mod Finding
+pub mod Judges
+pub mod Told
+pub mod Verdicts

@@ -1,5 +1,0 @@
-use Rattle.std.proofs.Common.{length}
-use Rattle.arc_heap_plain.proofs.scene.+is_claimed.Given as goal
-
-abbrev pub decreases-is_claimed : goal.decreases-is_claimed
-decreases-is_claimed l = length l.claims.now

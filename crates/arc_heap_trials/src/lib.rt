@@ -1,0 +1,7 @@
+//! A history in which each act has each of its outcomes, and each need of each act fails, tried on the index of the heap.
+#![tactic(auto)]
+
+#[cfg(test)]
+mod tests;
+#[cfg(test)]
+mod trials;

@@ -1,0 +1,551 @@
+-- A stepper whose last reference to an object has gone: the object dies.
+use Rattle.std.proofs.Common.{◌≡◌, ◌≢◌, inl, inr, ℕ, ◌<◌, ◌≤◌, ◌==◌, not, Bool, true, false, cond, List, [], ◌∷◌, ◌++◌, length, option_map, get_or, zero, suc, Option, Some, None, refl, sym, ap, ◌∙◌, subst, arith, eq-eqb, ne_eqb}
+use Rattle.std.specs.Prelude.{slice_get, is_some}
+use Rattle.std.proofs.lemmas.List.Elements.{recursion_from_All}
+use Rattle.std.specs.List.{AllByRecursion}
+use mathlib.Core.Logic.{dite}
+use native.Mathlib.Decide.{ℕ_discrete}
+use Rattle.arc_bits.specs.declared.packing.Inline.{Inline}
+use Rattle.arc_bits.specs.declared.packing.Word.{Word}
+use Rattle.arc_bits.specs.declared.packing.Word.TheVariants.{Counts}
+use Rattle.arc_bits.specs.Words.{IsWordOf, counts_word, unpacked}
+use Rattle.arc_bits.specs.Moves.{unowned_less}
+use Rattle.arc_bits.proofs.Unpacking.{unpacked-packed}
+use Rattle.arc_model.specs.declared.event.Act.{Act}
+use Rattle.arc_model.specs.declared.event.Act.TheVariants as acts
+use Rattle.arc_model.specs.declared.event.Event.{Event}
+use Rattle.arc_model.specs.declared.event.ObjectName.{ObjectName}
+use Rattle.arc_model.specs.declared.shape.Kind.{Kind}
+use Rattle.arc_model.specs.declared.shape.Kind.TheVariants.{Unowned}
+use Rattle.arc_model.specs.declared.shape.RefShape.{RefShape}
+use Rattle.arc_model.specs.Heaps.{Field, Deinit, Vacating, Gone, Object}
+use Rattle.arc_model.specs.Holders.{at_slot, in_slot, is_live, is_empty}
+use Rattle.arc_model.specs.Cells.{are_all_nil, each_below, is_nil}
+use Rattle.arc_model.specs.History.{History, heap_after, IsLegal}
+use Rattle.arc_model.specs.Lookup.{duty_of, passes_at, entry_in}
+use Rattle.arc_model.specs.Needs.{passes}
+use Rattle.arc_model.proofs.Duties.{own_duties}
+use Rattle.arc_model.specs.SpellingTies.{name_of}
+use Rattle.arc_model.specs.SpellingTies.Causes.{Judged}
+use Rattle.arc_rule.specs.Extents.{Extent}
+use Rattle.arc_rule.specs.Places.{IsPlace, extent_of, number, place_at}
+use Rattle.arc_rule.specs.Isa.{IsName, IsIsaWord, isa_word_of, isa_name_of}
+use Rattle.arc_rule.specs.Shown.{ShowsName, ShowsCounts}
+use Rattle.arc_rule.proofs.Places.{place_at-number}
+use Rattle.arc_rule.specs.declared.layout.Place.{Place}
+use Rattle.arc_rule.specs.declared.layout.Place.TheVariants.{Count, Isa, Next}
+use Rattle.arc_rule.specs.declared.step.Step.{Step}
+use Rattle.arc_rule.specs.declared.step.Step.TheVariants.{Load, Exchange, Store}
+use Rattle.arc_rule.specs.declared.step.Intent.{Intent}
+use Rattle.arc_rule.specs.declared.step.Intent.TheVariants as intents
+use Rattle.arc_rule.specs.declared.plan.Next.TheVariants as nexts
+use Rattle.arc_plan.specs.declared.attempt.At.{At as AttemptAt}
+use Rattle.arc_plan.specs.declared.attempt.At.TheVariants as attempt
+use Rattle.arc_plan.specs.declared.attempt.Choice.{Choice}
+use Rattle.arc_plan.specs.declared.attempt.Choice.TheVariants.{Write}
+use Rattle.arc_plan.specs.declared.slots.Once.TheVariants as once
+use Rattle.arc_plan.specs.declared.unowned.UnownedDownAnswer.{UnownedDownAnswer}
+use Rattle.arc_plan.specs.declared.unowned.UnownedDownAnswer.TheVariants as downs
+use Rattle.arc_plan.specs.Attempts.{Attempt, IsCountWord, exchanging, chosen}
+use Rattle.arc_plan.specs.Unowned.{unowned_down_row, unowned_down_end}
+use Rattle.arc_cells.specs.declared.cascade.At.{At as CascadeAt}
+use Rattle.arc_cells.specs.declared.cascade.At.TheVariants as ats
+use Rattle.arc_cells.specs.Cascades.{NamesClass, CascadeState, IsInline, finish_turned, finish_says}
+use Rattle.arc_ops.specs.declared.stepper.Held.{Held}
+use Rattle.arc_ops.specs.declared.stepper.Doing.{Doing}
+use Rattle.arc_ops.specs.declared.stepper.Doing.TheVariants as doings
+use Rattle.arc_ops.specs.Thread.{Thread, takes_at, turned_at, dying_on, next_op}
+use Rattle.arc_spelled.specs.StepperStands.{Work}
+use Rattle.arc_spelled.specs.Spelled.{WordsHold}
+use Rattle.arc_view.specs.declared.view.Working.{Working}
+use Rattle.arc_view.specs.declared.view.View.{View}
+use Rattle.arc_view.specs.Views.{Each, idle, private_words}
+use Rattle.arc_view.specs.Holding.{At, HasClaim, heap_of}
+use Rattle.arc_view.specs.Rule.{InShape, IsWithin}
+use Rattle.arc_view.specs.Kinds.{act_of, event_list, is_last, is_last_in, stored_act, working_loaded, working_stored, working_hit, without_next, hit_act}
+use Rattle.arc_view.specs.Admission.{HasEntered, IsDown}
+use Rattle.arc_view.specs.Built.{IsAllowed}
+use Rattle.arc_view.specs.Steps.{Told, IsKeptAt, IsUnsettled}
+use Rattle.arc_view.specs.Calls.{Called}
+use Rattle.arc_view.proofs.Within.{each_at}
+use Rattle.arc_view.proofs.Bridge.{dying_dead}
+use Rattle.arc_view.proofs.Counting.{header_counts}
+use Rattle.arc_view.proofs.Held.{Stays, stays_after, dying_busy}
+use Rattle.arc_view.proofs.Owed.{OwedLater, owed_stays}
+use Rattle.arc_view.proofs.Strongs.{slot_found}
+use Rattle.arc_model.proofs.Basics.{None≢Some, Some-inj, true≢false}
+use Rattle.arc_model.proofs.Others.{others_leave}
+use Rattle.arc_view_laws.proofs.Entries.{entry_kept, none_stays}
+use Rattle.arc_view_laws.proofs.DyingWords.{ShowsDying, counts, slow, shows_dying}
+use Rattle.arc_ops_passes.specs.References.{in_vars, references, Owns}
+use Rattle.arc_ops_passes.specs.Drives.{Asks, UnderWay, IsDying, OwesOne, entered}
+use Rattle.arc_ops_passes.proofs.Walks.{next_walks}
+use Rattle.arc_ops_passes.proofs.Owed.{slot_is, not_in, owed_still, is_name, name_back, is_isa}
+use Rattle.arc_ops_passes.proofs.Goes.{quiet, Facts, Comes, told_by, fresh_under, claims_still, claims_on, owns_still, owns_on, nothing_shown, count_no_name, next_no_name}
+
+abbrev pub dying : Work → ℕ → CascadeAt → Option Act → Doing
+dying w s a e = doings.Dying (record { layout = extent_of w.shape; shape = w.shape; slot = s; at = a; event = e })
+
+no-fields : (classes : List (List RefShape)) (i : ℕ) → AllByRecursion (λ (fields : List RefShape). fields ≡ []) classes → get_or classes i [] ≡ []
+no-fields [] i bare = refl
+no-fields (fields ∷ classes) zero bare = bare.0
+no-fields (fields ∷ classes) (suc i) bare = no-fields classes i bare.1
+
+inline_unpacked : (c : Inline) (n : ℕ) → IsWordOf (Counts c) n → unpacked n ≡ Some (Counts c)
+inline_unpacked c n word = ap unpacked (sym word.packed_is) ∙ unpacked-packed (Counts c) word.packable
+
+cond-same : (b : Bool) (x : Working) → cond b x x ≡ x
+cond-same true x = refl
+cond-same false x = refl
+
+-- without the slot's next word nothing is under way
+left_idle : (at : Place → ℕ) (s : ℕ) → without_next at s (entered s) ≡ idle
+left_idle at s = ap (λ b. record idle { entered = cond b [] (record { slot = s; parent = None; next_field = 0 } ∷ []) }) (eq-eqb s s refl)
+
+module _ (w : Work) (t : Thread) (v : View) (s : ℕ) (a : CascadeAt) (e : Option Act) (f : Facts w t v (dying w s a e)) where
+  abbrev l : Extent
+  l = extent_of w.shape
+
+  abbrev deinit : Intent
+  deinit = intents.Deinit s
+
+  -- ---- while it owes the deinit
+  module _ (owes : OwesOne v Deinit s) where
+    below : s < w.shape.slots
+    below = (each_at (IsWithin w.shape) (heap_of v).objects owes.place owes.object f.in_shape.within owes.here).0 s owes.slot
+
+    free : (x : Working) → v.working ≡ x → x.owes ≡ None → v.working.owes ≡ None
+    free x is none = ap (λ (y : Working). y.owes) is ∙ none
+
+    all_nil : are_all_nil w.shape (heap_of v) owes.object ≡ true
+    all_nil = ap (λ (xs : List RefShape). each_below (length xs) (λ g. is_nil (heap_of v) (Field owes.object.id g)))
+        (no-fields w.shape.classes owes.object.class (recursion_from_All (λ (fields : List RefShape). fields ≡ []) w.shape.classes f.served.without_fields))
+
+    has_entered : v.working ≡ entered s → HasEntered v s
+    has_entered is = (record { slot = s; parent = None; next_field = 0 }, 0, ap (λ (x : Working). slice_get x.entered 0) is, refl)
+
+    abbrev Swap : ℕ → ℕ → Step
+    Swap seen new = Exchange (number (extent_of w.shape) (Count s)) seen new
+
+    pub enter_allowed : v.working ≡ idle → IsAllowed w.shape v (Store (number (extent_of w.shape) (Next s)) 0) deinit
+    enter_allowed is = (
+      (Next s, refl, below, (free idle is refl, (owes.place, owes.object, None, refl, owes.here, owes.slot, owes.owes, (λ (h : HasEntered v s). never h), tt, refl))),
+      (refl, ap (λ (x : Working). x.stored) is),
+    )
+      where
+        never : HasEntered v s → ⊥
+        never (x, j, at, same) = None≢Some x (ap (λ (y : Working). slice_get y.entered j) (sym is) ∙ at)
+
+    pub name_allowed : v.working ≡ entered s → IsAllowed w.shape v (Load (number (extent_of w.shape) (Isa s))) deinit
+    name_allowed is = (
+      (Isa s, refl, below, free (entered s) is refl, (owes.place, owes.object, owes.here, owes.slot, inr owes.owes)),
+      (inl (λ x. refl, λ x. ap (λ (pl : Place). working_loaded v.working pl x deinit) (place_at-number (extent_of w.shape) (Isa s) below))),
+    )
+
+    pub leave_allowed : v.working ≡ entered s → IsAllowed w.shape v (Load (number (extent_of w.shape) (Next s))) deinit
+    leave_allowed is = (
+      (Next s, refl, below, free (entered s) is refl, ((owes.place, owes.object, owes.here, owes.slot, owes.owes, all_nil), has_entered is)),
+      (inl (λ x. refl, λ x. ap (λ (pl : Place). working_loaded v.working pl x deinit) (place_at-number (extent_of w.shape) (Next s) below))),
+    )
+
+    pub load_allowed : v.working ≡ entered s → IsAllowed w.shape v (Load (number (extent_of w.shape) (Count s))) deinit
+    load_allowed is = (
+      (Count s, refl, below, free (entered s) is refl, inl (owes.place, owes.object, owes.here, owes.slot, inr (inl (Deinit, owes.owes)))),
+      (inl (λ x. refl, λ x. ap (λ (pl : Place). working_loaded v.working pl x deinit) (place_at-number (extent_of w.shape) (Count s) below))),
+    )
+
+    pub swap_allowed : (seen new : ℕ) → v.working ≡ entered s → IsDown Unowned (Count s) seen new → IsAllowed w.shape v (Swap seen new) deinit
+    swap_allowed seen new is down = (
+      (Count s, refl, below, free (entered s) is refl, (owes.place, owes.object, owes.here, owes.slot, owes.owes, all_nil, slot_is owes.object s owes.slot, down)),
+      tt,
+    )
+
+    -- ---- a step that has no event and leaves the duty
+    module _ (step : Step) (found : ℕ) (v' : View) (told : Told w.shape deinit step v found v') (none : act_of w.shape v step deinit found ≡ None) where
+      abbrev h : History
+      h = told.between ++ v.seen
+
+      called : Called w.shape [] 1 v v'
+      called = told_by w.shape deinit step v found v' None none told
+
+      owes_then : OwesOne v' Deinit s
+      owes_then = owed_still w.shape Deinit s 1 v v' f.sized called owes
+
+      seen_is : v'.seen ≡ h
+      seen_is = ap (λ (x : View). x.seen) told.after ∙ ap (λ b. event_list v.number b ++ h) none
+
+      -- the object, where the step met it
+      met : (o : Object) × At (heap_after h) owes_then.place o × (o.slot ≡ Some s) × (duty_of v.number owes_then.place (heap_after h) ≡ Some Deinit) × IsLegal w.shape h × InShape w.shape h
+      met =
+          let number_is : v'.number ≡ v.number = ap (λ (x : View). x.number) told.after in (
+            owes_then.object,
+            ap (λ k. slice_get (heap_after k).objects owes_then.place) (sym seen_is) ∙ owes_then.here,
+            owes_then.slot,
+            (λ j. duty_of (sym number_is j) owes_then.place (heap_after (sym seen_is j))) ∙ owes_then.owes,
+            subst (IsLegal w.shape) seen_is told.legal,
+            subst (InShape w.shape) seen_is told.in_shape,
+          )
+
+      -- the cascade goes on to this
+      on : (u : Thread) (b : CascadeAt) → takes_at (Some found) (dying w s a e) → u.event ≡ None → u.hands ≡ t.hands → u.vars ≡ t.vars → u.doing ≡ dying w s b None → Asks w.shape u (dying w s b None) → IsDying w.shape v' (record { layout = extent_of w.shape; shape = w.shape; slot = s; at = b; event = None })
+          → WordsHold Judged w.shape (extent_of w.shape) (Some step) (Some found) w.thread None h → Comes w v step deinit found v' h (dying w s a e) u
+      on u b takes event hands vars doing asks under holds =
+          let same : (g : Held → ℕ) → references u.vars u.hands u.doing g ≡ references t.vars t.hands (dying w s a e) g = λ g. (λ j. references (vars j) (hands j) (doing j) g) in record {
+            takes_it = takes;
+            event = none ∙ sym event;
+            holds = subst (λ (x : Option Act). WordsHold Judged w.shape (extent_of w.shape) (Some step) (Some found) w.thread x h) (sym event) holds;
+            count = ap length vars ∙ f.count;
+            owns = subst (λ n. Owns v' n (references u.vars u.hands u.doing)) (sym hands) (owns_still w.shape 1 v v' t.hands (references t.vars t.hands (dying w s a e)) (references u.vars u.hands u.doing) called f.owns same);
+            no_claim = claims_still w.shape 1 v v' called f.no_claim;
+            asks = subst (Asks w.shape u) (sym doing) asks;
+            under_way = subst (UnderWay w.shape v') (sym doing) under;
+          }
+
+    -- ---- it enters
+    pub enters : (found : ℕ) (v' : View) (told : Told w.shape deinit (Store (number (extent_of w.shape) (Next s)) 0) v found v') → a ≡ ats.Entering → v.working ≡ idle
+        → Comes w v (Store (number (extent_of w.shape) (Next s)) 0) deinit found v' (told.between ++ v.seen) (dying w s ats.Entering e) (turned_at (Some found) (dying w s ats.Entering e) (quiet t))
+    enters found v' told at is =
+        let st = Store (number (extent_of w.shape) (Next s)) 0 in
+        let none : act_of w.shape v st deinit found ≡ None = ap (λ (pl : Place). stored_act v pl deinit) (place_at-number (extent_of w.shape) (Next s) below) in
+        let works : v'.working ≡ entered s = ap (λ (x : View). x.working) told.after ∙ (ap (λ (pl : Place). working_stored (number (extent_of w.shape)) v.working pl 0 deinit) (place_at-number (extent_of w.shape) (Next s) below)
+        ∙ ap (λ (x : Working). record x { entered = record { slot = s; parent = None; next_field = 0 } ∷ x.entered }) is) in
+        subst (λ (b : CascadeAt). Comes w v st deinit found v' (told.between ++ v.seen) (dying w s b e) (turned_at (Some found) (dying w s ats.Entering e) (quiet t))) at
+        (on st found v' told none (turned_at (Some found) (dying w s ats.Entering e) (quiet t)) ats.Naming (subst (λ b. takes_at (Some found) (dying w s b e)) (sym at) (λ x. cc)) refl refl refl refl (refl, refl)
+        (record { working = works; duty = owes_then st found v' told none; rests = tt }) (nothing_shown w.shape (extent_of w.shape) st found w.thread None (told.between ++ v.seen) tt tt))
+
+    -- ---- it reads the name
+    abbrev ReadName : Step
+    ReadName = Load (number (extent_of w.shape) (Isa s))
+
+    works_on : (pl : Place) (found : ℕ) (v' : View) (told : Told w.shape deinit (Load (number (extent_of w.shape) pl)) v found v') → IsPlace (extent_of w.shape) pl → ((x : Working) → working_loaded x pl found deinit ≡ x) → v'.working ≡ v.working
+    works_on pl found v' told inside same = ap (λ (x : View). x.working) told.after ∙ (ap (λ (q : Place). working_loaded v.working q found deinit) (place_at-number (extent_of w.shape) pl inside) ∙ same v.working)
+
+    module _ (found : ℕ) (v' : View) (told : Told w.shape deinit ReadName v found v') where
+      abbrev met_name : (o : Object) × At (heap_after (told.between ++ v.seen)) (owes_then ReadName found v' told refl).place o × (o.slot ≡ Some s) × (duty_of v.number (owes_then ReadName found v' told refl).place (heap_after (told.between ++ v.seen)) ≡ Some Deinit) × IsLegal w.shape (told.between ++ v.seen) × InShape w.shape (told.between ++ v.seen)
+      met_name = met ReadName found v' told refl
+
+      abbrev h_name : History
+      h_name = told.between ++ v.seen
+
+      there : at_slot s (heap_after h_name) ≡ Some met_name.0
+      there = slot_found w.shape h_name (owes_then ReadName found v' told refl).place s met_name.0 met_name.4 met_name.1 met_name.2
+
+      -- no other thread owes the name of an object that dies
+      settled : IsUnsettled v.number (heap_after h_name) (Isa s) found → ⊥
+      settled (q, ne, (j, o, k, here, slot, u)) =
+          let same : o ≡ met_name.0 = Some-inj (sym (slot_found w.shape h_name j s o met_name.4 here slot) ∙ there) in
+          let dead = dying_dead w.shape h_name v.number (owes_then ReadName found v' told refl).place met_name.0 met_name.4 met_name.1 met_name.3 in
+          true≢false (sym (ap (λ xs. not (is_empty xs)) u.strong) ∙ (ap is_live same ∙ dead))
+
+      word : found ≡ isa_word_of (name_of met_name.0)
+      word = subst (λ m. ShowsName m found) there ((told.read (Isa s) tt below refl).says settled)
+
+      fits : IsName (name_of met_name.0)
+      fits = is_name w.shape h_name (owes_then ReadName found v' told refl).place met_name.0 f.sized met_name.5 met_name.1
+
+      name_is : name_of met_name.0 ≡ isa_name_of found
+      name_is = name_back (name_of met_name.0) fits ∙ ap isa_name_of (sym word)
+
+      isa_takes : NamesClass w.shape (Some found)
+      isa_takes = (subst IsIsaWord (sym word) (is_isa (name_of met_name.0) fits), subst (λ (n : ObjectName). n.class < length w.shape.classes) name_is (met_name.5.classes (owes_then ReadName found v' told refl).place met_name.0 met_name.1).0)
+
+      name_inj : (x y : ℕ) → Some (Load x) ≡ Some (Load y) → x ≡ y
+      name_inj x y e = cc
+
+      shown : WordsHold Judged w.shape (extent_of w.shape) (Some ReadName) (Some found) w.thread None h_name
+      shown = record {
+        names = λ slot x asked last.
+            let same : s ≡ slot = (let e = name_inj (number (extent_of w.shape) (Isa s)) (number (extent_of w.shape) (Isa slot)) asked in omega arith) in
+            subst (λ (p : ℕ × ℕ). option_map name_of (at_slot p.0 (heap_after h_name)) ≡ Some (isa_name_of p.1)) (λ j. (same j, Some-inj last j)) (ap (option_map name_of) there ∙ ap Some name_is);
+        entries = λ slot x new c e. absurd (None≢Some (acts.Finish slot true) e);
+      }
+
+      pub names : a ≡ ats.Naming → v.working ≡ entered s → Comes w v ReadName deinit found v' h_name (dying w s a e) (turned_at (Some found) (dying w s ats.Naming e) (quiet t))
+      names at is =
+          on ReadName found v' told refl (turned_at (Some found) (dying w s ats.Naming e) (quiet t)) ats.Leaving (subst (λ b. takes_at (Some found) (dying w s b e)) (sym at) isa_takes) refl refl refl refl (refl, refl)
+          (record { working = works_on (Isa s) found v' told below (λ x. refl) ∙ is; duty = owes_then ReadName found v' told refl; rests = tt }) shown
+
+    -- ---- it reads the next word
+    abbrev ReadNext : Step
+    ReadNext = Load (number (extent_of w.shape) (Next s))
+
+    abbrev fin : AttemptAt → CascadeAt
+    fin b = ats.Finishing (record { layout = extent_of w.shape; slot = s; at = b })
+
+    pub leaves : (found : ℕ) (v' : View) (told : Told w.shape deinit ReadNext v found v') → a ≡ ats.Leaving → v.working ≡ entered s
+        → Comes w v ReadNext deinit found v' (told.between ++ v.seen) (dying w s a e) (turned_at (Some found) (dying w s ats.Leaving e) (quiet t))
+    leaves found v' told at is =
+        let kept : Each (IsKeptAt w.shape (Next s) found) (private_words (entered s)) = subst (λ (x : Working). Each (IsKeptAt w.shape (Next s) found) (private_words x)) is (told.read (Next s) tt below refl).private in
+        on ReadNext found v' told refl (turned_at (Some found) (dying w s ats.Leaving e) (quiet t)) (fin attempt.Loading) (subst (λ b. takes_at (Some found) (dying w s b e)) (sym at) (ap Some (kept.0 refl))) refl refl refl refl (refl, (refl, refl))
+        (record { working = works_on (Next s) found v' told below (λ x. refl) ∙ is; duty = owes_then ReadNext found v' told refl; rests = tt }) (nothing_shown w.shape (extent_of w.shape) ReadNext found w.thread None (told.between ++ v.seen) (next_no_name (extent_of w.shape) s) tt)
+
+    -- ---- it loads the count
+    abbrev ReadCount : Step
+    ReadCount = Load (number (extent_of w.shape) (Count s))
+
+    -- the cascade, and it as its turn is worked out
+    abbrev here_at : CascadeAt → CascadeState
+    here_at b = record { layout = extent_of w.shape; shape = w.shape; slot = s; at = b; event = e }
+
+    abbrev turning : CascadeState
+    turning = record { layout = extent_of w.shape; shape = w.shape; slot = s; at = ats.Ended; event = None }
+
+    abbrev plan : AttemptAt → Attempt
+    plan b = record { layout = extent_of w.shape; slot = s; at = b }
+
+    module _ (found : ℕ) (v' : View) (told : Told w.shape deinit ReadCount v found v') (at : a ≡ fin attempt.Loading) (is : v.working ≡ entered s) where
+      abbrev Turned : Choice UnownedDownAnswer → CascadeState
+      Turned r = finish_turned turning (plan (exchanging found r)) (chosen (number (extent_of w.shape) (Count s)) found r)
+
+      abbrev Loaded : Choice UnownedDownAnswer → Type 0
+      Loaded r = Comes w v ReadCount deinit found v' (told.between ++ v.seen) (dying w s a e) (dying_on (Turned r) (finish_says (here_at (fin attempt.Loading)) (chosen (number (extent_of w.shape) (Count s)) found r)) (record (quiet t) { event = (Turned r).event }))
+
+      pub loads : IsInline (unpacked found) → Loaded (unowned_down_row (unpacked found))
+      loads served =
+          let m = met ReadCount found v' told refl in
+          by m.0 (shows_dying w.shape (told.between ++ v.seen) v.number (owes_then ReadCount found v' told refl).place s found m.0 f.sized m.4 m.5 m.1 m.3 m.2 ((told.read (Count s) tt below refl).says (λ u. u)))
+        where
+          by : (o : Object) → ShowsDying w.shape o found → Loaded (unowned_down_row (unpacked found))
+          by o (slow n some entry lt) = absurd (subst IsInline some served)
+          by o (counts c some word ends unowned none) =
+              let row : unowned_down_row (unpacked found) ≡ Write (counts_word (unowned_less c)) = ap unowned_down_row some in
+              let fits : IsCountWord w.shape.entries (λ c. c.deiniting ≡ false → 2 ≤ c.unowned) (unpacked found) = subst (IsCountWord w.shape.entries (λ c. c.deiniting ≡ false → 2 ≤ c.unowned)) (sym some) (unowned, λ live. absurd (true≢false (sym ends ∙ live))) in
+              let takes : takes_at (Some found) (dying w s a e) = subst (λ b. takes_at (Some found) (dying w s b e)) (sym at) (fits, served) in
+              let new = counts_word (unowned_less c) in
+              let u : Thread = dying_on (Turned (Write new)) (finish_says (here_at (fin attempt.Loading)) (chosen (number (extent_of w.shape) (Count s)) found (Write new))) (record (quiet t) { event = (Turned (Write new)).event }) in
+              let done : Loaded (Write new) = on ReadCount found v' told refl u (fin (attempt.Exchanging found new)) takes refl refl refl refl (refl, (refl, refl))
+              (record { working = works_on (Count s) found v' told below (λ x. refl) ∙ is; duty = owes_then ReadCount found v' told refl; rests = (c, word, unowned, refl) }) (nothing_shown w.shape (extent_of w.shape) ReadCount found w.thread None (told.between ++ v.seen) (count_no_name (extent_of w.shape) s) tt) in
+              subst Loaded (sym row) done
+
+    -- ---- it exchanges it
+    module _ (seen new : ℕ) (found : ℕ) (v' : View) (told : Told w.shape deinit (Swap seen new) v found v') (at : a ≡ fin (attempt.Exchanging seen new)) (is : v.working ≡ entered s) where
+      abbrev h_swap : History
+      h_swap = told.between ++ v.seen
+
+      abbrev TurnedTo : UnownedDownAnswer → CascadeState
+      TurnedTo answer = finish_turned turning (plan attempt.Ended) (nexts.Done answer)
+
+      abbrev Swapped : UnownedDownAnswer → Type 0
+      Swapped answer = Comes w v (Swap seen new) deinit found v' h_swap (dying w s a e) (dying_on (TurnedTo answer) (finish_says (here_at (fin (attempt.Exchanging seen new))) (nexts.Done answer)) (record (quiet t) { event = (TurnedTo answer).event }))
+
+      takes_swap : takes_at (Some found) (dying w s a e)
+      takes_swap = subst (λ b. takes_at (Some found) (dying w s b e)) (sym at) ((λ x. cc), tt)
+
+      missed : found ≢ seen → Swapped (downs.Again (record { seen = seen; found = found }))
+      missed ne =
+          let none : act_of w.shape v (Swap seen new) deinit found ≡ None = ap (λ b. cond b (hit_act v (place_at (extent_of w.shape) (number (extent_of w.shape) (Count s))) seen new deinit) None) (ne_eqb found seen ne) in
+          let works : v'.working ≡ v.working = ap (λ (x : View). x.working) told.after ∙ ap (λ b. cond b (working_hit (number (extent_of w.shape)) v.working (place_at (extent_of w.shape) (number (extent_of w.shape) (Count s))) seen new deinit) v.working) (ne_eqb found seen ne) in
+          let answer = downs.Again (record { seen = seen; found = found }) in
+          on (Swap seen new) found v' told none (dying_on (TurnedTo answer) (finish_says (here_at (fin (attempt.Exchanging seen new))) (nexts.Done answer)) (record (quiet t) { event = (TurnedTo answer).event })) (fin attempt.Loading) takes_swap refl refl refl refl (refl, (refl, refl))
+          (record { working = works ∙ is; duty = owes_then (Swap seen new) found v' told none; rests = tt }) (nothing_shown w.shape (extent_of w.shape) (Swap seen new) found w.thread None h_swap tt tt)
+
+      -- the deinit ends
+      module _ (same : found ≡ seen) (last : Bool) (act : act_of w.shape v (Swap seen new) deinit found ≡ Some (acts.Finish s last)) where
+        abbrev ended : Act
+        ended = acts.Finish s last
+
+        abbrev event : Event
+        event = record { thread = v.number; act = ended }
+
+        called_end : Called w.shape (ended ∷ []) 1 v v'
+        called_end = told_by w.shape deinit (Swap seen new) v found v' (Some ended) act told
+
+        number_is : v'.number ≡ v.number
+        number_is = ap (λ (x : View). x.number) told.after
+
+        seen_end : v'.seen ≡ event ∷ h_swap
+        seen_end = ap (λ (x : View). x.seen) told.after ∙ ap (λ b. event_list v.number b ++ h_swap) act
+
+        legal : IsLegal w.shape (event ∷ h_swap)
+        legal = subst (IsLegal w.shape) seen_end told.legal
+
+        abbrev i : ℕ
+        i = owes.place
+
+        met_end : OwedLater i owes.object h_swap
+        met_end = owed_stays w.shape v.number i Deinit owes.object v.seen told.between legal.1 told.others owes.here owes.owes
+
+        slot_end : met_end.q.slot ≡ Some s
+        slot_end = met_end.slot ∙ owes.slot
+
+        owed_end : duty_of v.number i (heap_after h_swap) ≡ Some Deinit
+        owed_end = (others_leave w.shape v.number v.seen told.between legal.1 told.others).duties i ∙ owes.owes
+
+        duties : (j : ℕ) → duty_of v'.number j (heap_of v') ≡ cond (passes_at (in_slot s) j (heap_after h_swap)) (cond last (Some Vacating) None) (duty_of v.number j (heap_after h_swap))
+        duties j = (λ k. duty_of (number_is k) j (heap_after (seen_end k))) ∙ own_duties w.shape h_swap event j legal
+
+        its_duty : duty_of v'.number i (heap_of v') ≡ cond last (Some Vacating) None
+        its_duty = duties i ∙ ap (λ b. cond b (cond last (Some Vacating) None) (duty_of v.number i (heap_after h_swap))) (ap (passes (in_slot s)) met_end.here ∙ slot_is met_end.q s slot_end)
+
+        others_duty : (j : ℕ) → j ≢ i → duty_of v'.number j (heap_of v') ≡ None
+        others_duty j ne = duties j ∙ (ap (λ b. cond b (cond last (Some Vacating) None) (duty_of v.number j (heap_after h_swap))) (not_in w.shape h_swap s i j met_end.q legal.1 met_end.here slot_end ne)
+            ∙ ((others_leave w.shape v.number v.seen told.between legal.1 told.others).duties j ∙ owes.alone j ne))
+
+        works_end : v'.working ≡ idle
+        works_end = ap (λ (x : View). x.working) told.after ∙ (ap (λ b. cond b (working_hit (number (extent_of w.shape)) v.working (place_at (extent_of w.shape) (number (extent_of w.shape) (Count s))) seen new deinit) v.working) (eq-eqb found seen same)
+            ∙ (ap (without_next (number (extent_of w.shape)) s) is ∙ left_idle (number (extent_of w.shape)) s))
+
+        owns_end : (n : ℕ) (M : (Held → ℕ) → ℕ) → n ≡ t.hands → ((g : Held → ℕ) → M g ≡ in_vars t.vars g) → Owns v' n M
+        owns_end n M hands is = subst (λ k. Owns v' k M) (sym hands) (owns_on w.shape 1 ended v v' t.hands (references t.vars t.hands (dying w s a e)) M called_end (λ k. refl) refl f.owns (λ g. let x = is g in omega arith))
+
+        no_claim_end : (n : ℕ) → HasClaim v' n → ⊥
+        no_claim_end = claims_on w.shape 1 ended v v' called_end (λ m n. refl) f.no_claim
+
+      more : found ≡ seen → act_of w.shape v (Swap seen new) deinit found ≡ Some (acts.Finish s false) → Swapped downs.More
+      more same act =
+          let q : Thread = record (quiet t) { event = Some (acts.Finish s false) } in
+          let u : Thread = next_op q in
+          let walk = next_walks w.shape q f.is_for f.stepper.vars_fit in record {
+            takes_it = takes_swap;
+            event = act ∙ sym walk.event;
+            holds = subst (λ (x : Option Act). WordsHold Judged w.shape (extent_of w.shape) (Some (Swap seen new)) (Some found) w.thread x h_swap) (sym walk.event) (record { names = λ slot x asked. absurd (cc); entries = λ slot x n c e. absurd (cc) });
+            count = walk.count ∙ f.count;
+            owns = owns_end same false act u.hands (references u.vars u.hands u.doing) walk.hands walk.same;
+            no_claim = no_claim_end same false act;
+            asks = walk.asks;
+            under_way = fresh_under w.shape v' u.doing walk.fresh (works_end same false act) (λ j. dite (ℕ_discrete j owes.place) (λ e. ap (λ k. duty_of v'.number k (heap_of v')) e ∙ its_duty same false act) (λ ne. others_duty same false act j ne));
+          }
+
+      -- the slot is to be vacated: the counts that were there show that the object has no entry
+      last_one : found ≡ seen → (c : Inline) → IsWordOf (Counts c) seen → act_of w.shape v (Swap seen new) deinit found ≡ Some (acts.Finish s true) → Swapped downs.Last
+      last_one same c word act = record {
+        takes_it = takes_swap;
+        event = act;
+        holds = record { names = λ slot x asked. absurd (cc); entries = entry_none };
+        count = f.count;
+        owns = owns_end same true act t.hands (references t.vars t.hands (dying w s (ats.Vacating (record { layout = extent_of w.shape; slot = s; at = once.Asked })) (Some (acts.Finish s true)))) refl (λ g. omega arith);
+        no_claim = no_claim_end same true act;
+        asks = (refl, (refl, refl));
+        under_way = record { working = works_end same true act; duty = duty; rests = tt };
+      }
+        where
+          m : OwedLater owes.place owes.object h_swap
+          m = met_end same true act
+
+          says : ShowsCounts w.shape (at_slot s (heap_after h_swap)) seen
+          says = subst (ShowsCounts w.shape (at_slot s (heap_after h_swap))) same ((told.read (Count s) tt below refl).says (λ u. u))
+
+          bare : m.q.entry ≡ None
+          bare = (header_counts w.shape m.q c seen f.sized (subst (λ x. ShowsCounts w.shape x seen) (slot_found w.shape h_swap owes.place s m.q (legal same true act).1 m.here (slot_end same true act)) says) word).entry
+
+          r : Stays owes.place m.q (heap_after (event same true act ∷ h_swap))
+          r = stays_after w.shape (event same true act) h_swap (legal same true act) owes.place m.q m.here
+
+          slot_then : r.q.slot ≡ Some s
+          slot_then = r.slot (dying_busy w.shape h_swap v.number owes.place m.q (legal same true act).1 m.here (owed_end same true act)) ∙ slot_end same true act
+
+          duty_then : duty_of v.number owes.place (heap_after (event same true act ∷ h_swap)) ≡ Some Vacating
+          duty_then = sym (λ k. duty_of (number_is same true act k) owes.place (heap_after (seen_end same true act k))) ∙ its_duty same true act
+
+          bare_then : r.q.entry ≡ None
+          bare_then = entry_kept w.shape (event same true act) h_swap v.number owes.place Vacating m.q r.q (legal same true act) (λ k n why o e. absurd (finish≢side e)) m.here r.here duty_then None bare
+            where
+              finish≢side : {k n : ℕ} {why : Kind} → acts.Finish s true ≡ acts.Side k n why → ⊥
+              finish≢side e = cc
+
+          duty : OwesOne v' Vacating s
+          duty = record {
+            place = owes.place;
+            object = r.q;
+            here = ap (λ k. slice_get (heap_after k).objects owes.place) (seen_end same true act) ∙ r.here;
+            slot = slot_then;
+            owes = its_duty same true act;
+            alone = others_duty same true act;
+            bare = λ e. bare_then;
+          }
+
+          finish_inj : (x y : ℕ) → Some (acts.Finish x true) ≡ Some (acts.Finish y true) → x ≡ y
+          finish_inj x y e = cc
+
+          entry_none : (slot x n : ℕ) (k : Inline) → Some (acts.Finish s true) ≡ Some (acts.Finish slot true) → Some (Swap seen new) ≡ Some (Exchange (number (extent_of w.shape) (Count slot)) x n) → Some found ≡ Some x → unpacked x ≡ Some (Counts k)
+              → option_map (λ (o : Object). o.entry) (at_slot slot (heap_after (record { thread = w.thread; act = acts.Finish s true } ∷ h_swap))) ≡ Some None
+          entry_none slot x n k ev asked last un =
+              subst (λ (p : ℕ × ℕ). option_map (λ (o : Object). o.entry) (at_slot p.0 (heap_after (record { thread = p.1; act = acts.Finish s true } ∷ h_swap))) ≡ Some None) (λ j. (finish_inj s slot ev j, f.number j))
+              (ap (option_map (λ (o : Object). o.entry)) (slot_found w.shape (event same true act ∷ h_swap) owes.place s r.q (legal same true act) r.here slot_then) ∙ ap Some bare_then)
+
+      -- by the counts that it found
+      hit : found ≡ seen → IsDown Unowned (Count s) seen new → Swapped (unowned_down_end (unpacked seen))
+      hit same down =
+          let c : Inline = down.0 in
+          let some = inline_unpacked c seen down.1 in
+          let act : act_of w.shape v (Swap seen new) deinit found ≡ Some (acts.Finish s (c.unowned == 1)) =
+          (λ j. cond (eq-eqb found seen same j) (Some (acts.Finish s (is_last Unowned (place_at-number (extent_of w.shape) (Count s) below j) seen))) None) ∙ ap (λ (m : Option Word). Some (acts.Finish s (is_last_in Unowned m))) some in
+          subst (λ (m : Option Word). Swapped (unowned_down_end m)) (sym some) (go c down.1 (c.unowned == 1) act)
+        where
+          go : (c : Inline) → IsWordOf (Counts c) seen → (b : Bool) → act_of w.shape v (Swap seen new) deinit found ≡ Some (acts.Finish s b) → Swapped (cond b downs.Last downs.More)
+          go c word true act = last_one same c word act
+          go c word false act = more same act
+
+      abbrev answer_by : Bool → UnownedDownAnswer
+      answer_by b = cond b (unowned_down_end (unpacked seen)) (downs.Again (record { seen = seen; found = found }))
+
+      pub swaps : IsDown Unowned (Count s) seen new → Swapped (answer_by (found == seen))
+      swaps down = dite (ℕ_discrete found seen) (λ x. subst (λ b. Swapped (answer_by b)) (sym (eq-eqb found seen x)) (hit x down)) (λ ne. subst (λ b. Swapped (answer_by b)) (sym (ne_eqb found seen ne)) (missed ne))
+
+  -- ---- it vacates the slot
+  module _ (owes : OwesOne v Vacating s) (is : v.working ≡ idle) where
+    abbrev Clear : Step
+    Clear = Store (number (extent_of w.shape) (Count s)) 0
+
+    inside : s < w.shape.slots
+    inside = (each_at (IsWithin w.shape) (heap_of v).objects owes.place owes.object f.in_shape.within owes.here).0 s owes.slot
+
+    pub vacate_allowed : IsAllowed w.shape v Clear intents.Vacate
+    vacate_allowed = ((Count s, refl, inside, (ap (λ (x : Working). x.owes) is, (s, owes.place, owes.object, refl, refl, owes.here, owes.slot, owes.owes))), tt)
+
+    module _ (found : ℕ) (v' : View) (told : Told w.shape intents.Vacate Clear v found v') where
+      abbrev h_left : History
+      h_left = told.between ++ v.seen
+
+      abbrev left : Act
+      left = acts.Vacate s
+
+      abbrev event_left : Event
+      event_left = record { thread = v.number; act = left }
+
+      act_is : act_of w.shape v Clear intents.Vacate found ≡ Some left
+      act_is = ap (λ (u : Place). stored_act v u intents.Vacate) (place_at-number (extent_of w.shape) (Count s) inside)
+
+      called_left : Called w.shape (left ∷ []) 1 v v'
+      called_left = told_by w.shape intents.Vacate Clear v found v' (Some left) act_is told
+
+      seen_is_left : v'.seen ≡ event_left ∷ h_left
+      seen_is_left = ap (λ (x : View). x.seen) told.after ∙ ap (λ b. event_list v.number b ++ h_left) act_is
+
+      number_is_left : v'.number ≡ v.number
+      number_is_left = ap (λ (x : View). x.number) told.after
+
+      legal_left : IsLegal w.shape (event_left ∷ h_left)
+      legal_left = subst (IsLegal w.shape) seen_is_left told.legal
+
+      m_left : OwedLater owes.place owes.object h_left
+      m_left = owed_stays w.shape v.number owes.place Vacating owes.object v.seen told.between legal_left.1 told.others owes.here owes.owes
+
+      bare_left : m_left.q.entry ≡ None
+      bare_left = none_stays w.shape v.number owes.place owes.object m_left.q v.seen told.between f.sized.caps_fit.unowned_fits.0 legal_left.1 told.others owes.here owes.owes (owes.bare refl) m_left.here
+
+      duties_left : (j : ℕ) → duty_of v'.number j (heap_of v') ≡ cond (passes_at (in_slot s) j (heap_after h_left)) (cond (is_some (entry_in (slice_get (heap_after h_left).objects j))) (Some Gone) None) (duty_of v.number j (heap_after h_left))
+      duties_left j = (λ k. duty_of (number_is_left k) j (heap_after (seen_is_left k))) ∙ own_duties w.shape h_left event_left j legal_left
+
+      none_left : (j : ℕ) → duty_of v'.number j (heap_of v') ≡ None
+      none_left j = dite (ℕ_discrete j owes.place)
+          (λ x. ap (λ k. duty_of v'.number k (heap_of v')) x ∙ (duties_left owes.place ∙ ((λ k. cond ((ap (passes (in_slot s)) m_left.here ∙ slot_is m_left.q s (m_left.slot ∙ owes.slot)) k) (cond (is_some (entry_in (m_left.here k))) (Some Gone) None) (duty_of v.number owes.place (heap_after h_left))) ∙ ap (λ n. cond (is_some n) (Some Gone) None) bare_left)))
+          (λ ne. duties_left j ∙ (ap (λ b. cond b (cond (is_some (entry_in (slice_get (heap_after h_left).objects j))) (Some Gone) None) (duty_of v.number j (heap_after h_left))) (not_in w.shape h_left s owes.place j m_left.q legal_left.1 m_left.here (m_left.slot ∙ owes.slot) ne)
+          ∙ ((others_leave w.shape v.number v.seen told.between legal_left.1 told.others).duties j ∙ owes.alone j ne)))
+
+      abbrev q : Thread
+      q = record (quiet t) { event = Some left }
+
+      pub vacates : a ≡ ats.Vacating (record { layout = extent_of w.shape; slot = s; at = once.Asked }) → Comes w v Clear intents.Vacate found v' h_left (dying w s a e) (next_op q)
+      vacates at =
+          let u : Thread = next_op q in
+          let walk = next_walks w.shape q f.is_for f.stepper.vars_fit in record {
+            takes_it = subst (λ b. takes_at (Some found) (dying w s b e)) (sym at) tt;
+            event = act_is ∙ sym walk.event;
+            holds = subst (λ (x : Option Act). WordsHold Judged w.shape (extent_of w.shape) (Some Clear) (Some found) w.thread x h_left) (sym walk.event) (nothing_shown w.shape (extent_of w.shape) Clear found w.thread (Some left) h_left tt tt);
+            count = walk.count ∙ f.count;
+            owns = subst (λ n. Owns v' n (references u.vars u.hands u.doing)) (sym walk.hands) (owns_on w.shape 1 left v v' t.hands (references t.vars t.hands (dying w s a e)) (references u.vars u.hands u.doing) called_left (λ k. refl) refl f.owns (λ g. let x = walk.same g in omega arith));
+            no_claim = claims_on w.shape 1 left v v' called_left (λ m n. refl) f.no_claim;
+            asks = walk.asks;
+            under_way = fresh_under w.shape v' u.doing walk.fresh (ap (λ (x : View). x.working) told.after ∙ (ap (λ (u : Place). working_stored (number (extent_of w.shape)) v.working u 0 intents.Vacate) (place_at-number (extent_of w.shape) (Count s) inside) ∙ is)) none_left;
+          }

@@ -1,0 +1,299 @@
+-- What is known of a stepper that drives a pass while it is doing something, and what a step must leave of it.
+use Rattle.std.proofs.Common.{◌≡◌, ℕ, zero, ◌+◌, ◌&&◌, Bool, true, false, cond, List, [], ◌∷◌, ◌++◌, length, Option, Some, None, refl, sym, ap, ◌∙◌, subst, arith, eq-eqb}
+use Rattle.arc_model.specs.declared.event.Act.{Act}
+use Rattle.arc_model.specs.declared.event.Act.TheVariants as acts
+use Rattle.arc_model.specs.Shapes.{HeapShape}
+use Rattle.arc_model.specs.declared.shape.Kind.TheVariants.{Strong}
+use Rattle.arc_model.specs.Heaps.{Hand}
+use Rattle.arc_model.specs.Holders.{is_number, is_claimed_by}
+use Rattle.arc_model.specs.History.{History, heap_after, next_hand, is_of, share, IsLegal}
+use Rattle.arc_model.specs.Lookup.{spot, duty_of}
+use Rattle.arc_model.specs.Own.{ends_hand, brings_hand, brought, owed_next, claimed_next}
+use Rattle.arc_model.specs.Spelling.{Note, one_more_if}
+use Rattle.arc_model.specs.Spelling.Note.{Did, Line, Operation, Name, Entry, NeedsEntry, Nil, Refers}
+use Rattle.arc_model.specs.SpellingTies.{Ties, Holds, Causes}
+use Rattle.arc_model.specs.SpellingTies.Causes.{Judged}
+use Rattle.arc_model.specs.SpellingTies.Ties.{start, own, other, noted}
+use Rattle.arc_model.proofs.SpellTies.{hands_are, ties_others}
+use Rattle.arc_rule.specs.Extents.{Extent}
+use Rattle.arc_rule.specs.Places.{extent_of, number}
+use Rattle.arc_rule.specs.declared.layout.Place.TheVariants.{Count, Isa, Next}
+use Rattle.arc_rule.specs.declared.step.Step.{Step}
+use Rattle.arc_rule.specs.declared.step.Step.TheVariants as steps
+use Rattle.arc_rule.specs.declared.step.Intent.{Intent}
+use Rattle.arc_plan.specs.declared.slots.Making.{Making as Search}
+use Rattle.arc_plan.specs.declared.slots.Making.TheVariants as search
+use Rattle.arc_programs.specs.Programs.{made_of, makes}
+use Rattle.arc_ops.specs.declared.stepper.Held.{Held}
+use Rattle.arc_ops.specs.declared.stepper.Doing.{Doing}
+use Rattle.arc_ops.specs.declared.stepper.Doing.TheVariants as doings
+use Rattle.arc_ops.specs.declared.stepper.Move.{Move}
+use Rattle.arc_ops.specs.declared.stepper.Move.TheVariants as moves
+use Rattle.arc_ops.specs.Thread.{Thread, IsStepper, IsUnderWay, IsInOperation, takes_at, takes, turned}
+use Rattle.arc_spelled.specs.StepperStands.{Work, IsServedWork, StepperUpTo, step_in}
+use Rattle.arc_spelled.specs.Shown.{Adds}
+use Rattle.arc_spelled.specs.Spelled.{with_event_of, WordsHold}
+use Rattle.arc_spelled.proofs.StepperKeeps.{stepper_goes_on}
+use Rattle.arc_spelled.proofs.SteppersSpell.{added_notes_are_tied}
+use Rattle.arc_view.specs.declared.view.View.{View}
+use Rattle.arc_view.specs.Views.{idle, made_in}
+use Rattle.arc_view.specs.Holding.{HasClaim, heap_of}
+use Rattle.arc_view.specs.Rule.{InShape, IsSized, is_new, news}
+use Rattle.arc_view.specs.Kinds.{act_of, event_list, searched}
+use Rattle.arc_view.specs.Steps.{Told}
+use Rattle.arc_view.specs.Calls.{Called}
+use Rattle.arc_view.proofs.Classes.{news_of}
+use Rattle.arc_view_laws.specs.Hands.{Moves}
+use Rattle.arc_view_laws.proofs.Growing.{acts_of, told_called}
+use Rattle.arc_view_laws.proofs.Moving.{moved, moved_none}
+use Rattle.arc_ops_passes.specs.References.{references, Owns}
+use Rattle.arc_ops_passes.specs.Drives.{Asks, MayGoUp, MayGoDown, search_works, OwesNothing, Searched, UnderWay, Drives}
+use Rattle.arc_ops_passes.specs.Laws.{GoesOn}
+use Rattle.arc_ops_passes.proofs.Walks.{IsFor, IsFresh, IsFreshSearch}
+use Rattle.arc_ops_passes.proofs.Owned.{leads_on, owns_stay}
+
+-- the thread as it is while its turn is worked out
+abbrev pub quiet : Thread → Thread
+quiet t = record t { doing = doings.Ended; first = false; event = None }
+
+pub record Facts (w : Work) (t : Thread) (v : View) (d : Doing) : Type 0 where
+  pub served : IsServedWork w
+  pub sized : IsSized w.shape
+  pub stepper : IsStepper t
+  pub is_for : IsFor w.shape t
+  pub thread : t.thread ≡ w.thread
+  pub program : t.program ≡ w.program
+  pub legal : IsLegal w.shape v.seen
+  pub in_shape : InShape w.shape v.seen
+  pub number : v.number ≡ w.thread
+  pub count : length t.vars ≡ w.count
+  pub next : next_hand v.number v.seen ≡ t.hands + 1
+  pub made : news v.number v.seen ≡ t.made
+  pub fits : IsUnderWay t.layout t.shape (length t.vars) d
+  pub in_op : IsInOperation t d
+  pub notes : List Note
+  pub made_is : t.made ≡ made_of notes
+  pub up_to : StepperUpTo w t.index t.vars t.asked notes d
+  pub owns : Owns v t.hands (references t.vars t.hands d)
+  pub no_claim : (e : ℕ) → HasClaim v e → ⊥
+  pub asks : Asks w.shape t d
+  pub under_way : UnderWay w.shape v d
+
+-- what a step leaves: the history h was met, and u is what the stepper is then
+pub record Comes (w : Work) (v : View) (step : Step) (intent : Intent) (found : ℕ) (v' : View) (h : History) (d : Doing) (u : Thread) : Type 0 where
+  pub takes_it : takes_at (Some found) d
+  pub event : act_of w.shape v step intent found ≡ u.event
+  pub holds : WordsHold Judged w.shape (extent_of w.shape) (Some step) (Some found) w.thread u.event h
+  pub count : length u.vars ≡ w.count
+  pub owns : Owns v' u.hands (references u.vars u.hands u.doing)
+  pub no_claim : (e : ℕ) → HasClaim v' e → ⊥
+  pub asks : Asks w.shape u u.doing
+  pub under_way : UnderWay w.shape v' u.doing
+
+-- ---- the objects that a thread's notes made are those of its history
+
+makes_new : (a : Act) → makes a ≡ is_new a
+makes_new (acts.New k c s) = refl
+makes_new acts.Full = refl
+makes_new (acts.Copy from k) = refl
+makes_new (acts.UnownedOf h k) = refl
+makes_new (acts.WeakOf h k) = refl
+makes_new (acts.Load h g) = refl
+makes_new (acts.Drop h last) = refl
+makes_new (acts.CountFull k from) = refl
+makes_new (acts.Claim n) = refl
+makes_new acts.NoEntry = refl
+makes_new (acts.Side s n why) = refl
+makes_new (acts.Back n) = refl
+makes_new (acts.Swap c h k) = refl
+makes_new (acts.Look c) = refl
+makes_new (acts.Take s f k) = refl
+makes_new (acts.Finish s last) = refl
+makes_new (acts.Vacate s) = refl
+makes_new (acts.Gone n last) = refl
+
+no-made : (causes : Causes) (shape : HeapShape) (h : History) (n : Note) (ns : List Note) → Holds causes shape (heap_after h) n → made_of (n ∷ ns) ≡ made_of ns
+no-made causes shape h (Did a) ns x = absurd x
+no-made causes shape h (Line a) ns x = refl
+no-made causes shape h (Operation k) ns x = refl
+no-made causes shape h (Name s name) ns x = refl
+no-made causes shape h (Entry s e) ns x = refl
+no-made causes shape h (NeedsEntry s l) ns x = refl
+no-made causes shape h (Nil c) ns x = refl
+no-made causes shape h (Refers c kind place) ns x = refl
+
+pub made_are : (causes : Causes) (shape : HeapShape) (p : ℕ) (ns : List Note) (h : History) → Ties causes shape p ns h → news p h ≡ made_of ns
+made_are causes shape p ns h start = refl
+made_are causes shape p ns h (own {a = a} {ns = ms} {h = before} t) =
+    news_of p (record { thread = p; act = a }) before ∙ (ap (λ b. cond (b && is_new a) 1 0 + news p before) (eq-eqb p p refl) ∙ go (is_new a) (makes a) (makes_new a) (made_are causes shape p ms before t))
+  where
+    go : (b c : Bool) → c ≡ b → news p before ≡ made_of ms → cond b 1 0 + news p before ≡ one_more_if c (made_of ms)
+    go true true e ih = omega arith
+    go false false e ih = omega arith
+    go true false e ih = absurd cc
+    go false true e ih = absurd cc
+made_are causes shape p ns h (other {e = e} {h = before} t x) =
+    let z : cond (is_of p e && is_new e.act) 1 0 ≡ zero = ap (λ b. cond (b && is_new e.act) 1 zero) x in
+    let n = news_of p e before in let ih = made_are causes shape p ns before t in omega arith
+made_are causes shape p ns h (noted {n = n} {ns = ms} t x) = made_are causes shape p ms h t ∙ sym (no-made causes shape h n ms x)
+
+-- ---- from a stepper that drives
+
+pub facts : (w : Work) (t : Thread) (v : View) → IsServedWork w → IsStepper t → IsSized w.shape → Drives w t v → Facts w t v t.doing
+facts w t v served stepper sized d = record {
+  served = served;
+  sized = sized;
+  stepper = stepper;
+  is_for = (d.stands.works.layout_is, d.stands.works.shape_is);
+  thread = d.stands.works.thread_is;
+  program = d.stands.works.program_is;
+  legal = d.legal;
+  in_shape = d.in_shape;
+  number = d.number;
+  count = d.count;
+  next = ap (λ p. next_hand p v.seen) d.number ∙ (hands_are Judged w.shape w.thread d.notes v.seen d.tied ∙ ap (λ n. n + 1) (sym d.stands.counts.hands_are));
+  made = ap (λ p. news p v.seen) d.number ∙ (made_are Judged w.shape w.thread d.notes v.seen d.tied ∙ sym d.stands.counts.made_is);
+  fits = stepper.under_way;
+  in_op = stepper.in_operation;
+  notes = d.notes;
+  made_is = d.stands.counts.made_is;
+  up_to = d.stands.up_to;
+  owns = d.owns;
+  no_claim = d.no_claim;
+  asks = d.asks;
+  under_way = d.under_way;
+}
+
+pub event_is : (p : ℕ) (e : Option Act) (h : History) → with_event_of p e h ≡ event_list p e ++ h
+event_is p None h = refl
+event_is p (Some a) h = refl
+
+-- ---- to what drives on
+
+pub goes_on : (w : Work) (t : Thread) (v : View) (step : Step) (intent : Intent) (found : ℕ) (v' : View) → IsServedWork w → Drives w t v → t.asked ≡ moves.Step step intent → (told : Told w.shape intent step v found v')
+    → Comes w v step intent found v' (told.between ++ v.seen) t.doing (turned t (Some found)) → GoesOn w t v step intent found v'
+goes_on w t v step intent found v' served d asked told c =
+    let u : Thread = turned t (Some found) in
+    let h = told.between ++ v.seen in
+    let g = stepper_goes_on w served t (Some found) d.notes d.stands c.takes_it in
+    let others : share told.between w.thread ≡ [] = ap (share told.between) (sym d.number) ∙ told.others in
+    let before : Ties Judged w.shape w.thread d.notes h = ties_others Judged w.shape w.thread d.notes v.seen told.between others d.tied in
+    let adds : Adds (extent_of w.shape) (Some step) (Some found) u.event d.notes g.after = subst (λ (m : Move). Adds (extent_of w.shape) (step_in m) (Some found) u.event d.notes g.after) asked g.adds in
+    let tied : Ties Judged w.shape w.thread g.after (with_event_of w.thread u.event h) = added_notes_are_tied Judged w.shape (extent_of w.shape) (Some step) (Some found) w.thread u.event h d.notes g.after adds c.holds before in
+    let seen : v'.seen ≡ with_event_of w.thread u.event h =
+    ap (λ (x : View). x.seen) told.after ∙ ((λ j. event_list (d.number j) (c.event j) ++ h) ∙ sym (event_is w.thread u.event h)) in record {
+      takes_it = c.takes_it;
+      drives = record {
+        pass = ap (λ (x : View). x.role) told.after ∙ d.pass;
+        number = ap (λ (x : View). x.number) told.after ∙ d.number;
+        legal = told.legal;
+        in_shape = told.in_shape;
+        notes = g.after;
+        stands = g.stands;
+        tied = subst (Ties Judged w.shape w.thread g.after) (sym seen) tied;
+        count = c.count;
+        owns = c.owns;
+        no_claim = c.no_claim;
+        asks = c.asks;
+        under_way = c.under_way;
+      };
+      event = sym c.event;
+    }
+
+-- ---- parts of what a step leaves
+
+move_inj : (a b : Step) (i j : Intent) → moves.Step a i ≡ moves.Step b j → (a ≡ b) × (i ≡ j)
+move_inj a b i j e = (cc, cc)
+
+pub asked_is : (m : Move) (a b : Step) (i j : Intent) → m ≡ moves.Step a i → m ≡ moves.Step b j → (a ≡ b) × (i ≡ j)
+asked_is m a b i j e f = move_inj a b i j (sym e ∙ f)
+
+pub told_by : (shape : HeapShape) (intent : Intent) (st : Step) (v : View) (found : ℕ) (w : View) (a : Option Act) → act_of shape v st intent found ≡ a → Told shape intent st v found w → Called shape (acts_of a) 1 v w
+told_by shape intent st v found w a is t = subst (λ b. Called shape (acts_of b) 1 v w) is (told_called shape intent st v found w t)
+
+-- an operation has just begun
+pub fresh_under : (shape : HeapShape) (v : View) (d : Doing) → IsFresh d → v.working ≡ idle → OwesNothing v → UnderWay shape v d
+fresh_under shape v doings.Ready fresh works none = record { working = works; none = none }
+fresh_under shape v (doings.Making to name slot plan) fresh works none = at plan.at fresh
+  where
+    at : (a : Search) → IsFreshSearch a → (v.working ≡ search_works a) × OwesNothing v × Searched shape v name a
+    at search.Start f = absurd f
+    at (search.Trying s) f = (works, none, subst (λ n. searched (λ k. number (extent_of shape) (Count k)) 2 (made_in v.number v.seen) n v.trail ≡ true) (sym f) refl)
+    at (search.Naming s) f = absurd f
+    at search.Ended f = absurd f
+fresh_under shape v (doings.Copying to held plan) fresh works none = (record { working = works; none = none }, subst (MayGoUp shape held.place) (sym fresh) tt)
+fresh_under shape v (doings.Dropping held plan) fresh works none = (record { working = works; none = none }, subst (MayGoDown Strong held.place) (sym fresh) tt)
+fresh_under shape v (doings.Dying c) fresh works none = absurd fresh
+fresh_under shape v doings.Ended fresh works none = record { working = works; none = none }
+
+-- a step of no event leaves what the pass has
+pub owes_still : (shape : HeapShape) (n : ℕ) (v w : View) → Called shape [] n v w → OwesNothing v → OwesNothing w
+owes_still shape n v w c none i = (moved_none shape n v w c).duties i ∙ none i
+
+pub claims_still : (shape : HeapShape) (n : ℕ) (v w : View) → Called shape [] n v w → ((e : ℕ) → HasClaim v e → ⊥) → (e : ℕ) → HasClaim w e → ⊥
+claims_still shape n v w c none e has = none e (sym ((moved_none shape n v w c).claims e) ∙ has)
+
+pub owns_still : (shape : HeapShape) (k : ℕ) (v w : View) (n : ℕ) (L M : (Held → ℕ) → ℕ) → Called shape [] k v w → Owns v n L → ((f : Held → ℕ) → M f ≡ L f) → Owns w n M
+owns_still shape k v w n L M c o same = owns_stay v w n L M o same (λ h. leads_on shape [] k v w h c tt) (moved_none shape k v w c).hands
+
+-- so does an event that changes no duty, and one that changes no claim
+pub owes_on : (shape : HeapShape) (n : ℕ) (a : Act) (v w : View) → Called shape (a ∷ []) n v w → ((i : ℕ) (h : History) → owed_next v.number a i (heap_after h) ≡ duty_of v.number i (heap_after h)) → OwesNothing v → OwesNothing w
+owes_on shape n a v w c leaves none i = let m = moved shape a n v w c in m.duties i ∙ (leaves i m.met ∙ (m.had.duties i ∙ none i))
+
+pub claims_on : (shape : HeapShape) (n : ℕ) (a : Act) (v w : View) → Called shape (a ∷ []) n v w → ((m : Moves (Some a) v w) (e : ℕ) → claimed_next v.number a e (heap_after m.met) ≡ is_claimed_by v.number e (heap_after m.met)) → ((e : ℕ) → HasClaim v e → ⊥) → (e : ℕ) → HasClaim w e → ⊥
+claims_on shape n a v w c leaves none e has = let m = moved shape a n v w c in none e (sym (m.had.claims e) ∙ (sym (leaves m e) ∙ (sym (m.claims e) ∙ has)))
+
+-- an event that brings no hand and ends none
+pub owns_on : (shape : HeapShape) (k : ℕ) (a : Act) (v w : View) (n : ℕ) (L M : (Held → ℕ) → ℕ) → Called shape (a ∷ []) k v w → ((h : ℕ) → ends_hand h a ≡ false) → brings_hand a ≡ None → Owns v n L → ((f : Held → ℕ) → M f ≡ L f) → Owns w n M
+owns_on shape k a v w n L M c ends brings o same =
+    let m = moved shape a k v w c in
+    owns_stay v w n L M o same (λ h. leads_on shape (a ∷ []) k v w h c (ends h.hand, tt))
+    (λ h. m.hands h ∙ (λ j. cond (ends h j) None (cond (is_number (brings j) h) (brought (heap_after m.met) v.number a) (spot (Hand v.number h) (heap_of v)))))
+
+-- ---- what a word shows of the heap
+
+-- the step reads no name
+abbrev pub ReadsNoName : Extent → Step → Type 0
+ReadsNoName l (steps.Load place) = (s : ℕ) → place ≡ number l (Isa s) → ⊥
+ReadsNoName l _ = Unit {0}
+
+abbrev pub EndsNoDeinit : Option Act → Type 0
+EndsNoDeinit (Some (acts.Finish s last)) = ⊥
+EndsNoDeinit _ = Unit {0}
+
+load_inj : (a b : ℕ) → Some (steps.Load a) ≡ Some (steps.Load b) → a ≡ b
+load_inj a b e = cc
+
+pub nothing_shown : (shape : HeapShape) (l : Extent) (asked : Step) (last p : ℕ) (event : Option Act) (h : History) → ReadsNoName l asked → EndsNoDeinit event → WordsHold Judged shape l (Some asked) (Some last) p event h
+nothing_shown shape l asked last p event h no_name no_end = record {
+  names = λ slot w a is. absurd (name asked no_name slot a);
+  entries = λ slot w new c e a is counts. absurd (subst EndsNoDeinit e no_end);
+}
+  where
+    name : (asked : Step) → ReadsNoName l asked → (slot : ℕ) → Some asked ≡ Some (steps.Load (number l (Isa slot))) → ⊥
+    name (steps.Load place) reads slot e = reads slot (load_inj place (number l (Isa slot)) e)
+    name (steps.Exchange place old new) reads slot e = cc
+    name (steps.Store place new) reads slot e = cc
+
+pub count_no_name : (l : Extent) (s : ℕ) → ReadsNoName l (steps.Load (number l (Count s)))
+count_no_name l s x e = omega arith
+
+pub next_no_name : (l : Extent) (s : ℕ) → ReadsNoName l (steps.Load (number l (Next s)))
+next_no_name l s x e = omega arith
+
+-- ---- a step of no event after which the stepper goes on to this
+
+pub stays : (w : Work) (t : Thread) (v : View) (step : Step) (intent : Intent) (found : ℕ) (v' : View) (d : Doing) (u : Thread) (told : Told w.shape intent step v found v') → Facts w t v d → takes_at (Some found) d → act_of w.shape v step intent found ≡ None → u.event ≡ None
+    → ReadsNoName (extent_of w.shape) step → u.hands ≡ t.hands → length u.vars ≡ length t.vars → ((f : Held → ℕ) → references u.vars u.hands u.doing f ≡ references t.vars t.hands d f) → Asks w.shape u u.doing → UnderWay w.shape v' u.doing
+    → Comes w v step intent found v' (told.between ++ v.seen) d u
+stays w t v step intent found v' d u told f takes act event no_name hands count same asks under =
+    let c = told_by w.shape intent step v found v' None act told in record {
+      takes_it = takes;
+      event = act ∙ sym event;
+      holds = nothing_shown w.shape (extent_of w.shape) step found w.thread u.event (told.between ++ v.seen) no_name (subst EndsNoDeinit (sym event) tt);
+      count = count ∙ f.count;
+      owns = subst (λ n. Owns v' n (references u.vars u.hands u.doing)) (sym hands) (owns_still w.shape 1 v v' t.hands (references t.vars t.hands d) (references u.vars u.hands u.doing) c f.owns same);
+      no_claim = claims_still w.shape 1 v v' c f.no_claim;
+      asks = asks;
+      under_way = under;
+    }

@@ -1,0 +1,342 @@
+-- The laws of a stepper that drives a pass.
+use Rattle.std.proofs.Common.{◌≡◌, ℕ, zero, suc, List, [], ◌++◌, length, replicate, Option, Some, None, refl, sym, ap, ◌∙◌, subst, arith}
+use Rattle.std.proofs.lemmas.List.{append-nil, length-replicate}
+use Rattle.std.specs.Prelude.{All}
+use Rattle.std.proofs.lemmas.List.Sums.{sum_by-cons}
+use Rattle.arc_model.specs.declared.event.Act.{Act}
+use Rattle.arc_model.specs.declared.event.ObjectName.{ObjectName}
+use Rattle.arc_model.specs.declared.event.Origin.TheVariants as origins
+use Rattle.arc_model.specs.Heaps.{Hand}
+use Rattle.arc_model.specs.Holders.{is_claimed_by}
+use Rattle.arc_model.specs.History.{History, heap_after, IsLegal}
+use Rattle.arc_model.specs.Lookup.{spot, duty_of}
+use Rattle.arc_model.specs.Others.{IsUntouched}
+use Rattle.arc_model.specs.SpellingTies.{Ties}
+use Rattle.arc_model.specs.SpellingTies.Causes.{Judged}
+use Rattle.arc_model.specs.SpellingTies.Ties.{start}
+use Rattle.arc_model.proofs.Basics.{None≢Some, true≢false}
+use Rattle.arc_model.proofs.Others.{others_leave, false-if}
+use Rattle.arc_model.proofs.SpellTies.{ties_others}
+use Rattle.arc_rule.specs.Places.{extent_of, number}
+use Rattle.arc_rule.specs.declared.layout.Place.TheVariants.{Count, Isa, Next}
+use Rattle.arc_rule.specs.declared.step.Step.{Step}
+use Rattle.arc_rule.specs.declared.step.Step.TheVariants.{Load, Exchange, Store}
+use Rattle.arc_rule.specs.declared.step.Intent.{Intent}
+use Rattle.arc_rule.specs.declared.step.Intent.TheVariants as intents
+use Rattle.arc_plan.specs.declared.attempt.At.{At as AttemptAt}
+use Rattle.arc_plan.specs.declared.attempt.At.TheVariants as attempt
+use Rattle.arc_plan.specs.declared.slots.Making.{Making as Search}
+use Rattle.arc_plan.specs.declared.slots.Making.TheVariants as search
+use Rattle.arc_plan.specs.declared.slots.Once.{Once}
+use Rattle.arc_plan.specs.declared.slots.Once.TheVariants as once
+use Rattle.arc_plan.specs.Attempts.{Attempt}
+use Rattle.arc_plan.specs.Slots.{OneStep, trial, naming}
+use Rattle.arc_cells.specs.declared.cascade.At.{At as CascadeAt}
+use Rattle.arc_cells.specs.declared.cascade.At.TheVariants as ats
+use Rattle.arc_cells.specs.Cascades.{CascadeState}
+use Rattle.arc_ops.specs.declared.stepper.Held.{Held}
+use Rattle.arc_ops.specs.declared.stepper.Doing.{Doing}
+use Rattle.arc_ops.specs.declared.stepper.Doing.TheVariants as doings
+use Rattle.arc_ops.specs.declared.stepper.Move.{Move}
+use Rattle.arc_ops.specs.declared.stepper.Move.TheVariants as moves
+use Rattle.arc_script.specs.declared.script.Op.{Op}
+use Rattle.arc_ops.specs.Programs.{program_of, vars_of, VarsFit}
+use Rattle.arc_ops.proofs.Made.{is_stepper}
+use Rattle.arc_ops.specs.Thread.{Thread, takes_at, turned_at, begun}
+use Rattle.arc_spelled.specs.StepperStands.{Work, StandsFor, step_in}
+use Rattle.arc_spelled.specs.Shown.{Adds}
+use Rattle.arc_model.specs.Spelling.{Note}
+use Rattle.arc_spelled.specs.Spelled.{with_event_of, WordsHold}
+use Rattle.arc_spelled.proofs.StepperKeeps.{stepper_goes_on}
+use Rattle.arc_spelled.proofs.SteppersSpell.{steppers_begin, added_notes_are_tied, ready_steppers_have_done}
+use Rattle.arc_view.specs.declared.view.View.{View}
+use Rattle.arc_view.specs.Views.{private_words}
+use Rattle.arc_view.specs.Holding.{heap_of}
+use Rattle.arc_view.specs.Built.{IsAllowed}
+use Rattle.arc_view.specs.Steps.{Told}
+use Rattle.arc_view.specs.Passes.{HoldsNothing}
+use Rattle.arc_ops_passes.specs.References.{weigh, in_vars, references, is_ref, has_hand, Owns}
+use Rattle.arc_ops_passes.specs.Drives.{Asks, SearchAsks, AttemptAsks, CascadeAsks, VacateAsks, UnderWay, Drives}
+use Rattle.arc_ops_passes.specs.Laws.{NewSteppersDrive, ScriptsNameVariables, PhasesAreDone, PhasesBegin, StepsAreAllowed, SteppersDriveOn, EndedSteppersHoldNothing, IsServedWord}
+use Rattle.arc_ops_passes.proofs.Walks.{begins_walks}
+use Rattle.arc_ops_passes.proofs.Goes.{quiet, Facts, Comes, facts, goes_on, asked_is, fresh_under}
+use Rattle.arc_ops_passes.proofs.Owned.{owns_same}
+use Rattle.arc_ops_passes.proofs.Makes.{makes_allowed, makes_come}
+use Rattle.arc_ops_passes.proofs.Copies.{copies_allowed, copies_come}
+use Rattle.arc_ops_passes.proofs.Drops.{drops_allowed, drops_come}
+use Rattle.arc_ops_passes.proofs.Dies as dies
+use Rattle.arc_ops_passes.proofs.Dies.{dying}
+
+-- ---- an object dies: by where the cascade is
+
+may : (w : Work) (v : View) (m : Move) (step other : Step) (intent its : Intent) → m ≡ moves.Step other its → m ≡ moves.Step step intent → IsAllowed w.shape v other its → IsAllowed w.shape v step intent
+may w v m step other intent its ask asked x = let e = asked_is m other step its intent ask asked in subst (λ (p : Step × Intent). IsAllowed w.shape v p.0 p.1) (λ j. (e.0 j, e.1 j)) x
+
+dies_allowed : (w : Work) (t : Thread) (v : View) (c : CascadeState) (step : Step) (intent : Intent) → Facts w t v (doings.Dying c) → t.asked ≡ moves.Step step intent → IsAllowed w.shape v step intent
+dies_allowed w t v c step intent f asked = at c.at (subst (λ (d : CascadeState). Facts w t v (doings.Dying d)) f.asks.0 f)
+  where
+    s : ℕ
+    s = c.slot
+
+    finishing : (b : AttemptAt) → Facts w t v (dying w c.slot (ats.Finishing (record { layout = extent_of w.shape; slot = c.slot; at = b })) c.event) → IsAllowed w.shape v step intent
+    finishing attempt.Start g = absurd g.asks.1.1
+    finishing attempt.Loading g = may w v t.asked step (Load (number (extent_of w.shape) (Count c.slot))) intent (intents.Deinit c.slot) g.asks.1.1 asked (dies.load_allowed w t v c.slot (ats.Finishing (record { layout = extent_of w.shape; slot = c.slot; at = attempt.Loading })) c.event g g.under_way.duty g.under_way.working)
+    finishing (attempt.Exchanging seen new) g =
+        may w v t.asked step (Exchange (number (extent_of w.shape) (Count c.slot)) seen new) intent (intents.Deinit c.slot) g.asks.1.1 asked
+        (dies.swap_allowed w t v c.slot (ats.Finishing (record { layout = extent_of w.shape; slot = c.slot; at = attempt.Exchanging seen new })) c.event g g.under_way.duty seen new g.under_way.working g.under_way.rests)
+    finishing attempt.Ended g = absurd g.asks.1.1
+
+    vacating : (n : Once) → Facts w t v (dying w c.slot (ats.Vacating (record { layout = extent_of w.shape; slot = c.slot; at = n })) c.event) → IsAllowed w.shape v step intent
+    vacating once.Start g = absurd g.asks.1.1
+    vacating once.Asked g = may w v t.asked step (Store (number (extent_of w.shape) (Count c.slot)) 0) intent intents.Vacate g.asks.1.1 asked (dies.vacate_allowed w t v c.slot (ats.Vacating (record { layout = extent_of w.shape; slot = c.slot; at = once.Asked })) c.event g g.under_way.duty g.under_way.working)
+    vacating once.Ended g = absurd g.asks.1.1
+
+    at : (a : CascadeAt) → Facts w t v (dying w c.slot a c.event) → IsAllowed w.shape v step intent
+    at ats.Start g = absurd g.asks.1
+    at ats.Entering g = may w v t.asked step (Store (number (extent_of w.shape) (Next c.slot)) 0) intent (intents.Deinit c.slot) g.asks.1 asked (dies.enter_allowed w t v c.slot ats.Entering c.event g g.under_way.duty g.under_way.working)
+    at ats.Naming g = may w v t.asked step (Load (number (extent_of w.shape) (Isa c.slot))) intent (intents.Deinit c.slot) g.asks.1 asked (dies.name_allowed w t v c.slot ats.Naming c.event g g.under_way.duty g.under_way.working)
+    at (ats.Named name) g = absurd g.asks.1
+    at ats.Leaving g = may w v t.asked step (Load (number (extent_of w.shape) (Next c.slot))) intent (intents.Deinit c.slot) g.asks.1 asked (dies.leave_allowed w t v c.slot ats.Leaving c.event g g.under_way.duty g.under_way.working)
+    at (ats.Finishing p) g = finishing p.at (subst (λ (q : Attempt). Facts w t v (dying w c.slot (ats.Finishing q) c.event)) g.asks.1.0 g)
+    at (ats.Vacating p) g = vacating p.at (subst (λ (q : OneStep). Facts w t v (dying w c.slot (ats.Vacating q) c.event)) g.asks.1.0 g)
+    at ats.Ended g = absurd g.asks.1
+
+abbrev DyingCase : Work → Thread → View → ℕ → View → ℕ → Option Act → CascadeAt → Step × Intent → Type 0
+DyingCase w t v found v' s e a x = IsServedWord w.shape x.0 x.1 found → (told : Told w.shape x.1 x.0 v found v') → Comes w v x.0 x.1 found v' (told.between ++ v.seen) (dying w s a e) (turned_at (Some found) (dying w s a e) (quiet t))
+
+come : (w : Work) (t : Thread) (v : View) (found : ℕ) (v' : View) (s : ℕ) (e : Option Act) (a : CascadeAt) (step other : Step) (intent its : Intent) → t.asked ≡ moves.Step other its → t.asked ≡ moves.Step step intent → DyingCase w t v found v' s e a (other, its) → DyingCase w t v found v' s e a (step, intent)
+come w t v found v' s e a step other intent its ask asked x = let q = asked_is t.asked other step its intent ask asked in subst (DyingCase w t v found v' s e a) (λ j. (q.0 j, q.1 j)) x
+
+dies_come : (w : Work) (t : Thread) (v : View) (c : CascadeState) (step : Step) (intent : Intent) (found : ℕ) (v' : View) → Facts w t v (doings.Dying c) → t.asked ≡ moves.Step step intent → IsServedWord w.shape step intent found
+    → (told : Told w.shape intent step v found v') → Comes w v step intent found v' (told.between ++ v.seen) (doings.Dying c) (turned_at (Some found) (doings.Dying c) (quiet t))
+dies_come w t v c step intent found v' f asked =
+    subst (λ (d : CascadeState). IsServedWord w.shape step intent found → (told : Told w.shape intent step v found v') → Comes w v step intent found v' (told.between ++ v.seen) (doings.Dying d) (turned_at (Some found) (doings.Dying d) (quiet t))) (sym f.asks.0)
+    (at c.at (subst (λ (d : CascadeState). Facts w t v (doings.Dying d)) f.asks.0 f))
+  where
+    Case : CascadeAt → Type 0
+    Case a = DyingCase w t v found v' c.slot c.event a (step, intent)
+
+    finishing : (b : AttemptAt) → Facts w t v (dying w c.slot (ats.Finishing (record { layout = extent_of w.shape; slot = c.slot; at = b })) c.event) → Case (ats.Finishing (record { layout = extent_of w.shape; slot = c.slot; at = b }))
+    finishing attempt.Start g = absurd g.asks.1.1
+    finishing attempt.Loading g = let a = ats.Finishing (record { layout = extent_of w.shape; slot = c.slot; at = attempt.Loading }) in
+        come w t v found v' c.slot c.event a step (Load (number (extent_of w.shape) (Count c.slot))) intent (intents.Deinit c.slot) g.asks.1.1 asked (λ served told. dies.loads w t v c.slot a c.event g g.under_way.duty found v' told refl g.under_way.working (served refl))
+    finishing (attempt.Exchanging seen new) g = let a = ats.Finishing (record { layout = extent_of w.shape; slot = c.slot; at = attempt.Exchanging seen new }) in
+        come w t v found v' c.slot c.event a step (Exchange (number (extent_of w.shape) (Count c.slot)) seen new) intent (intents.Deinit c.slot) g.asks.1.1 asked (λ served told. dies.swaps w t v c.slot a c.event g g.under_way.duty seen new found v' told refl g.under_way.working g.under_way.rests)
+    finishing attempt.Ended g = absurd g.asks.1.1
+
+    vacating : (n : Once) → Facts w t v (dying w c.slot (ats.Vacating (record { layout = extent_of w.shape; slot = c.slot; at = n })) c.event) → Case (ats.Vacating (record { layout = extent_of w.shape; slot = c.slot; at = n }))
+    vacating once.Start g = absurd g.asks.1.1
+    vacating once.Asked g = let a = ats.Vacating (record { layout = extent_of w.shape; slot = c.slot; at = once.Asked }) in
+        come w t v found v' c.slot c.event a step (Store (number (extent_of w.shape) (Count c.slot)) 0) intent intents.Vacate g.asks.1.1 asked (λ served told. dies.vacates w t v c.slot a c.event g g.under_way.duty g.under_way.working found v' told refl)
+    vacating once.Ended g = absurd g.asks.1.1
+
+    at : (a : CascadeAt) → Facts w t v (dying w c.slot a c.event) → Case a
+    at ats.Start g = absurd g.asks.1
+    at ats.Entering g = come w t v found v' c.slot c.event ats.Entering step (Store (number (extent_of w.shape) (Next c.slot)) 0) intent (intents.Deinit c.slot) g.asks.1 asked (λ served told. dies.enters w t v c.slot ats.Entering c.event g g.under_way.duty found v' told refl g.under_way.working)
+    at ats.Naming g = come w t v found v' c.slot c.event ats.Naming step (Load (number (extent_of w.shape) (Isa c.slot))) intent (intents.Deinit c.slot) g.asks.1 asked (λ served told. dies.names w t v c.slot ats.Naming c.event g g.under_way.duty found v' told refl g.under_way.working)
+    at (ats.Named name) g = absurd g.asks.1
+    at ats.Leaving g = come w t v found v' c.slot c.event ats.Leaving step (Load (number (extent_of w.shape) (Next c.slot))) intent (intents.Deinit c.slot) g.asks.1 asked (λ served told. dies.leaves w t v c.slot ats.Leaving c.event g g.under_way.duty found v' told refl g.under_way.working)
+    at (ats.Finishing p) g = subst (λ (q : Attempt). Case (ats.Finishing q)) (sym g.asks.1.0) (finishing p.at (subst (λ (q : Attempt). Facts w t v (dying w c.slot (ats.Finishing q) c.event)) g.asks.1.0 g))
+    at (ats.Vacating p) g = subst (λ (q : OneStep). Case (ats.Vacating q)) (sym g.asks.1.0) (vacating p.at (subst (λ (q : OneStep). Facts w t v (dying w c.slot (ats.Vacating q) c.event)) g.asks.1.0 g))
+    at ats.Ended g = absurd g.asks.1
+
+-- ---- by what the stepper is doing
+
+no_step : {X : Type 0} (m : Move) (step : Step) (intent : Intent) → m ≡ moves.PhaseEnd → m ≡ moves.Step step intent → X
+no_step m step intent e asked = absurd (cc)
+
+no_end_step : {X : Type 0} (m : Move) (step : Step) (intent : Intent) → m ≡ moves.Ended → m ≡ moves.Step step intent → X
+no_end_step m step intent e asked = absurd (cc)
+
+pub steps_are_allowed : StepsAreAllowed
+steps_are_allowed w t v step intent served stepper sized d asked = at t.doing (facts w t v served stepper sized d)
+  where
+    at : (e : Doing) → Facts w t v e → IsAllowed w.shape v step intent
+    at doings.Ready f = no_step t.asked step intent f.asks asked
+    at (doings.Making to name slot plan) f = makes_allowed w t v to name slot plan step intent f asked
+    at (doings.Copying to held plan) f = copies_allowed w t v to held plan step intent f asked
+    at (doings.Dropping held plan) f = drops_allowed w t v held plan step intent f asked
+    at (doings.Dying c) f = dies_allowed w t v c step intent f asked
+    at doings.Ended f = no_end_step t.asked step intent f.asks.0 asked
+
+pub steppers_drive_on : SteppersDriveOn
+steppers_drive_on w t v step intent found v' served stepper sized d asked told word =
+    goes_on w t v step intent found v' served d asked told (at t.doing (facts w t v served stepper sized d) word)
+  where
+    at : (e : Doing) → Facts w t v e → IsServedWord w.shape step intent found → Comes w v step intent found v' (told.between ++ v.seen) e (turned_at (Some found) e (quiet t))
+    at doings.Ready f word = no_step t.asked step intent f.asks asked
+    at (doings.Making to name slot plan) f word = makes_come w t v to name slot plan step intent found v' f asked told
+    at (doings.Copying to held plan) f word = copies_come w t v to held plan step intent found v' f asked word told
+    at (doings.Dropping held plan) f word = drops_come w t v held plan step intent found v' f asked word told
+    at (doings.Dying c) f word = dies_come w t v c step intent found v' f asked word told
+    at doings.Ended f word = no_end_step t.asked step intent f.asks.0 asked
+
+-- ---- the beginning
+
+none_in : (n : ℕ) (f : Held → ℕ) → in_vars (replicate n None) f ≡ 0
+none_in zero f = refl
+none_in (suc n) f = let c = sum_by-cons (weigh f) None (replicate n None) in let h = none_in n f in omega arith
+
+pub new_steppers_drive : NewSteppersDrive
+new_steppers_drive script p came v n = record {
+  pass = n.pass;
+  number = n.number;
+  legal = n.legal;
+  in_shape = n.in_shape;
+  notes = [];
+  stands = steppers_begin script p came;
+  tied = subst (Ties Judged script.shape p []) (append-nil v.seen) (ties_others Judged script.shape p [] [] v.seen n.unused start);
+  count = length-replicate (vars_of script p) None;
+  owns = record {
+    leads = λ h one. let z = zero_of (is_ref h) in absurd (omega arith);
+    once = λ k. let z = zero_of (has_hand k) in omega arith;
+    below = λ k one. let z = zero_of (has_hand k) in absurd (omega arith);
+    only = λ k none. ap (λ q. spot (Hand q k) (heap_of v)) n.number ∙ untouched.hands k;
+  };
+  no_claim = λ e has. true≢false (sym has ∙ (ap (λ q. is_claimed_by q e (heap_of v)) n.number ∙ untouched.claims e));
+  asks = refl;
+  under_way = record { working = n.working; none = λ i. ap (λ q. duty_of q i (heap_of v)) n.number ∙ untouched.duties i };
+}
+  where
+    zero_of : (f : Held → ℕ) → references (replicate (vars_of script p) None) 0 doings.Ready f ≡ 0
+    zero_of f = let z = none_in (vars_of script p) f in omega arith
+
+    untouched : IsUntouched p (heap_after []) (heap_of v)
+    untouched = subst (λ (h : History). IsUntouched p (heap_after []) (heap_after h)) (append-nil v.seen) (others_leave script.shape p [] v.seen (subst (IsLegal script.shape) (sym (append-nil v.seen)) n.legal) n.unused)
+
+pub scripts_name_variables : ScriptsNameVariables
+scripts_name_variables script p came valid served within =
+    subst (λ n. All (VarsFit n) (program_of script p)) (length-replicate (vars_of script p) None) (is_stepper script p valid served within).vars_fit
+
+pub phases_are_done : PhasesAreDone
+phases_are_done script p came any t v served d asked = record { notes = d.notes; tied = d.tied; done = ready_steppers_have_done script p came any t d.notes served d.stands asked }
+
+-- it asks for something else than the next phase
+not_phase : {X : Type 0} (m : Move) (step : Step) (intent : Intent) → m ≡ moves.PhaseEnd → m ≡ moves.Step step intent → X
+not_phase m step intent e asked = absurd (cc)
+
+pub phases_begin : PhasesBegin
+phases_begin w t v served fits d asked = at t.doing d.asks d.owns d.under_way (λ takes. let g = stepper_goes_on w served t None d.notes d.stands takes in (g.after, g.adds, g.stands))
+  where
+    Went : Doing → Type 0
+    Went e = takes_at None e → (after : List Note) × Adds (extent_of w.shape) (step_in t.asked) None (turned_at None e (quiet t)).event d.notes after × StandsFor w (turned_at None e (quiet t)) after
+
+    Begins : Doing → Type 0
+    Begins e = takes_at None e × Drives w (turned_at None e (quiet t)) v × ((turned_at None e (quiet t)).event ≡ None)
+
+    step_not : (e : Doing) → t.asked ≡ moves.PhaseEnd → (step : Step) (intent : Intent) → t.asked ≡ moves.Step step intent → Begins e
+    step_not e phase step intent ask = not_phase t.asked step intent phase ask
+
+    trying : (e : Doing) (s : ℕ) (intent : Intent) (a : AttemptAt) → AttemptAsks w.shape t.asked s intent a → Begins e
+    trying e s intent attempt.Start x = absurd x
+    trying e s intent attempt.Loading x = step_not e asked (Load (number (extent_of w.shape) (Count s))) intent x
+    trying e s intent (attempt.Exchanging seen new) x = step_not e asked (Exchange (number (extent_of w.shape) (Count s)) seen new) intent x
+    trying e s intent attempt.Ended x = absurd x
+
+    searching : (e : Doing) (name : ObjectName) (slot : ℕ) (a : Search) → SearchAsks w.shape t.asked name slot a → Begins e
+    searching e name slot search.Start x = absurd x
+    searching e name slot (search.Trying s) x = step_not e asked (trial (extent_of w.shape) s) (intents.New name.class) x.1
+    searching e name slot (search.Naming s) x = step_not e asked (naming (extent_of w.shape) name s) (intents.New name.class) x.1
+    searching e name slot search.Ended x = absurd x
+
+    clearing : (e : Doing) (s : ℕ) (n : Once) → VacateAsks w.shape t.asked s n → Begins e
+    clearing e s once.Start x = absurd x
+    clearing e s once.Asked x = step_not e asked (Store (number (extent_of w.shape) (Count s)) 0) intents.Vacate x
+    clearing e s once.Ended x = absurd x
+
+    cascading : (e : Doing) (s : ℕ) (a : CascadeAt) → CascadeAsks w.shape t.asked s a → Begins e
+    cascading e s ats.Start x = absurd x
+    cascading e s ats.Entering x = step_not e asked (Store (number (extent_of w.shape) (Next s)) 0) (intents.Deinit s) x
+    cascading e s ats.Naming x = step_not e asked (Load (number (extent_of w.shape) (Isa s))) (intents.Deinit s) x
+    cascading e s (ats.Named name) x = absurd x
+    cascading e s ats.Leaving x = step_not e asked (Load (number (extent_of w.shape) (Next s))) (intents.Deinit s) x
+    cascading e s (ats.Finishing p) x = trying e s (intents.Deinit s) p.at x.1
+    cascading e s (ats.Vacating p) x = clearing e s p.at x.1
+    cascading e s ats.Ended x = absurd x
+
+    vars_fit : All (VarsFit (length t.vars)) t.program
+    vars_fit = subst (λ (x : ℕ × List Op). All (VarsFit x.0) x.1) (λ j. (sym d.count j, sym d.stands.works.program_is j)) fits
+
+    end_not : t.asked ≡ moves.Ended → ⊥
+    end_not x = cc
+
+    at : (e : Doing) → Asks w.shape t e → Owns v t.hands (references t.vars t.hands e) → UnderWay w.shape v e → Went e → Begins e
+    at doings.Ready asks owns under went =
+        let g = went refl in
+        let u : Thread = begun (quiet t) in
+        let walk = begins_walks w.shape (quiet t) (d.stands.works.layout_is, d.stands.works.shape_is) vars_fit in
+        let holds : WordsHold Judged w.shape (extent_of w.shape) (step_in t.asked) None w.thread u.event v.seen = record { names = λ slot x a l. absurd (None≢Some x l); entries = λ slot x n c e a l. absurd (None≢Some x l) } in
+        let tied = added_notes_are_tied Judged w.shape (extent_of w.shape) (step_in t.asked) None w.thread u.event v.seen d.notes g.0 g.1 holds d.tied in (
+          refl,
+          record {
+            pass = d.pass;
+            number = d.number;
+            legal = d.legal;
+            in_shape = d.in_shape;
+            notes = g.0;
+            stands = g.2;
+            tied = subst (λ (x : Option Act). Ties Judged w.shape w.thread g.0 (with_event_of w.thread x v.seen)) walk.event tied;
+            count = walk.count ∙ d.count;
+            owns = subst (λ n. Owns v n (references u.vars u.hands u.doing)) (sym walk.hands) (owns_same v t.hands (references t.vars t.hands doings.Ready) (references u.vars u.hands u.doing) owns (λ f. let x = walk.same f in omega arith));
+            no_claim = d.no_claim;
+            asks = walk.asks;
+            under_way = fresh_under w.shape v u.doing walk.fresh under.working under.none;
+          },
+          walk.event,
+        )
+    at (doings.Making to name slot plan) asks owns under went = searching (doings.Making to name slot plan) name slot plan.at asks.1
+    at (doings.Copying to held plan) asks owns under went = trying (doings.Copying to held plan) held.place (intents.Copy (origins.Hand held.hand)) plan.at asks.1
+    at (doings.Dropping held plan) asks owns under went = trying (doings.Dropping held plan) held.place (intents.Drop held.hand) plan.at asks.1
+    at (doings.Dying c) asks owns under went = cascading (doings.Dying c) c.slot c.at asks.1
+    at doings.Ended asks owns under went = absurd (end_not asks.0)
+
+not_ended : {X : Type 0} (m : Move) (step : Step) (intent : Intent) → m ≡ moves.Ended → m ≡ moves.Step step intent → X
+not_ended m step intent e asked = absurd (cc)
+
+pub ended_steppers_hold_nothing : EndedSteppersHoldNothing
+ended_steppers_hold_nothing w t v d ended = at t.doing d.asks d.owns d.under_way
+  where
+    searching : (name : ObjectName) (slot : ℕ) (a : Search) → SearchAsks w.shape t.asked name slot a → ⊥
+    searching name slot search.Start x = x
+    searching name slot (search.Trying s) x = not_ended t.asked (trial (extent_of w.shape) s) (intents.New name.class) ended x.1
+    searching name slot (search.Naming s) x = not_ended t.asked (naming (extent_of w.shape) name s) (intents.New name.class) ended x.1
+    searching name slot search.Ended x = x
+
+    trying : (s : ℕ) (intent : Intent) (a : AttemptAt) → AttemptAsks w.shape t.asked s intent a → ⊥
+    trying s intent attempt.Start x = x
+    trying s intent attempt.Loading x = not_ended t.asked (Load (number (extent_of w.shape) (Count s))) intent ended x
+    trying s intent (attempt.Exchanging seen new) x = not_ended t.asked (Exchange (number (extent_of w.shape) (Count s)) seen new) intent ended x
+    trying s intent attempt.Ended x = x
+
+    once_at : (s : ℕ) (n : Once) → VacateAsks w.shape t.asked s n → ⊥
+    once_at s once.Start x = x
+    once_at s once.Asked x = not_ended t.asked (Store (number (extent_of w.shape) (Count s)) 0) intents.Vacate ended x
+    once_at s once.Ended x = x
+
+    cascading : (s : ℕ) (a : CascadeAt) → CascadeAsks w.shape t.asked s a → ⊥
+    cascading s ats.Start x = x
+    cascading s ats.Entering x = not_ended t.asked (Store (number (extent_of w.shape) (Next s)) 0) (intents.Deinit s) ended x
+    cascading s ats.Naming x = not_ended t.asked (Load (number (extent_of w.shape) (Isa s))) (intents.Deinit s) ended x
+    cascading s (ats.Named name) x = x
+    cascading s ats.Leaving x = not_ended t.asked (Load (number (extent_of w.shape) (Next s))) (intents.Deinit s) ended x
+    cascading s (ats.Finishing p) x = trying s (intents.Deinit s) p.at x.1
+    cascading s (ats.Vacating p) x = once_at s p.at x.1
+    cascading s ats.Ended x = x
+
+    phase : t.asked ≡ moves.PhaseEnd → ⊥
+    phase x = cc
+
+    at : (e : Doing) → Asks w.shape t e → Owns v t.hands (references t.vars t.hands e) → UnderWay w.shape v e → HoldsNothing v
+    at doings.Ready asks owns under = absurd (phase asks)
+    at (doings.Making to name slot plan) asks owns under = absurd (searching name slot plan.at asks.1)
+    at (doings.Copying to held plan) asks owns under = absurd (trying held.place (intents.Copy (origins.Hand held.hand)) plan.at asks.1)
+    at (doings.Dropping held plan) asks owns under = absurd (trying held.place (intents.Drop held.hand) plan.at asks.1)
+    at (doings.Dying c) asks owns under = absurd (cascading c.slot c.at asks.1)
+    at doings.Ended asks owns under = record {
+      quiet = record {
+        hands = λ k. owns.only k (let z = asks.1 (has_hand k) in omega arith);
+        duties = under.none;
+        claims = λ e. false-if (is_claimed_by v.number e (heap_of v)) (d.no_claim e);
+      };
+      is_idle = record { owes = ap (λ x. x.owes) under.working; access = ap (λ x. x.access) under.working; private = ap private_words under.working };
+    }

@@ -1,0 +1,11 @@
+pub mod Walks
+pub mod Owned
+pub mod Goes
+pub mod Makes
+pub mod Counts
+pub mod Copies
+pub mod Drops
+pub mod Owed
+pub mod Dies
+pub mod Laws
+pub mod Meeting

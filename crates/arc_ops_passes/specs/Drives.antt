@@ -1,0 +1,163 @@
+-- A stepper drives a pass: what it is doing fits what the pass has, by what the pass has seen.
+use Rattle.std.specs.Prelude.{ℕ, true, ◌≡◌, ◌≢◌, List, [], ◌∷◌, length, Some, None, ⊤}
+use Rattle.arc_model.specs.declared.event.ObjectName.{ObjectName}
+use Rattle.arc_model.specs.declared.event.Origin.TheVariants.{Hand}
+use Rattle.arc_model.specs.declared.shape.Kind.{Kind}
+use Rattle.arc_model.specs.declared.shape.Kind.TheVariants.{Strong, Unowned}
+use Rattle.arc_model.specs.Shapes.{HeapShape}
+use Rattle.arc_model.specs.Heaps.{Duty, Deinit, Vacating, Object}
+use Rattle.arc_model.specs.Holders.{at_slot}
+use Rattle.arc_model.specs.History.{IsLegal}
+use Rattle.arc_model.specs.Lookup.{duty_of}
+use Rattle.arc_model.specs.Spelling.{Note}
+use Rattle.arc_model.specs.SpellingTies.{Ties, name_of}
+use Rattle.arc_model.specs.SpellingTies.Causes.{Judged}
+use Rattle.arc_rule.specs.Places.{extent_of, number}
+use Rattle.arc_rule.specs.declared.layout.Place.TheVariants.{Count, Isa, Next}
+use Rattle.arc_rule.specs.declared.step.Step.TheVariants.{Load, Exchange, Store}
+use Rattle.arc_rule.specs.declared.step.Intent.{Intent}
+use Rattle.arc_rule.specs.declared.step.Intent.TheVariants as intents
+use Rattle.arc_plan.specs.declared.attempt.At.{At as AttemptAt}
+use Rattle.arc_plan.specs.declared.attempt.At.TheVariants.{Loading, Exchanging}
+use Rattle.arc_plan.specs.declared.slots.Making.{Making as Search}
+use Rattle.arc_plan.specs.declared.slots.Making.TheVariants.{Trying, Naming}
+use Rattle.arc_plan.specs.declared.slots.Once.{Once}
+use Rattle.arc_plan.specs.declared.slots.Once.TheVariants.{Asked}
+use Rattle.arc_plan.specs.Slots.{trial, naming}
+use Rattle.arc_cells.specs.declared.cascade.At.{At as CascadeAt}
+use Rattle.arc_cells.specs.declared.cascade.At.TheVariants as at
+use Rattle.arc_cells.specs.Cascades.{CascadeState}
+use Rattle.arc_ops.specs.declared.stepper.Held.{Held}
+use Rattle.arc_ops.specs.declared.stepper.Doing.{Doing}
+use Rattle.arc_ops.specs.declared.stepper.Doing.TheVariants.{Ready, Making, Copying, Dropping, Dying, Ended}
+use Rattle.arc_ops.specs.declared.stepper.Move.{Move}
+use Rattle.arc_ops.specs.declared.stepper.Move.TheVariants as moves
+use Rattle.arc_ops.specs.Thread.{Thread}
+use Rattle.arc_spelled.specs.StepperStands.{Work, StandsFor}
+use Rattle.arc_view.specs.declared.view.Role.TheVariants.{Pass}
+use Rattle.arc_view.specs.declared.view.Working.{Working}
+use Rattle.arc_view.specs.declared.view.View.{View}
+use Rattle.arc_view.specs.Views.{idle, made_in}
+use Rattle.arc_view.specs.Holding.{At, HasDuty, HasClaim, heap_of}
+use Rattle.arc_view.specs.Rule.{InShape}
+use Rattle.arc_view.specs.Kinds.{searched}
+use Rattle.arc_view.specs.Admission.{IsUp, IsDown}
+use Rattle.arc_ops_passes.specs.References.{in_vars, references, Owns}
+
+-- ---- its plans are for this heap, and wait for the word of the step that it asks for
+
+abbrev pub SearchAsks : HeapShape → Move → ObjectName → ℕ → Search → Type 0
+SearchAsks shape asked name slot (Trying s) = (s ≡ slot) × (asked ≡ moves.Step (trial (extent_of shape) s) (intents.New name.class))
+SearchAsks shape asked name slot (Naming s) = (s ≡ slot) × (asked ≡ moves.Step (naming (extent_of shape) name s) (intents.New name.class))
+SearchAsks shape asked name slot _ = ⊥
+
+-- an attempt on the inline word of a slot
+abbrev pub AttemptAsks : HeapShape → Move → ℕ → Intent → AttemptAt → Type 0
+AttemptAsks shape asked s intent Loading = asked ≡ moves.Step (Load (number (extent_of shape) (Count s))) intent
+AttemptAsks shape asked s intent (Exchanging seen new) = asked ≡ moves.Step (Exchange (number (extent_of shape) (Count s)) seen new) intent
+AttemptAsks shape asked s intent _ = ⊥
+
+abbrev pub VacateAsks : HeapShape → Move → ℕ → Once → Type 0
+VacateAsks shape asked s Asked = asked ≡ moves.Step (Store (number (extent_of shape) (Count s)) 0) intents.Vacate
+VacateAsks shape asked s _ = ⊥
+
+abbrev pub CascadeAsks : HeapShape → Move → ℕ → CascadeAt → Type 0
+CascadeAsks shape asked s at.Entering = asked ≡ moves.Step (Store (number (extent_of shape) (Next s)) 0) (intents.Deinit s)
+CascadeAsks shape asked s at.Naming = asked ≡ moves.Step (Load (number (extent_of shape) (Isa s))) (intents.Deinit s)
+CascadeAsks shape asked s at.Leaving = asked ≡ moves.Step (Load (number (extent_of shape) (Next s))) (intents.Deinit s)
+CascadeAsks shape asked s (at.Finishing p) = (p ≡ record { layout = extent_of shape; slot = s; at = p.at }) × AttemptAsks shape asked s (intents.Deinit s) p.at
+CascadeAsks shape asked s (at.Vacating p) = (p ≡ record { layout = extent_of shape; slot = s; at = p.at }) × VacateAsks shape asked s p.at
+CascadeAsks shape asked s _ = ⊥
+
+abbrev pub Asks : HeapShape → Thread → Doing → Type 0
+Asks shape t Ready = t.asked ≡ moves.PhaseEnd
+Asks shape t (Making to name slot plan) = (plan ≡ record { layout = extent_of shape; name = name; at = plan.at }) × SearchAsks shape t.asked name slot plan.at
+Asks shape t (Copying to held plan) =
+    (plan ≡ record { layout = extent_of shape; slot = held.place; cap = shape.caps.strong; at = plan.at }) × AttemptAsks shape t.asked held.place (intents.Copy (Hand held.hand)) plan.at
+Asks shape t (Dropping held plan) = (plan ≡ record { layout = extent_of shape; slot = held.place; at = plan.at }) × AttemptAsks shape t.asked held.place (intents.Drop held.hand) plan.at
+Asks shape t (Dying c) = (c ≡ record { layout = extent_of shape; shape = shape; slot = c.slot; at = c.at; event = c.event }) × CascadeAsks shape t.asked c.slot c.at
+Asks shape t Ended = (t.asked ≡ moves.Ended) × ((f : Held → ℕ) → in_vars t.vars f ≡ 0)
+
+-- ---- what the pass has under way meanwhile
+
+-- the slots below were found taken since the thread's last event; the new object has the name
+abbrev pub Searched : HeapShape → View → ObjectName → Search → Type 0
+Searched shape v name (Trying s) = searched (λ k. number (extent_of shape) (Count k)) 2 (made_in v.number v.seen) s v.trail ≡ true
+Searched shape v name (Naming s) = (o : Object) × (at_slot s (heap_of v) ≡ Some o) × (name_of o ≡ name)
+Searched shape v name _ = ⊤
+
+-- the word that an attempt has read allows its exchange
+abbrev pub MayGoUp : HeapShape → ℕ → AttemptAt → Type 0
+MayGoUp shape s (Exchanging seen new) = IsUp shape Strong (Count s) seen new
+MayGoUp shape s _ = ⊤
+
+abbrev pub MayGoDown : Kind → ℕ → AttemptAt → Type 0
+MayGoDown kind s (Exchanging seen new) = IsDown kind (Count s) seen new
+MayGoDown kind s _ = ⊤
+
+abbrev pub MayEnd : ℕ → CascadeAt → Type 0
+MayEnd s (at.Finishing p) = MayGoDown Unowned s p.at
+MayEnd s _ = ⊤
+
+abbrev pub OwesNothing : View → Type 0
+OwesNothing v = (i : ℕ) → duty_of v.number i (heap_of v) ≡ None
+
+-- the one duty of the pass is this one, to the object in the slot; one whose slot is to be vacated has no entry
+pub record OwesOne (v : View) (duty : Duty) (s : ℕ) : Type 0 where
+  pub place : ℕ
+  pub object : Object
+  pub here : At (heap_of v) place object
+  pub slot : object.slot ≡ Some s
+  pub owes : HasDuty v duty place
+  pub alone : (i : ℕ) → i ≢ place → duty_of v.number i (heap_of v) ≡ None
+  pub bare : duty ≡ Vacating → object.entry ≡ None
+
+abbrev pub DutyAt : View → ℕ → CascadeAt → Type 0
+DutyAt v s (at.Vacating p) = OwesOne v Vacating s
+DutyAt v s _ = OwesOne v Deinit s
+
+-- the root of a cascade, in its deinit
+abbrev pub entered : ℕ → Working
+entered s = record idle { entered = record { slot = s; parent = None; next_field = 0 } ∷ [] }
+
+abbrev pub cascade_works : ℕ → CascadeAt → Working
+cascade_works s at.Entering = idle
+cascade_works s (at.Vacating p) = idle
+cascade_works s _ = entered s
+
+abbrev pub search_works : Search → Working
+search_works (Naming s) = record idle { owes = Some s }
+search_works _ = idle
+
+pub record IsDying (shape : HeapShape) (v : View) (c : CascadeState) : Type 0 where
+  pub working : v.working ≡ cascade_works c.slot c.at
+  pub duty : DutyAt v c.slot c.at
+  pub rests : MayEnd c.slot c.at
+
+pub record IsFree (v : View) : Type 0 where
+  pub working : v.working ≡ idle
+  pub none : OwesNothing v
+
+abbrev pub UnderWay : HeapShape → View → Doing → Type 0
+UnderWay shape v (Making to name slot plan) = (v.working ≡ search_works plan.at) × OwesNothing v × Searched shape v name plan.at
+UnderWay shape v (Copying to held plan) = IsFree v × MayGoUp shape held.place plan.at
+UnderWay shape v (Dropping held plan) = IsFree v × MayGoDown Strong held.place plan.at
+UnderWay shape v (Dying c) = IsDying shape v c
+UnderWay shape v _ = IsFree v
+
+-- The stepper, at work on these operations, drives the pass.
+pub record Drives (w : Work) (t : Thread) (v : View) : Type 0 where
+  pub pass : v.role ≡ Pass
+  pub number : v.number ≡ w.thread
+  pub legal : IsLegal w.shape v.seen
+  pub in_shape : InShape w.shape v.seen
+  -- the notes that it stands for are the pass's, in what it has seen
+  pub notes : List Note
+  pub stands : StandsFor w t notes
+  pub tied : Ties Judged w.shape w.thread notes v.seen
+  -- it has the variables of its thread, and its references are the pass's hands
+  pub count : length t.vars ≡ w.count
+  pub owns : Owns v t.hands (references t.vars t.hands t.doing)
+  pub no_claim : (e : ℕ) → HasClaim v e → ⊥
+  pub asks : Asks w.shape t t.doing
+  pub under_way : UnderWay w.shape v t.doing

@@ -1,0 +1,5 @@
+pub mod Deinits
+pub mod Claims
+pub mod Room
+pub mod Names
+pub mod Phases

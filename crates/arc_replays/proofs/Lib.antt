@@ -1,0 +1,12 @@
+pub mod Plain
+pub mod GoesOn
+pub mod Beginning
+pub mod Bare
+pub mod Came
+pub mod Serves
+pub mod Holds
+pub mod Laws
+pub mod Turns
+pub mod Phases
+pub mod Promises
+pub mod Whole

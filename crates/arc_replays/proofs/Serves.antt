@@ -1,0 +1,265 @@
+-- The word that a step finds is served, and the event that it has is one of the operations that are served.
+use Rattle.std.proofs.Common.{◌≡◌, ℕ, ◌<◌, ◌-◌, ◌==◌, Bool, true, false, cond, List, [], ◌++◌, length, Option, Some, sym, ap, ◌∙◌, subst, arith}
+use Rattle.std.specs.Prelude.{slice_get}
+use Rattle.std.proofs.lemmas.Option.{slice_get_within, get_or_from_slice_get}
+use Rattle.arc_bits.specs.declared.packing.Inline.{Inline}
+use Rattle.arc_bits.specs.Words.{unpacked}
+use Rattle.arc_model.specs.declared.event.Act.{Act}
+use Rattle.arc_model.specs.declared.event.Act.TheVariants as acts
+use Rattle.arc_model.specs.declared.event.ObjectName.{ObjectName}
+use Rattle.arc_model.specs.declared.event.Origin.TheVariants as origins
+use Rattle.arc_model.specs.declared.shape.Kind.TheVariants.{Strong}
+use Rattle.arc_model.specs.Shapes.{HeapShape}
+use Rattle.arc_model.specs.Heaps.{Hand, Duty, Deinit, Vacating, Object}
+use Rattle.arc_model.specs.History.{History, heap_after, share, IsLegal}
+use Rattle.arc_model.specs.Lookup.{spot, duty_of}
+use Rattle.arc_model.proofs.Basics.{None≢Some}
+use Rattle.arc_model.proofs.Others.{others_leave}
+use Rattle.arc_rule.specs.Extents.{Extent}
+use Rattle.arc_rule.specs.Places.{extent_of, number, place_at}
+use Rattle.arc_rule.specs.Shown.{Says, ShowsCounts, IsHeader, word_at}
+use Rattle.arc_rule.specs.Steps.{found_by}
+use Rattle.arc_rule.specs.declared.layout.Place.{Place}
+use Rattle.arc_rule.specs.declared.layout.Place.TheVariants.{Count, Isa, Next}
+use Rattle.arc_rule.specs.declared.step.Step.{Step}
+use Rattle.arc_rule.specs.declared.step.Step.TheVariants.{Load, Exchange, Store}
+use Rattle.arc_rule.specs.declared.step.Intent.{Intent}
+use Rattle.arc_rule.specs.declared.step.Intent.TheVariants as intents
+use Rattle.arc_rule.proofs.Places.{place_at-number}
+use Rattle.arc_plan.specs.Slots.{trial, naming}
+use Rattle.arc_plan.specs.declared.attempt.At.{At as AttemptAt}
+use Rattle.arc_plan.specs.declared.attempt.At.TheVariants as attempt
+use Rattle.arc_plan.specs.declared.slots.Making.{Making as Search}
+use Rattle.arc_plan.specs.declared.slots.Making.TheVariants as search
+use Rattle.arc_plan.specs.declared.slots.Once.{Once}
+use Rattle.arc_plan.specs.declared.slots.Once.TheVariants as once
+use Rattle.arc_cells.specs.declared.cascade.At.{At as CascadeAt}
+use Rattle.arc_cells.specs.declared.cascade.At.TheVariants as ats
+use Rattle.arc_cells.specs.Cascades.{IsInline}
+use Rattle.arc_script.specs.declared.script.Op.{Op}
+use Rattle.arc_script.specs.declared.script.Op.TheVariants as op
+use Rattle.arc_ops.specs.Programs.{ClassFits}
+use Rattle.arc_ops.specs.declared.stepper.Held.{Held}
+use Rattle.arc_ops.specs.declared.stepper.Doing.{Doing}
+use Rattle.arc_ops.specs.declared.stepper.Doing.TheVariants as doings
+use Rattle.arc_ops.specs.declared.stepper.Move.{Move}
+use Rattle.arc_ops.specs.declared.stepper.Move.TheVariants as moves
+use Rattle.arc_ops.specs.Thread.{Thread, IsStepper, IsUpWord}
+use Rattle.arc_spelled.specs.StepperStands.{Work, IsServedWork, MakesUpTo}
+use Rattle.arc_view.specs.declared.view.Role.TheVariants.{Pass}
+use Rattle.arc_view.specs.declared.view.View.{View}
+use Rattle.arc_view.specs.Holding.{At}
+use Rattle.arc_view.specs.Kinds.{act_of, missed_act, loaded_act, stored_act, when}
+use Rattle.arc_view.specs.Rule.{InShape, IsKept, IsWithin, Fits}
+use Rattle.arc_view.proofs.Counting.{Counted, header_counts}
+use Rattle.arc_view.proofs.Held.{Held as HeldLater, held_stays, strong≢weak}
+use Rattle.arc_view.proofs.Lists.{others_came}
+use Rattle.arc_view.proofs.Owed.{OwedLater, owed_stays}
+use Rattle.arc_view.proofs.Strongs.{slot_found}
+use Rattle.arc_view.proofs.Within.{each_at}
+use Rattle.arc_view_laws.proofs.StrongWords.{ShowsStrong, shows_strong}
+use Rattle.arc_view_laws.proofs.StrongWords.ShowsStrong.{counts as strong_counts, slow as strong_slow}
+use Rattle.arc_view_laws.proofs.DyingWords.{ShowsDying, shows_dying}
+use Rattle.arc_view_laws.proofs.DyingWords.ShowsDying.{counts as dying_counts, slow as dying_slow}
+use Rattle.arc_ops_passes.specs.References.{is_ref, Leads}
+use Rattle.arc_ops_passes.specs.Drives.{SearchAsks, AttemptAsks, VacateAsks, CascadeAsks, OwesOne, DutyAt, Drives}
+use Rattle.arc_ops_passes.specs.Laws.{IsServedWord}
+use Rattle.arc_ops_passes.proofs.Goes.{Facts, facts, asked_is}
+use Rattle.arc_ops_passes.proofs.Owned.{ref-itself}
+use Rattle.arc_ops_passes.proofs.Walks.{vars-least}
+use Rattle.arc_replays.specs.Named.{EventFits}
+use Rattle.arc_replays.specs.Replaying.{table}
+use Rattle.arc_replays.proofs.Bare.{IsBareHeap, bare_at}
+
+-- ---- the events
+
+when_full : (n : ℕ) (b : Bool) → EventFits n (when b acts.Full)
+when_full n true = tt
+when_full n false = tt
+
+full_fits : (n : ℕ) (w : Work) (v : View) (place new class : ℕ) → EventFits n (missed_act w.shape v place new (intents.New class))
+full_fits n w v place new class = when_full n _
+
+exchanged : (n : ℕ) (b : Bool) (hit missed : Option Act) → EventFits n hit → EventFits n missed → EventFits n (cond b hit missed)
+exchanged n true hit missed a b = a
+exchanged n false hit missed a b = b
+
+-- ---- the words
+
+module _ (w : Work) (words : List ℕ) (views : List View) (k : IsKept w.shape (table words views)) (i : ℕ) (v : View) (fit : Fits w.shape k.log k.splits k.taken v) (pass : v.role ≡ Pass) (n : ℕ) (bare : IsBareHeap n (heap_after k.log)) (few : n < w.shape.caps.strong) where
+  abbrev rest : History
+  rest = fit.begins.0
+
+  others : share rest v.number ≡ []
+  others = others_came v.number k.log v.seen rest fit.begins.1 (fit.own pass)
+
+  abbrev now : History
+  now = rest ++ v.seen
+
+  legal : IsLegal w.shape now
+  legal = subst (IsLegal w.shape) fit.begins.1 k.legal
+
+  in_shape : InShape w.shape now
+  in_shape = subst (InShape w.shape) fit.begins.1 k.in_shape
+
+  bare_now : IsBareHeap n (heap_after now)
+  bare_now = subst (λ (h : History). IsBareHeap n (heap_after h)) fit.begins.1 bare
+
+  says : (s : ℕ) → s < w.shape.slots → Says w.shape (heap_after now) (Count s) (word_at w.shape words (Count s))
+  says s lt = subst (λ (h : History). Says w.shape (heap_after h) (Count s) (word_at w.shape words (Count s))) fit.begins.1 (k.words.says (Count s) lt (λ x. x.3))
+
+  -- of an object of which the pass has a strong hand
+  record IsLed (s : ℕ) : Type 0 where
+    up : IsUpWord w.shape.caps.strong (unpacked (word_at w.shape words (Count s)))
+    inline : IsInline (unpacked (word_at w.shape words (Count s)))
+
+  led_word : (held : Held) → held.place < w.shape.slots → Leads v held → IsLed held.place
+  led_word held lt (j, o, hand, here, slot) =
+      let later : HeldLater Strong j o (heap_after now) = held_stays w.shape v.number held.hand j Strong o v.seen rest legal others hand here in
+      let spot_now : spot (Hand v.number held.hand) (heap_after now) ≡ Some (record { place = j; kind = Strong }) = (others_leave w.shape v.number v.seen rest legal others).hands held.hand ∙ hand in
+      let slot_now = later.slot strong≢weak ∙ slot in
+      by later.q later.here slot_now (shows_strong w.shape now v.number held.hand j held.place (word_at w.shape words (Count held.place)) later.q k.sized legal in_shape spot_now later.here slot_now (says held.place lt))
+    where
+      by : (q : Object) → At (heap_after now) j q → q.slot ≡ Some held.place → ShowsStrong w.shape q (word_at w.shape words (Count held.place)) → IsLed held.place
+      by q here_now slot_now (strong_slow e is entry below) = absurd (None≢Some e (sym (bare_at n (heap_after now).objects j q bare_now.objects here_now).entry ∙ entry))
+      by q here_now slot_now (strong_counts c is word lives most unowned none) =
+          let header : IsHeader w.shape q q.entry (word_at w.shape words (Count held.place)) = subst (λ m. ShowsCounts w.shape m (word_at w.shape words (Count held.place))) (slot_found w.shape now j held.place q legal here_now slot_now) (says held.place lt) in
+          let same : Counted w.shape q c = header_counts w.shape q c (word_at w.shape words (Count held.place)) k.sized header word in
+          let extra : length q.strong - 1 ≡ c.strong_extra = ap (λ (x : Inline). x.strong_extra) same.counts in
+          let some = (bare_at n (heap_after now).objects j q bare_now.objects here_now).strong in
+          record { up = subst (IsUpWord w.shape.caps.strong) (sym is) (lives, omega arith); inline = subst IsInline (sym is) tt }
+
+  -- of an object to which it owes the deinit
+  owed_word : (s : ℕ) → s < w.shape.slots → OwesOne v Deinit s → IsInline (unpacked (word_at w.shape words (Count s)))
+  owed_word s lt owes =
+      let later : OwedLater owes.place owes.object now = owed_stays w.shape v.number owes.place Deinit owes.object v.seen rest legal others owes.here owes.owes in
+      let duty_now : duty_of v.number owes.place (heap_after now) ≡ Some Deinit = (others_leave w.shape v.number v.seen rest legal others).duties owes.place ∙ owes.owes in
+      by later.q later.here (shows_dying w.shape now v.number owes.place s (word_at w.shape words (Count s)) later.q k.sized legal in_shape later.here duty_now (later.slot ∙ owes.slot) (says s lt))
+    where
+      by : (q : Object) → At (heap_after now) owes.place q → ShowsDying w.shape q (word_at w.shape words (Count s)) → IsInline (unpacked (word_at w.shape words (Count s)))
+      by q here_now (dying_slow e is entry below) = absurd (None≢Some e (sym (bare_at n (heap_after now).objects owes.place q bare_now.objects here_now).entry ∙ entry))
+      by q here_now (dying_counts c is word ends unowned none) = subst IsInline (sym is) tt
+
+  -- ---- the step that the stepper asks for
+
+  module _ (t : Thread) (step : Step) (intent : Intent) (asked : t.asked ≡ moves.Step step intent) where
+    abbrev classes : ℕ
+    classes = length w.shape.classes
+
+    pub record Serves (st : Step) (it : Intent) : Type 0 where
+      pub word : IsServedWord w.shape st it (found_by st words)
+      pub event : EventFits (length w.shape.classes) (act_of w.shape v st it (found_by st words))
+
+    as_asked : (st : Step) (it : Intent) → t.asked ≡ moves.Step st it → Serves st it → Serves step intent
+    as_asked st it is s = let same = asked_is t.asked st step it intent is asked in subst (λ (x : Step × Intent). Serves x.0 x.1) (λ j. (same.0 j, same.1 j)) s
+
+    no_step : (m : Move) → t.asked ≡ m → (moves.Step step intent ≡ m → ⊥) → Serves step intent
+    no_step m is ne = absurd (ne (sym asked ∙ is))
+
+    class_fits : IsStepper t → t.shape ≡ w.shape → t.program ≡ w.program → (to class j : ℕ) → slice_get w.program j ≡ Some (op.New to class) → class < length w.shape.classes
+    class_fits stepper shape program to class j there =
+        let at : slice_get t.program j ≡ Some (op.New to class) = ap (λ (ops : List Op). slice_get ops j) program ∙ there in
+        let fits : ClassFits (length t.shape.classes) (op.New to class) = subst (ClassFits (length t.shape.classes)) (get_or_from_slice_get t.program j (op.New to class) (op.New to class) at) (stepper.classes_fit j (op.New to class) (slice_get_within t.program j (op.New to class) at)) in
+        subst (λ (x : HeapShape). class < length x.classes) shape fits.0
+
+    making : (to : ℕ) (name : ObjectName) (slot : ℕ) (a : Search) → SearchAsks w.shape t.asked name slot a → (a ≡ search.Trying slot → name.class < length w.shape.classes) → Serves step intent
+    making to name slot search.Start x fits = absurd x
+    making to name slot (search.Trying s) x fits = as_asked (trial (extent_of w.shape) s) (intents.New name.class) x.1 (record {
+      word = tt;
+      event = exchanged (length w.shape.classes) (found_by (trial (extent_of w.shape) s) words == 0) _ _ (fits (ap search.Trying x.0)) (full_fits (length w.shape.classes) w v (number (extent_of w.shape) (Count s)) 2 name.class);
+    })
+    making to name slot (search.Naming s) x fits = as_asked (naming (extent_of w.shape) name s) (intents.New name.class) x.1 (record { word = tt; event = tt })
+    making to name slot search.Ended x fits = absurd x
+
+    copying : (held : Held) (a : AttemptAt) → held.place < w.shape.slots → Leads v held → AttemptAsks w.shape t.asked held.place (intents.Copy (origins.Hand held.hand)) a → Serves step intent
+    copying held attempt.Start lt leads x = absurd x
+    copying held attempt.Loading lt leads x = as_asked (Load (number (extent_of w.shape) (Count held.place))) (intents.Copy (origins.Hand held.hand)) x (record {
+      word = (led_word held lt leads).up;
+      event = subst (EventFits (length w.shape.classes)) (sym (ap (λ (q : Place). loaded_act w.shape v q (word_at w.shape words (Count held.place)) (intents.Copy (origins.Hand held.hand))) (place_at-number (extent_of w.shape) (Count held.place) lt))) tt;
+    })
+    copying held (attempt.Exchanging seen new) lt leads x = as_asked (Exchange (number (extent_of w.shape) (Count held.place)) seen new) (intents.Copy (origins.Hand held.hand)) x (record {
+      word = tt;
+      event = exchanged (length w.shape.classes) (word_at w.shape words (Count held.place) == seen) _ _ tt tt;
+    })
+    copying held attempt.Ended lt leads x = absurd x
+
+    dropping : (held : Held) (a : AttemptAt) → held.place < w.shape.slots → Leads v held → AttemptAsks w.shape t.asked held.place (intents.Drop held.hand) a → Serves step intent
+    dropping held attempt.Start lt leads x = absurd x
+    dropping held attempt.Loading lt leads x = as_asked (Load (number (extent_of w.shape) (Count held.place))) (intents.Drop held.hand) x (record { word = (led_word held lt leads).inline; event = tt })
+    dropping held (attempt.Exchanging seen new) lt leads x = as_asked (Exchange (number (extent_of w.shape) (Count held.place)) seen new) (intents.Drop held.hand) x (record {
+      word = tt;
+      event = exchanged (length w.shape.classes) (word_at w.shape words (Count held.place) == seen) _ _ tt tt;
+    })
+    dropping held attempt.Ended lt leads x = absurd x
+
+    apart : (s : ℕ) (pl : Place) → place_at (extent_of w.shape) (number (extent_of w.shape) pl) ≡ pl → s < w.shape.slots → (pl ≡ Count s → ⊥) → number (extent_of w.shape) pl ≡ number (extent_of w.shape) (Count s) → ⊥
+    apart s pl back lt ne e = ne (sym back ∙ (ap (place_at (extent_of w.shape)) e ∙ place_at-number (extent_of w.shape) (Count s) lt))
+
+    finishing : (s : ℕ) (a : AttemptAt) → s < w.shape.slots → OwesOne v Deinit s → AttemptAsks w.shape t.asked s (intents.Deinit s) a → Serves step intent
+    finishing s attempt.Start lt owes x = absurd x
+    finishing s attempt.Loading lt owes x = as_asked (Load (number (extent_of w.shape) (Count s))) (intents.Deinit s) x (record { word = λ _. owed_word s lt owes; event = tt })
+    finishing s (attempt.Exchanging seen new) lt owes x = as_asked (Exchange (number (extent_of w.shape) (Count s)) seen new) (intents.Deinit s) x (record {
+      word = tt;
+      event = exchanged (length w.shape.classes) (word_at w.shape words (Count s) == seen) _ _ tt tt;
+    })
+    finishing s attempt.Ended lt owes x = absurd x
+
+    vacating : (s : ℕ) (a : Once) → VacateAsks w.shape t.asked s a → Serves step intent
+    vacating s once.Start x = absurd x
+    vacating s once.Asked x = as_asked (Store (number (extent_of w.shape) (Count s)) 0) intents.Vacate x (record { word = tt; event = tt })
+    vacating s once.Ended x = absurd x
+
+    dying : (s : ℕ) (a : CascadeAt) → s < w.shape.slots → DutyAt v s a → CascadeAsks w.shape t.asked s a → Serves step intent
+    dying s ats.Start lt duty x = absurd x
+    dying s ats.Entering lt duty x = as_asked (Store (number (extent_of w.shape) (Next s)) 0) (intents.Deinit s) x (record {
+      word = tt;
+      event = subst (EventFits (length w.shape.classes)) (sym (ap (λ (q : Place). stored_act v q (intents.Deinit s)) (place_at-number (extent_of w.shape) (Next s) lt))) tt;
+    })
+    dying s ats.Naming lt duty x = as_asked (Load (number (extent_of w.shape) (Isa s))) (intents.Deinit s) x (record {
+      word = λ e. absurd (apart s (Isa s) (place_at-number (extent_of w.shape) (Isa s) lt) lt (λ u. cc) e);
+      event = tt;
+    })
+    dying s (ats.Named name) lt duty x = absurd x
+    dying s ats.Leaving lt duty x = as_asked (Load (number (extent_of w.shape) (Next s))) (intents.Deinit s) x (record {
+      word = λ e. absurd (apart s (Next s) (place_at-number (extent_of w.shape) (Next s) lt) lt (λ u. cc) e);
+      event = tt;
+    })
+    dying s (ats.Finishing p) lt duty x = finishing s p.at lt duty x.1
+    dying s (ats.Vacating p) lt duty x = vacating s p.at x.1
+    dying s ats.Ended lt duty x = absurd x
+
+    -- an object that the pass owes something is in a slot of the shape
+    duty_within : (s : ℕ) (a : CascadeAt) → InShape w.shape v.seen → DutyAt v s a → s < w.shape.slots
+    duty_within s a within duty = by a duty
+      where
+        its : (d : Duty) → OwesOne v d s → s < w.shape.slots
+        its d o = (each_at (IsWithin w.shape) (heap_after v.seen).objects o.place o.object within.within o.here).0 s o.slot
+
+        by : (a : CascadeAt) → DutyAt v s a → s < w.shape.slots
+        by (ats.Vacating p) o = its Vacating o
+        by ats.Start o = its Deinit o
+        by ats.Entering o = its Deinit o
+        by ats.Naming o = its Deinit o
+        by (ats.Named name) o = its Deinit o
+        by ats.Leaving o = its Deinit o
+        by (ats.Finishing p) o = its Deinit o
+        by ats.Ended o = its Deinit o
+
+    serves_at : (d : Doing) → Facts w t v d → Serves step intent
+    serves_at doings.Ready f = no_step moves.PhaseEnd f.asks (λ e. cc)
+    serves_at (doings.Making to name slot plan) f = making to name slot plan.at f.asks.1 (λ is.
+        let up : MakesUpTo w t.index to name slot t.vars f.notes (search.Trying slot) = subst (λ (a : Search). MakesUpTo w t.index to name slot t.vars f.notes a) is f.up_to in
+        class_fits f.stepper f.is_for.1 f.program to name.class t.index up.1.begun.there)
+    serves_at (doings.Copying to held plan) f =
+        let lt : held.place < w.shape.slots = subst (λ (e : Extent). held.place < e.slots) f.is_for.0 f.fits.1 in
+        let leads : Leads v held = f.owns.leads held (let least = vars-least (is_ref held) t.vars f.up_to.from held f.up_to.source in let one = ref-itself held in omega arith) in
+        copying held plan.at lt leads f.asks.1
+    serves_at (doings.Dropping held plan) f =
+        let lt : held.place < w.shape.slots = subst (λ (e : Extent). held.place < e.slots) f.is_for.0 f.fits in
+        let leads : Leads v held = f.owns.leads held (let one = ref-itself held in omega arith) in
+        dropping held plan.at lt leads f.asks.1
+    serves_at (doings.Dying c) f = dying c.slot c.at (duty_within c.slot c.at f.in_shape f.under_way.duty) f.under_way.duty f.asks.1
+    serves_at doings.Ended f = no_step moves.Ended f.asks.0 (λ e. cc)
+
+    pub serves : IsServedWork w → IsStepper t → Drives w t v → Serves step intent
+    serves served stepper d = serves_at t.doing (facts w t v served stepper k.sized d)

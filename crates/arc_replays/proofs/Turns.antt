@@ -1,0 +1,215 @@
+-- A turn of a thread stays in its phase, or ends it.
+use Rattle.std.proofs.Common.{◌≡◌, ◌⊎◌, inl, inr, ℕ, ◌+◌, ◌≤◌, ◌<◌, Bool, true, false, cond, ltb, List, [], ◌∷◌, length, drop, take, Option, Some, None, refl, sym, ap, ◌∙◌, subst}
+use Rattle.std.proofs.lemmas.Bool.{ltb-true, ltb-false}
+use Rattle.std.specs.Prelude.{position}
+use Rattle.arc_rule.specs.declared.step.Step.{Step}
+use Rattle.arc_rule.specs.declared.step.Step.TheVariants as steps
+use Rattle.arc_rule.specs.declared.step.Intent.{Intent}
+use Rattle.arc_rule.specs.declared.plan.Next.{Next}
+use Rattle.arc_rule.specs.declared.plan.Next.TheVariants as nexts
+use Rattle.arc_plan.specs.declared.slots.NewObjectAnswer.{NewObjectAnswer}
+use Rattle.arc_plan.specs.declared.slots.NewObjectAnswer.TheVariants.{Slot, NoSlot}
+use Rattle.arc_plan.specs.declared.strong.StrongUpAnswer.{StrongUpAnswer}
+use Rattle.arc_plan.specs.declared.strong.StrongUpAnswer.TheVariants as ups
+use Rattle.arc_plan.specs.declared.strong.StrongDownAnswer.{StrongDownAnswer}
+use Rattle.arc_plan.specs.declared.strong.StrongDownAnswer.TheVariants as downs
+use Rattle.arc_plan.specs.Attempts.{Attempt, CappedAttempt}
+use Rattle.arc_plan.specs.Strong.{strong_up_turned, strong_up_answer, strong_down_turned, strong_down_answer}
+use Rattle.arc_plan.specs.Slots.{Creation, creation_turned, creation_answer}
+use Rattle.arc_cells.specs.declared.cascade.CascadeNext.{CascadeNext}
+use Rattle.arc_cells.specs.declared.cascade.CascadeNext.TheVariants as says
+use Rattle.arc_cells.specs.Cascades.{CascadeState, cascade_turned, cascade_answer}
+use Rattle.arc_model.specs.declared.event.ObjectName.{ObjectName}
+use Rattle.arc_model.specs.declared.event.Act.TheVariants as acts
+use Rattle.arc_model.specs.declared.event.Origin.TheVariants as origins
+use Rattle.arc_model.specs.declared.answer.Answer.TheVariants as answers
+use Rattle.arc_script.specs.declared.script.Op.{Op}
+use Rattle.arc_script.specs.declared.script.Op.TheVariants as op
+use Rattle.arc_ops.specs.declared.stepper.Held.{Held}
+use Rattle.arc_ops.specs.declared.stepper.Doing.{Doing}
+use Rattle.arc_ops.specs.declared.stepper.Doing.TheVariants.{Ready, Making, Copying, Dropping, Dying, Ended}
+use Rattle.arc_ops.specs.declared.stepper.Move.{Move}
+use Rattle.arc_ops.specs.declared.stepper.Move.TheVariants as moves
+use Rattle.arc_ops.specs.Thread.{Thread, value, set_var, put, drop_begun, make_begun, copy_begun, skipped, begun_nil, begun_copy, moved, begun_move, begun_drop, begun_op, scope_drop, scope_at, is_held, scope_begun, phase_end, phase_over, begun_at, begun, next_op, replaced_old, replaced, made_on, copied_on, dying_asks, dropped_on, dying_on, turned_at, turned}
+
+-- Where a thread of so many phases is that was in phase n: it asks for a step in it, waits for the next one, or that was its last.
+abbrev pub IsBehind : (phases n : ℕ) → Move → Doing → (phase : ℕ) → Type 0
+IsBehind phases n (moves.Step step intent) doing phase = phase ≡ n
+IsBehind phases n moves.PhaseEnd doing phase = doing ≡ Ready → (phase ≡ n + 1) × (phase < phases)
+IsBehind phases n moves.Ended doing phase = phases ≤ n + 1
+
+abbrev pub IsAfter : (phases : List (List Op)) → (n : ℕ) → Thread → Type 0
+IsAfter phases n t = (t.phases ≡ phases) × IsBehind (length phases) n t.asked t.doing t.phase
+
+-- the thread has begun nothing in its phase n
+pub record IsIdle (phases : List (List Op)) (n : ℕ) (t : Thread) : Type 0 where
+  pub phases_are : t.phases ≡ phases
+  pub phase_is : t.phase ≡ n
+  pub idle : t.doing ≡ Ended
+
+-- as it was asked for a step
+abbrev HasAsked : Thread → Type 0
+HasAsked t = (step : Step) × (intent : Intent) × (t.asked ≡ moves.Step step intent)
+
+module _ (phases : List (List Op)) (n : ℕ) where
+  not_ready : {d : Doing} → d ≡ Ended → d ≡ Ready → ⊥
+  not_ready ended ready = absurd cc
+
+  -- it stays as it is
+  asked_stays : (t : Thread) → IsIdle phases n t → HasAsked t → IsAfter phases n t
+  asked_stays t i (step, intent, asked) = (i.phases_are, subst (λ (m : Move). IsBehind (length phases) n m t.doing t.phase) (sym asked) i.phase_is)
+
+  last_stays : (t : Thread) → IsIdle phases n t → length phases ≤ n + 1 → IsAfter phases n t
+  last_stays t i last = (i.phases_are, go t.asked)
+    where
+      go : (m : Move) → IsBehind (length phases) n m t.doing t.phase
+      go (moves.Step step intent) = i.phase_is
+      go moves.PhaseEnd = λ ready. absurd (not_ready i.idle ready)
+      go moves.Ended = last
+
+  -- ---- a step is asked for
+
+  drop_after : (held : Held) (t : Thread) → IsIdle phases n t → IsAfter phases n (drop_begun held t)
+  drop_after held t i = (i.phases_are, i.phase_is)
+
+  make_after : (to class : ℕ) (t : Thread) → IsIdle phases n t → IsAfter phases n (make_begun to class t)
+  make_after to class t i = (i.phases_are, i.phase_is)
+
+  copy_after : (to : ℕ) (held : Held) (t : Thread) → IsIdle phases n t → IsAfter phases n (copy_begun to held t)
+  copy_after to held t i = (i.phases_are, i.phase_is)
+
+  -- ---- the next operation
+
+  scope_after : (t : Thread) → IsIdle phases n t → length phases ≤ n + 1 → IsAfter phases n (scope_begun t)
+  scope_after t i last = at (position is_held t.vars)
+    where
+      dropped : (v : ℕ) (m : Option Held) → IsAfter phases n (scope_drop v m t)
+      dropped v None = last_stays t i last
+      dropped v (Some held) = drop_after held (set_var v None t) (record { phases_are = i.phases_are; phase_is = i.phase_is; idle = i.idle })
+
+      at : (m : Option ℕ) → IsAfter phases n (scope_at m t)
+      at None = (i.phases_are, last)
+      at (Some v) = dropped v (value t.vars v)
+
+  over_after : (t : Thread) → IsIdle phases n t → IsAfter phases n (phase_over t)
+  over_after t i = go (ltb (t.phase + 1) (length t.phases)) refl
+    where
+      go : (b : Bool) → ltb (t.phase + 1) (length t.phases) ≡ b → IsAfter phases n (cond b (record t { doing = Ready; asked = moves.PhaseEnd; phase = t.phase + 1 }) (scope_begun t))
+      go true is = (i.phases_are, λ ready. (ap (λ k. k + 1) i.phase_is, subst (λ (ps : List (List Op)). t.phase + 1 < length ps) i.phases_are (ltb-true (t.phase + 1) (length t.phases) is)))
+      go false is =
+          let most : length t.phases ≤ t.phase + 1 = ltb-false (t.phase + 1) (length t.phases) is in
+          scope_after t i (subst (λ (x : List (List Op) × ℕ). length x.0 ≤ x.1 + 1) (λ j. (i.phases_are j, i.phase_is j)) most)
+
+  op_after : (o : Op) (t : Thread) (rest : Thread → Thread) → IsIdle phases n t → ((u : Thread) → IsIdle phases n u → IsAfter phases n (rest u)) → IsAfter phases n (begun_op o t rest)
+  op_after o t rest i go = by o
+    where
+      firstly : IsIdle phases n (record t { first = true })
+      firstly = record { phases_are = i.phases_are; phase_is = i.phase_is; idle = i.idle }
+
+      nil : (to : ℕ) (old : Option Held) → IsAfter phases n (begun_nil to old t rest)
+      nil to None = go (skipped answers.Nil t) (record { phases_are = i.phases_are; phase_is = i.phase_is; idle = i.idle })
+      nil to (Some held) = drop_after held (set_var to None (put answers.Nil (record t { first = true }))) (record { phases_are = i.phases_are; phase_is = i.phase_is; idle = i.idle })
+
+      copies : (to : ℕ) (from old : Option Held) → IsAfter phases n (begun_copy to from old t rest)
+      copies to None old = nil to old
+      copies to (Some held) old = copy_after to held (record t { first = true }) firstly
+
+      moves_on : (to from : ℕ) (held old : Option Held) → IsAfter phases n (begun_move to from held old t rest)
+      moves_on to from None old = nil to old
+      moves_on to from (Some held) None = go (moved to from held (skipped answers.Ok t)) (record { phases_are = i.phases_are; phase_is = i.phase_is; idle = i.idle })
+      moves_on to from (Some held) (Some old) = drop_after old (moved to from held (put answers.Ok (record t { first = true }))) (record { phases_are = i.phases_are; phase_is = i.phase_is; idle = i.idle })
+
+      drops : (v : ℕ) (m : Option Held) → IsAfter phases n (begun_drop v m t rest)
+      drops v None = go (skipped answers.Nil t) (record { phases_are = i.phases_are; phase_is = i.phase_is; idle = i.idle })
+      drops v (Some held) = drop_after held (set_var v None (put answers.Ok (record t { first = true }))) (record { phases_are = i.phases_are; phase_is = i.phase_is; idle = i.idle })
+
+      skips : IsAfter phases n (rest (skipped answers.Nil t))
+      skips = go (skipped answers.Nil t) (record { phases_are = i.phases_are; phase_is = i.phase_is; idle = i.idle })
+
+      by : (o : Op) → IsAfter phases n (begun_op o t rest)
+      by (op.New to class) = make_after to class (record t { first = true }) firstly
+      by (op.Copy to from) = copies to (value t.vars from) (value t.vars to)
+      by (op.Move to from) = moves_on to from (value t.vars from) (value t.vars to)
+      by (op.Drop v) = drops v (value t.vars v)
+      by (op.Unown to of) = skips
+      by (op.Weak to of) = skips
+      by (op.Load to of) = skips
+      by (op.Get to cell) = skips
+      by (op.Set cell from) = skips
+
+  at_after : (ops : List Op) (t : Thread) → IsIdle phases n t → IsAfter phases n (begun_at ops t)
+  at_after [] t i = over_after t i
+  at_after (o ∷ ops) t i = op_after o t (λ (behind : Thread). begun_at ops behind) i (λ u j. at_after ops u j)
+
+  begun_after : (t : Thread) → IsIdle phases n t → IsAfter phases n (begun t)
+  begun_after t i = at_after (drop t.index (take (phase_end t) t.program)) t i
+
+  next_after : (t : Thread) → IsIdle phases n t → IsAfter phases n (next_op t)
+  next_after t i = begun_after (record t { doing = Ended; index = cond (ltb t.index (length t.program)) (t.index + 1) t.index }) (record { phases_are = i.phases_are; phase_is = i.phase_is; idle = refl })
+
+  -- ---- the steps of an operation
+
+  replaced_after : (to : ℕ) (held : Held) (t : Thread) → IsIdle phases n t → IsAfter phases n (replaced to held t)
+  replaced_after to held t i = go (value t.vars to)
+    where
+      set : IsIdle phases n (set_var to (Some held) t)
+      set = record { phases_are = i.phases_are; phase_is = i.phase_is; idle = i.idle }
+
+      go : (m : Option Held) → IsAfter phases n (replaced_old m (set_var to (Some held) t))
+      go None = next_after (set_var to (Some held) t) set
+      go (Some old) = drop_after old (set_var to (Some held) t) set
+
+  made_after : (to : ℕ) (name : ObjectName) (slot : ℕ) (plan : Creation) (next : Next NewObjectAnswer) (t : Thread) → IsIdle phases n t → IsAfter phases n (made_on to name slot plan next t)
+  made_after to name slot plan (nexts.Step (steps.Load place)) t i = (i.phases_are, i.phase_is)
+  made_after to name slot plan (nexts.Step (steps.Exchange place old new)) t i = (i.phases_are, i.phase_is)
+  made_after to name slot plan (nexts.Step (steps.Store place new)) t i = (i.phases_are, i.phase_is)
+  made_after to name slot plan (nexts.Done (Slot place)) t i = replaced_after to (record { hand = t.hands; place = place }) (put (answers.New name) t) (record { phases_are = i.phases_are; phase_is = i.phase_is; idle = i.idle })
+  made_after to name slot plan (nexts.Done NoSlot) t i = next_after (put answers.Full (record t { event = Some acts.Full })) (record { phases_are = i.phases_are; phase_is = i.phase_is; idle = i.idle })
+
+  copied_after : (to : ℕ) (held : Held) (plan : CappedAttempt) (next : Next StrongUpAnswer) (t : Thread) → IsIdle phases n t → HasAsked t → IsAfter phases n (copied_on to held plan next t)
+  copied_after to held plan (nexts.Step s) t i asked = (i.phases_are, i.phase_is)
+  copied_after to held plan (nexts.Done ups.Up) t i asked = replaced_after to (record { hand = t.hands + 1; place = held.place }) (put answers.Ok (record t { hands = t.hands + 1; event = Some (acts.Copy (origins.Hand held.hand) (t.hands + 1)) })) (record { phases_are = i.phases_are; phase_is = i.phase_is; idle = i.idle })
+  copied_after to held plan (nexts.Done (ups.Again changed)) t i asked = copy_after to held t i
+  copied_after to held plan (nexts.Done ups.Dead) t i asked = asked_stays t i asked
+  copied_after to held plan (nexts.Done ups.AtCap) t i asked = asked_stays t i asked
+  copied_after to held plan (nexts.Done (ups.Slow e)) t i asked = asked_stays t i asked
+
+  asks_after : (c : CascadeState) (next : CascadeNext) (t : Thread) → IsIdle phases n t → HasAsked t → IsAfter phases n (dying_asks c next t)
+  asks_after c (says.Step s intent) t i asked = (i.phases_are, i.phase_is)
+  asks_after c (says.Died name) t i asked = asked_stays t i asked
+  asks_after c says.Done t i asked = asked_stays t i asked
+
+  dropped_after : (held : Held) (plan : Attempt) (next : Next StrongDownAnswer) (t : Thread) → IsIdle phases n t → HasAsked t → IsAfter phases n (dropped_on held plan next t)
+  dropped_after held plan (nexts.Step s) t i asked = (i.phases_are, i.phase_is)
+  dropped_after held plan (nexts.Done downs.More) t i asked = next_after (record t { event = Some (acts.Drop held.hand false) }) (record { phases_are = i.phases_are; phase_is = i.phase_is; idle = i.idle })
+  dropped_after held plan (nexts.Done downs.Last) t i asked = (i.phases_are, i.phase_is)
+  dropped_after held plan (nexts.Done (downs.Again changed)) t i asked = drop_after held t i
+  dropped_after held plan (nexts.Done (downs.Slow e)) t i asked = asked_stays t i asked
+
+  dying_after : (c : CascadeState) (next : CascadeNext) (t : Thread) → IsIdle phases n t → HasAsked t → IsAfter phases n (dying_on c next t)
+  dying_after c (says.Step s intent) t i asked = (i.phases_are, i.phase_is)
+  dying_after c (says.Died name) t i asked = asks_after (cascade_turned c None) (cascade_answer c None) (put (answers.Deinit name) t) (record { phases_are = i.phases_are; phase_is = i.phase_is; idle = i.idle }) asked
+  dying_after c says.Done t i asked = next_after t i
+
+-- before what it is given is looked at
+abbrev quiet : Thread → Thread
+quiet t = record t { doing = Ended; first = false; event = None }
+
+-- A thread that asks for a step or begins a phase is in that phase still, or behind it.
+pub turned_after : (t : Thread) (last : Option ℕ) → HasAsked t ⊎ (t.doing ≡ Ready) → IsAfter t.phases t.phase (turned t last)
+turned_after t last may = at t.doing refl may
+  where
+    idle : IsIdle t.phases t.phase (quiet t)
+    idle = record { phases_are = refl; phase_is = refl; idle = refl }
+
+    no : {d : Doing} → t.doing ≡ d → (d ≡ Ready → ⊥) → HasAsked t ⊎ (t.doing ≡ Ready) → HasAsked t
+    no is ne (inl asked) = asked
+    no is ne (inr ready) = absurd (ne (sym is ∙ ready))
+
+    at : (d : Doing) → t.doing ≡ d → HasAsked t ⊎ (t.doing ≡ Ready) → IsAfter t.phases t.phase (turned_at last d (quiet t))
+    at Ready is m = begun_after t.phases t.phase (quiet t) idle
+    at (Making to name slot plan) is m = made_after t.phases t.phase to name slot (creation_turned plan last) (creation_answer plan last) (quiet t) idle
+    at (Copying to held plan) is m = copied_after t.phases t.phase to held (strong_up_turned plan last) (strong_up_answer plan last) (quiet t) idle (no is (λ e. cc) m)
+    at (Dropping held plan) is m = dropped_after t.phases t.phase held (strong_down_turned plan last) (strong_down_answer plan last) (quiet t) idle (no is (λ e. cc) m)
+    at (Dying c) is m = dying_after t.phases t.phase (cascade_turned c last) (cascade_answer c last) (record (quiet t) { event = (cascade_turned c last).event }) (record { phases_are = refl; phase_is = refl; idle = refl }) (no is (λ e. cc) m)
+    at Ended is m = asked_stays t.phases t.phase (quiet t) idle (no is (λ e. cc) m)

@@ -1,0 +1,321 @@
+-- A replay that has come to its end is one legal history, and leaves no object.
+use Rattle.std.proofs.Common.{◌≡◌, ◌⊎◌, inl, inr, ℕ, zero, suc, ◌+◌, ◌≤◌, ◌<◌, Bool, true, false, not, cond, List, [], ◌∷◌, ◌++◌, length, map, drop, Option, Some, None, refl, sym, ap, ◌∙◌, subst, arith}
+use Rattle.std.specs.Prelude.{All, find, filter, slice_get, slice_index, slice_index_or, sum_by, is_some, ◌||◌}
+use Rattle.std.specs.List.{AllByRecursion, list_any}
+use Rattle.std.proofs.lemmas.Bool.{cases_lt, eqb-true}
+use Rattle.std.proofs.lemmas.List.{length-map}
+use Rattle.std.proofs.lemmas.List.Elements.{All-from_recursion, recursion_from_All}
+use Rattle.std.proofs.lemmas.List.Sums.{sum_by-cons}
+use Rattle.std.proofs.lemmas.Option.{slice_get_within}
+use Rattle.arc_model.specs.declared.event.Event.{Event}
+use Rattle.arc_model.specs.declared.event.Life.TheVariants.{Live, Deiniting, Deinited, Freed, Dead}
+use Rattle.arc_model.specs.declared.shape.RefShape.{RefShape}
+use Rattle.arc_model.specs.Heaps.{Strongs, Unowneds, Object}
+use Rattle.arc_model.specs.Holders.{is_empty, is_in, in_slot, is_number, has_entry, at_slot, claims_it, is_entry_taken, is_live}
+use Rattle.arc_model.specs.History.{History, heap_after, is_of, share}
+use Rattle.arc_model.specs.Life.{life_of}
+use Rattle.arc_model.specs.Spelling.{Note, acts_of}
+use Rattle.arc_model.specs.SpellingTies.Causes.{Judged}
+use Rattle.arc_model.specs.WellFormed.{IsWhole, tally}
+use Rattle.arc_model.specs.WellFormed.IsWhole.{live, deiniting, deinited, vacating, going, freed, dead}
+use Rattle.arc_model.proofs.Basics.{None≢Some, Some-inj, in-not_empty}
+use Rattle.arc_model.proofs.Courses.{well_formed}
+use Rattle.arc_model.proofs.Others.{not-among}
+use Rattle.arc_model.proofs.Tally.{tally-in, clash}
+use Rattle.arc_rule.specs.Places.{extent_of, number}
+use Rattle.arc_rule.specs.Shown.{Shows, ShowsCounts}
+use Rattle.arc_rule.specs.declared.layout.Place.TheVariants.{Count, Link}
+use Rattle.arc_script.specs.declared.answer.Line.{Line}
+use Rattle.arc_script.specs.declared.script.VarDecl.{VarDecl}
+use Rattle.arc_script.specs.declared.script.Script.{Script}
+use Rattle.arc_script.specs.Valid.{IsScript}
+use Rattle.arc_programs.specs.Programs.{Hands, GlobalsCleared}
+use Rattle.arc_programs.specs.Programs.GlobalsCleared.{begins as cleared_none, nil as cleared_nil, cleared as cleared_one}
+use Rattle.arc_programs.specs.ProgramsLines.{told}
+use Rattle.arc_programs.specs.ProgramsTied.{hands_in, HasProgram, Spells}
+use Rattle.arc_programs.specs.ProgramsTied.Spells.{thread as spells_thread, end as spells_end}
+use Rattle.arc_quiet.specs.OneWay.{StrongFieldsLeadOneWay, AllDead}
+use Rattle.arc_quiet.specs.Whole.{AllFinish, StandsLast}
+use Rattle.arc_quiet.proofs.Leaving.{leaves_nothing}
+use Rattle.arc_programs_laws.specs.Deinits.{deinit_lines, emptied}
+use Rattle.arc_programs_laws.specs.Phases.{PhaseEnds, PhasesFollow}
+use Rattle.arc_programs_laws.specs.Room.{room}
+use Rattle.arc_programs_laws.proofs.ClassesNamed.{lines_name_classes}
+use Rattle.arc_programs_laws.proofs.Totals.{claims_end, deinit_lines_are_emptied, every_line_finds_room}
+use Rattle.arc_ops.specs.declared.told.Stamped.{Stamped}
+use Rattle.arc_ops.specs.declared.told.ThreadLines.{ThreadLines}
+use Rattle.arc_ops.specs.Programs.{room_in}
+use Rattle.arc_ops.specs.Served.{IsServed}
+use Rattle.arc_ops.specs.Thread.{Thread}
+use Rattle.arc_spelled.specs.Spelled.{work_of}
+use Rattle.arc_view.specs.Rule.{InShape}
+use Rattle.arc_replays.specs.Empty.{AreEmpty}
+use Rattle.arc_replays.specs.Histories.{history_of, lines_from, first_lines, deinits_printed, IsHistory}
+use Rattle.arc_replays.specs.Laws.{ReplaysAreHistories, IsWholeReplay}
+use Rattle.arc_replays.specs.Named.{LineFits, ActFits, EventsFit}
+use Rattle.arc_replays.specs.Replaying.{IsSpelledInLog, IsOneHistory}
+use Rattle.arc_replays.specs.Stages.{Stage, IsRun}
+use Rattle.arc_replays.proofs.Bare.{came_in, IsBareHeap, AreBare, bare_after}
+use Rattle.arc_replays.proofs.GoesOn.{replays_are_one_history, ended_threads_spell}
+use Rattle.arc_replays.proofs.Holds.{Holds, reached_holds}
+use Rattle.arc_replays.proofs.Phases.{IsPoint, IsPhased, reached_phased, point_of_all, there_is}
+use Rattle.arc_replays.proofs.Promises.{deinits_once, loads_come_before, slots_are_vacated, entries_are_given_back}
+
+-- ---- thread 0 does nothing
+
+-- where no global is cleared there is no event
+nothing_cleared : (script : Script) (came : Hands) (n : ℕ) (notes : List Note) → GlobalsCleared script.shape came n notes → n ≡ 0 → acts_of notes ≡ []
+nothing_cleared script came n notes cleared_none z = refl
+nothing_cleared script came n notes (cleared_nil c lt next) z = absurd (omega arith)
+nothing_cleared script came n notes (cleared_one c lt next k there d) z = absurd (omega arith)
+
+main_acts : (script : Script) (came : Hands) (notes : List Note) → length script.shape.globals ≡ 0 → Spells script came 0 notes → acts_of notes ≡ []
+main_acts script came notes none (spells_thread positive there program) = absurd (omega arith)
+main_acts script came notes none (spells_end {n = n} c all) = nothing_cleared script came n notes c (all ∙ none)
+
+-- so the others' events are the whole history
+alone_last : (h : History) → share h 0 ≡ [] → filter (λ (e : Event). not (is_of 0 e)) h ≡ h
+alone_last [] none = refl
+alone_last (e ∷ h) none = let apart = not-among 0 e h none in go (is_of 0 e) refl (alone_last h apart.1) apart.0
+  where
+    go : (b : Bool) → is_of 0 e ≡ b → filter (λ (x : Event). not (is_of 0 x)) h ≡ h → (e.thread ≡ 0 → ⊥) → cond (not b) (e ∷ filter (λ (x : Event). not (is_of 0 x)) h) (filter (λ (x : Event). not (is_of 0 x)) h) ≡ e ∷ h
+    go false is rest ne = ap (λ (g : History). e ∷ g) rest
+    go true is rest ne = absurd (ne (eqb-true e.thread 0 is))
+
+none_earlier : (later earlier : History) → share (later ++ earlier) 0 ≡ [] → share earlier 0 ≡ []
+none_earlier [] earlier none = none
+none_earlier (e ∷ later) earlier none = none_earlier later earlier (not-among 0 e (later ++ earlier) none).1
+
+-- ---- lines
+
+first_is : (ts : List Thread) (t : Thread) → slice_get ts 0 ≡ Some t → first_lines ts ≡ t.kept.lines
+first_is [] t at = absurd (None≢Some t at)
+first_is (x ∷ ts) t at = ap (λ (u : Thread). u.kept.lines) (Some-inj at)
+
+behind_first : (ts : List Thread) (i : ℕ) (t : Thread) → slice_get (drop 1 ts) i ≡ Some t → slice_get ts (suc i) ≡ Some t
+behind_first [] i t at = absurd (None≢Some t at)
+behind_first (x ∷ ts) i t at = at
+
+lines_long : (p : ℕ) (ts : List Thread) → length (lines_from p ts) ≡ length ts
+lines_long p [] = refl
+lines_long p (t ∷ ts) = ap suc (lines_long (p + 1) ts)
+
+drop_long : (ts : List Thread) (n : ℕ) → length ts ≡ n + 1 → length (drop 1 ts) ≡ n
+drop_long [] n e = omega arith
+drop_long (t ∷ ts) n e = omega arith
+
+lines_at : (p : ℕ) (ts : List Thread) (i : ℕ) (x : ThreadLines) → slice_get (lines_from p ts) i ≡ Some x → (t : Thread) × (slice_get ts i ≡ Some t) × (x.thread ≡ p + i) × (x.lines ≡ t.kept.lines)
+lines_at p [] i x at = absurd (None≢Some x at)
+lines_at p (t ∷ ts) zero x at = (t, refl, ap (λ (y : ThreadLines). y.thread) (sym (Some-inj at)) ∙ omega arith, ap (λ (y : ThreadLines). y.lines) (sym (Some-inj at)))
+lines_at p (t ∷ ts) (suc i) x at = let y = lines_at (p + 1) ts i x at in (y.0, y.1, y.2 ∙ omega arith, y.3)
+
+map_at : (xs : List ThreadLines) (i : ℕ) (lines : List Line) → slice_get (map (λ (x : ThreadLines). x.lines) xs) i ≡ Some lines → (x : ThreadLines) × (slice_get xs i ≡ Some x) × (x.lines ≡ lines)
+map_at [] i lines at = absurd (None≢Some lines at)
+map_at (x ∷ xs) zero lines at = (x, refl, Some-inj at)
+map_at (x ∷ xs) (suc i) lines at = map_at xs i lines at
+
+sum_of_lines : (xs : List ThreadLines) → sum_by deinit_lines (map (λ (x : ThreadLines). x.lines) xs) ≡ sum_by (λ (x : ThreadLines). deinit_lines x.lines) xs
+sum_of_lines [] = refl
+sum_of_lines (x ∷ xs) = sum_by-cons deinit_lines x.lines (map (λ (y : ThreadLines). y.lines) xs) ∙ (ap (λ n. deinit_lines x.lines + n) (sum_of_lines xs) ∙ sym (sum_by-cons (λ (y : ThreadLines). deinit_lines y.lines) x xs))
+
+all_at : (P : ThreadLines → Type 0) (xs : List ThreadLines) → ((i : ℕ) (x : ThreadLines) → slice_get xs i ≡ Some x → P x) → AllByRecursion P xs
+all_at P [] each = tt
+all_at P (x ∷ xs) each = (each zero x refl, all_at P xs (λ i y at. each (suc i) y at))
+
+-- ---- dead objects
+
+-- an object that is dead has no weak holder
+dead_weak : (o : Object) → life_of o ≡ Dead → is_empty o.weak ≡ true
+dead_weak o e = go (is_live o) (is_in Strongs o.unowned) (is_empty o.unowned) (is_empty o.weak) e
+  where
+    go : (a b c d : Bool) → cond a Live (cond b Deiniting (cond (not c) Deinited (cond (not d) Freed Dead))) ≡ Dead → d ≡ true
+    go true b c d e = absurd (cc)
+    go false true c d e = absurd (cc)
+    go false false false d e = absurd (cc)
+    go false false true false e = absurd (cc)
+    go false false true true e = refl
+
+dead_slot : (o : Object) → IsWhole o → is_empty o.weak ≡ true → o.slot ≡ None
+dead_slot o w none = go w
+  where
+    held : {A : Type 0} → tally Unowneds o.weak ≡ 1 → A
+    held one = clash (is_empty o.weak) none (in-not_empty Unowneds o.weak (tally-in Unowneds o.weak (omega (arith, one))))
+
+    go : IsWhole o → o.slot ≡ None
+    go (live s d l a b p) = held b
+    go (deiniting s d l a b p) = held b
+    go (deinited s d l a u b p) = held b
+    go (vacating s d l u b p) = held b
+    go (going s d l u b e) = held b
+    go (freed s d l u b w e) = l
+    go (dead s d l u w e) = l
+
+find_none : (test : Object → Bool) (os : List Object) → ((i : ℕ) (o : Object) → slice_get os i ≡ Some o → test o ≡ false) → find test os ≡ None
+find_none test [] each = refl
+find_none test (o ∷ os) each = ap (λ b. cond b (Some o) (find test os)) (each zero o refl) ∙ find_none test os (λ i q at. each (suc i) q at)
+
+no_entry : (n e : ℕ) (os : List Object) → AreBare n os → find (has_entry e) os ≡ None
+no_entry n e [] b = refl
+no_entry n e (o ∷ os) b = ap (λ (m : Option ℕ). cond (is_number m e) (Some o) (find (has_entry e) os)) b.0.entry ∙ no_entry n e os b.1
+
+-- classes without fields have none that lead anywhere
+one_way : (classes : List (List RefShape)) (i f : ℕ) (r : RefShape) → AllByRecursion (λ (fields : List RefShape). fields ≡ []) classes → slice_get (slice_index_or classes i []) f ≡ Some r → ⊥
+one_way [] i f r none at = None≢Some r at
+one_way (fields ∷ classes) zero f r none at = None≢Some r (ap (λ (l : List RefShape). slice_get l f) (sym none.0) ∙ at)
+one_way (fields ∷ classes) (suc i) f r none at = one_way classes i f r none.1 at
+
+-- ---- events
+
+stamped_fit : (n : ℕ) (events : List Stamped) → EventsFit n (history_of events) → AllByRecursion (λ (x : Stamped). ActFits n x.event.act) events
+stamped_fit n [] fits = tt
+stamped_fit n (e ∷ events) fits = (fits.0, stamped_fit n events fits.1)
+
+-- ---- the whole
+
+module _ (script : Script) (s : Stage) (valid : IsScript script) (served : IsServed script) (run : IsRun script s) where
+  nothing : Hands
+  nothing k = None
+
+  abbrev log : History
+  log = history_of s.events
+
+  holds : Holds script nothing s
+  holds = reached_holds script nothing valid served s run.reached
+
+  one : IsOneHistory script.shape (λ p. work_of script p nothing) s.threads s.words log
+  one = replays_are_one_history script.shape (λ p. work_of script p nothing) s.threads s.words log holds.replaying
+
+  spelled : (p : ℕ) (t : Thread) → slice_get s.threads p ≡ Some t → IsSpelledInLog script nothing (hands_in p log) p t log
+  spelled p t at =
+      ended_threads_spell script nothing (hands_in p log) s.threads s.words log p t valid served (let lt = slice_get_within s.threads p t at in let long = holds.as_many in omega arith) holds.replaying at (run.ended p t at)
+
+  -- ---- each thread's program
+
+  program : (p : ℕ) (t : Thread) (at : slice_get s.threads p ≡ Some t) → HasProgram Judged script p (told (spelled p t at).notes) log
+  program p t at = record { notes = (spelled p t at).notes; tied = (spelled p t at).tied; spelled = (spelled p t at).spelled.spelled; lines_are = refl }
+
+  finish : AllFinish Judged script log
+  finish p le = let t = there_is s.threads p (let long = holds.as_many in omega arith) in (told (spelled p t.0 t.1).notes, program p t.0 t.1)
+
+  room_is : (p : ℕ) → room script p ≡ room_in script p
+  room_is p = refl
+
+  all_lines : (p : ℕ) (t : Thread) (at : slice_get s.threads p ≡ Some t) → t.kept.lines ≡ told (spelled p t at).notes
+  all_lines p t at =
+      let le : p ≤ length script.threads = let lt = slice_get_within s.threads p t at in let long = holds.as_many in omega arith in
+      let few = every_line_finds_room Judged script log p (told (spelled p t at).notes) valid one.legal finish holds.no_other le (program p t at) in
+      (spelled p t at).spelled.all_lines (subst (λ n. length (told (spelled p t at).notes) ≤ n) (room_is p) few)
+
+  its_program : (p : ℕ) (t : Thread) (at : slice_get s.threads p ≡ Some t) → HasProgram Judged script p t.kept.lines log
+  its_program p t at = record { notes = (spelled p t at).notes; tied = (spelled p t at).tied; spelled = (spelled p t at).spelled.spelled; lines_are = sym (all_lines p t at) }
+
+  main : (t : Thread) × (slice_get s.threads 0 ≡ Some t)
+  main = there_is s.threads 0 (let long = holds.as_many in omega arith)
+
+  abbrev threads : List ThreadLines
+  threads = lines_from 1 (drop 1 s.threads)
+
+  each_spelled : (i : ℕ) (x : ThreadLines) → slice_get threads i ≡ Some x → (x.thread ≡ i + 1) × HasProgram Judged script (i + 1) x.lines log
+  each_spelled i x at =
+      let y = lines_at 1 (drop 1 s.threads) i x at in
+      let there : slice_get s.threads (i + 1) ≡ Some y.0 = ap (slice_get s.threads) (omega arith) ∙ behind_first s.threads i y.0 y.1 in
+      (y.2 ∙ omega arith, subst (λ (lines : List Line). HasProgram Judged script (i + 1) lines log) (sym y.3) (its_program (i + 1) y.0 there))
+
+  end_spelled : HasProgram Judged script 0 (first_lines s.threads) log
+  end_spelled = subst (λ (lines : List Line). HasProgram Judged script 0 lines log) (sym (first_is s.threads main.0 main.1)) (its_program 0 main.0 main.1)
+
+  as_many : length threads ≡ length script.threads
+  as_many = lines_long 1 (drop 1 s.threads) ∙ drop_long s.threads (length script.threads) holds.as_many
+
+  deinits : deinits_printed threads (first_lines s.threads) ≡ emptied log
+  deinits =
+      ap (λ n. n + deinit_lines (first_lines s.threads)) (sym (sum_of_lines threads))
+      ∙ deinit_lines_are_emptied Judged script log (map (λ (x : ThreadLines). x.lines) threads) (first_lines s.threads) valid one.legal (length-map threads (λ (x : ThreadLines). x.lines) ∙ as_many)
+      (λ i lines at. let x = map_at threads i lines at in subst (λ (l : List Line). HasProgram Judged script (i + 1) l log) x.2 (each_spelled i x.0 x.1).1) end_spelled holds.no_other
+
+  -- ---- thread 0, and phases
+
+  no_globals : length script.shape.globals ≡ 0
+  no_globals = ap length valid.heading.of_globals ∙ (length-map script.globals (λ (v : VarDecl). record { kind = v.kind; class = v.class }) ∙ ap length served.no_globals)
+
+  none_of_main : share log 0 ≡ []
+  none_of_main = let x = spelled 0 main.0 main.1 in sym x.share_is ∙ ap (map (λ a. record { thread = 0; act = a })) (main_acts script (hands_in 0 log) x.notes no_globals x.spelled.spelled)
+
+  stands_last : StandsLast 0 log
+  stands_last = sym (ap (λ (g : History). g ++ filter (λ (e : Event). not (is_of 0 e)) log) none_of_main ∙ alone_last log none_of_main)
+
+  phased : IsPhased script s
+  phased = reached_phased script nothing valid served s run.reached
+
+  phases : PhasesFollow script log
+  phases k = of_point (at (cases_lt k s.begun))
+    where
+      at : (k < s.begun) ⊎ (s.begun ≤ k) → IsPoint script k log
+      at (inl lt) = phased.points k lt
+      at (inr ge) = point_of_all script nothing valid served s holds phased k ge run.ended
+
+      of_point : IsPoint script k log → PhaseEnds script k log
+      of_point x = record { later = x.later; earlier = x.earlier; split = x.split; done = x.done; none_of_main = none_earlier x.later x.earlier (ap (λ (h : History). share h 0) (sym x.split) ∙ none_of_main) }
+
+  -- ---- what is left
+
+  shows : Shows script.shape (heap_after log) s.words
+  shows = one.shows run.ended
+
+  leads_one_way : StrongFieldsLeadOneWay script.shape
+  leads_one_way class field r at strong = absurd (one_way script.shape.classes class field r (recursion_from_All (λ (fields : List RefShape). fields ≡ []) script.shape.classes served.without_fields) at)
+
+  all_dead : StrongFieldsLeadOneWay script.shape → AllDead (heap_after log)
+  all_dead ways = leaves_nothing Judged script log valid ways one.legal finish stands_last holds.no_other
+
+  bare : IsBareHeap (came_in log) (heap_after log)
+  bare = bare_after (length script.shape.classes) log holds.events_fit
+
+  no_slot : (k : ℕ) → at_slot k (heap_after log) ≡ None
+  no_slot k = find_none (in_slot k) (heap_after log).objects (λ i o at.
+      ap (λ (m : Option ℕ). is_number m k) (dead_slot o ((well_formed script.shape log one.legal).whole i o at) (dead_weak o (all_dead leads_one_way i o at))))
+
+  no_entry_taken : (e : ℕ) → is_entry_taken e (heap_after log) ≡ false
+  no_entry_taken e =
+      (λ j. list_any (claims_it e) (bare.claims j) || is_some (no_entry (came_in log) e (heap_after log).objects bare.objects j))
+
+  empty : AreEmpty (extent_of script.shape) s.words
+  empty = record {
+    whole = shows.whole;
+    counts = λ k lt. subst (λ (m : Option Object). ShowsCounts script.shape m (slice_index s.words (number (extent_of script.shape) (Count k)))) (no_slot k) (shows.says (Count k) lt (λ x. x));
+    links = λ e lt. (shows.says (Link e) lt (λ x. x)).free.1 (no_entry_taken e);
+  }
+
+  history : IsHistory script threads (first_lines s.threads) log s.words
+  history = record {
+    legal = one.legal;
+    in_shape = subst (InShape script.shape) holds.replaying.log_is holds.replaying.kept.in_shape;
+    spelled = record { each = as_many; spelled = each_spelled };
+    end_spelled = end_spelled;
+    no_other = holds.no_other;
+    phases = phases;
+    last = stands_last;
+    shows = shows;
+    once = deinits_once script.shape log one.legal;
+    loads = loads_come_before script.shape log one.legal;
+    slots = slots_are_vacated script.shape log one.legal;
+    entries = entries_are_given_back script.shape log one.legal;
+    deinits = deinits;
+    no_claim = claims_end Judged script log valid one.legal finish holds.no_other;
+    leaves = all_dead;
+  }
+
+  fit : (p : ℕ) (lines : List Line) → HasProgram Judged script p lines log → All (LineFits (length script.shape.classes)) lines
+  fit p lines x = lines_name_classes Judged script log p lines valid finish holds.no_other x
+
+  pub whole : IsWholeReplay script s
+  whole = record {
+    history = history;
+    left = empty;
+    lines_fit = All-from_recursion (λ (x : ThreadLines). All (LineFits (length script.shape.classes)) x.lines) threads (all_at (λ (x : ThreadLines). All (LineFits (length script.shape.classes)) x.lines) threads (λ i x at. fit (i + 1) x.lines (each_spelled i x at).1));
+    end_fits = fit 0 (first_lines s.threads) end_spelled;
+    events_fit = All-from_recursion (λ (x : Stamped). ActFits (length script.shape.classes) x.event.act) s.events (stamped_fit (length script.shape.classes) s.events holds.events_fit);
+  }
+
+pub replays_are_histories : ReplaysAreHistories
+replays_are_histories script s valid served run = whole script s valid served run

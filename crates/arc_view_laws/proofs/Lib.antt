@@ -1,0 +1,12 @@
+pub mod HandSpots
+pub mod Hands
+pub mod Growing
+pub mod Moving
+pub mod Kept
+pub mod Fresh
+pub mod Counted
+pub mod Entries
+pub mod Deinits
+pub mod Vacatings
+pub mod StrongWords
+pub mod DyingWords
