@@ -30,7 +30,7 @@ use Rattle.arc_replays.specs.Stages.{Stage, Reached, MayStep, IsNoneBelow, has_s
 use Rattle.arc_replays.specs.Stages.Reached.{by_number, last_step}
 use Rattle.arc_plain.specs.Crews.{Progress, IsUnderWay, CameOn, MayGoOn, ThreadFinished, thread_at, has_made}
 use Rattle.arc_plain.specs.Left.{held_unit, count_at, search_left, attempt_left, cascade_left, doing_left, left}
-use Rattle.arc_plain.proofs.Assumed.{threads_are_at_work}
+use Rattle.arc_replays.proofs.Laws.{threads_are_at_work}
 use Rattle.arc_plain.proofs.Lists.{set_apart}
 use Rattle.arc_plain.proofs.Walks.{IsPhase, unit_few}
 use Rattle.arc_plain.proofs.Falls.{Goes, falls}

@@ -1,5 +1,5 @@
 -- A thread of a stage has the phases and as many variables as the script gives it.
-use Rattle.std.proofs.Common.{◌≡◌, ◌≢◌, ℕ, zero, suc, ◌+◌, ◌-◌, ◌*◌, ◌≤◌, ◌<◌, ◌^◌, Bool, true, false, cond, List, [], ◌∷◌, ◌++◌, length, map, set, Option, Some, None, refl, ap, ◌∙◌, subst, sym, arith}
+use Rattle.std.proofs.Common.{◌≡◌, ◌≢◌, ℕ, zero, suc, ◌+◌, ◌-◌, ◌*◌, ◌≤◌, ◌<◌, ◌^◌, Bool, true, false, cond, eqb, List, [], ◌∷◌, ◌++◌, length, map, set, Option, Some, None, refl, ap, ◌∙◌, subst, sym, arith}
 use Rattle.std.proofs.lemmas.List.{length-replicate}
 use native.Mathlib.Decide.{ℕ_discrete}
 use mathlib.Core.Logic.{dite}
@@ -14,15 +14,19 @@ use Rattle.arc_rule.specs.declared.step.Step.{Step}
 use Rattle.arc_rule.specs.declared.step.Intent.{Intent}
 use Rattle.arc_script.specs.declared.script.Op.{Op}
 use Rattle.arc_script.specs.declared.script.Script.{Script}
-use Rattle.arc_script.specs.Valid.{IsScript}
+use Rattle.arc_script.specs.declared.script.ClassDecl.{ClassDecl}
+use Rattle.arc_script.specs.declared.script.VarDecl.{VarDecl}
+use Rattle.arc_script.specs.declared.script.ThreadDecl.{ThreadDecl}
+use Rattle.arc_script.specs.Valid.{IsScript, IsThread}
+use Rattle.arc_replays.proofs.Phases.{IsInPhase, reached_phased}
 use Rattle.arc_ops.specs.Served.{IsServed}
-use Rattle.arc_ops.specs.Programs.{phases_of, program_of, vars_of}
+use Rattle.arc_ops.specs.Programs.{phases_in, phases_of, vars_of}
 use Rattle.arc_ops.specs.declared.stepper.Move.{Move}
 use Rattle.arc_ops.specs.declared.stepper.Move.TheVariants as moves
 use Rattle.arc_ops.specs.Thread.{Thread, IsStepper, stepper_of, takes, turned}
 use Rattle.arc_replays.specs.Stages.{Stage, Reached, MayStep, IsNone, is_step, is_phase_end, has_step, awaits_phase, begun_thread, begun_threads, new_threads, first_stage, stepped}
 use Rattle.arc_replays.specs.Stages.Reached.{new, begins, makes, passes, by_number, last, last_step}
-use Rattle.arc_plain.proofs.Assumed.{threads_are_at_work}
+use Rattle.arc_replays.proofs.Laws.{threads_are_at_work}
 use Rattle.arc_plain.proofs.Lists.{set_there, set_apart}
 use Rattle.arc_plain.proofs.Walks.{IsPhase, Comes}
 use Rattle.arc_plain.proofs.Falls.{Goes, falls, begins_phase}
@@ -140,3 +144,27 @@ new_more script (suc n) from =
     let same : from + suc n ≡ from + 1 + n = omega arith in
     let next : suc n + 1 ≡ suc (n + 1) = omega arith in
     ap (λ (ts : List Thread). stepper_of script from ∷ ts) (ap (λ (k : ℕ). new_threads script n (from + 1) ++ stepper_of script k ∷ []) same ∙ new_more script n (from + 1)) ∙ ap (λ (k : ℕ). new_threads script k from) (sym next)
+
+-- ---- the number of phases
+
+declared_phases : (classes : List ClassDecl) (globals : List VarDecl) (ts : List ThreadDecl) (i : ℕ) → AllByRecursion (IsThread classes globals) ts → length (phases_in (slice_get ts i)) ≤ 64
+declared_phases classes globals [] i all = omega arith
+declared_phases classes globals (t ∷ ts) zero all = all.0.few_phases
+declared_phases classes globals (t ∷ ts) (suc i) all = declared_phases classes globals ts i all.1
+
+phases_few : (script : Script) (p : ℕ) → IsScript script → length (phases_of script p) ≤ 64
+phases_few script p valid = go (eqb p 0)
+  where
+    go : (b : Bool) → length (phases_in (cond b None (slice_get script.threads (p - 1)))) ≤ 64
+    go true = omega arith
+    go false = declared_phases script.classes script.globals script.threads (p - 1) valid.threads
+
+-- where a thread waits for its next phase, less than 64 have begun
+pub phases_left : (script : Script) (s : Stage) (p : ℕ) (t : Thread) → IsScript script → IsServed script → Reached script s → 1 ≤ p → slice_get s.threads p ≡ Some t → awaits_phase t ≡ true → s.begun < 64
+phases_left script s p t valid served r p1 there waiting =
+    let phased = (reached_phased script (λ k. None) valid served s r).each p t p1 there in
+    let at = subst (λ (m : Move). IsInPhase (length (phases_of script p)) s.begun m t.phase) (waits t.asked waiting) phased in
+    let here = at.0 in
+    let below = at.1 in
+    let few = phases_few script p valid in
+    omega arith

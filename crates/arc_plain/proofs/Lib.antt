@@ -1,9 +1,9 @@
-mod Assumed
 mod Alone
 mod Falls
 mod Keeps
 mod Lists
 mod Order
 mod Places
+mod Replays
 mod Turns
 mod Walks

@@ -15,7 +15,8 @@ use Rattle.arc_ops.specs.Thread.{Thread, IsStepper, stepper_of, takes, turned}
 use Rattle.arc_replays.specs.Stages.{Stage, Reached, IsSome, IsNone, IsNoneBelow, has_step, is_step, is_phase_end, awaits_phase, begun_thread, begun_threads, first_stage, new_threads}
 use Rattle.arc_replays.specs.Stages.Reached.{new, begins, last}
 use Rattle.arc_plain.specs.Crews.{Progress, IsUnderWay, IsInPhases, AreFollowed, CameOn, MayGoOn, ThreadFinished, PlacesFollowed, PhaseFinished, PhasesDone, IsDone, thread_at, thread_begun, phase_begun}
-use Rattle.arc_plain.proofs.Assumed.{stages_are_whole, phases_may_begin, phases_left}
+use Rattle.arc_replays.proofs.Laws.{stages_are_whole, phases_may_begin}
+use Rattle.arc_plain.proofs.Keeps.{phases_left}
 use Rattle.arc_plain.proofs.Keeps.{waits, ended, turns, new_is, all_keep}
 use Rattle.arc_plain.proofs.Turns.{new_steppers}
 use Rattle.arc_plain.proofs.Alone.{came_to}

@@ -17,7 +17,7 @@ use Rattle.arc_replays.specs.Laws.{IsWhole, MayBeMade}
 use Rattle.arc_replays.specs.Stages.{Stage, Reached, MayStep, IsSome, IsNone, has_step, is_step, is_phase_end, awaits_phase, stepped}
 use Rattle.arc_replays.specs.Stages.Reached.{makes, passes}
 use Rattle.arc_plain.specs.Crews.{Progress, IsUnderWay, IsInPhases, AreFollowed, PlaceFollowed, thread_at, has_made, place_used, steps_asked, step_count}
-use Rattle.arc_plain.proofs.Assumed.{stages_are_whole, steps_may_be_made}
+use Rattle.arc_replays.proofs.Laws.{stages_are_whole, steps_may_be_made}
 use Rattle.arc_plain.proofs.Lists.{set_there, set_apart, some_counts, none_counts}
 use Rattle.arc_plain.proofs.Keeps.{places_fit}
 

@@ -12,7 +12,7 @@ use Rattle.arc_ops.specs.declared.stepper.Move.TheVariants as moves
 use Rattle.arc_ops.specs.Thread.{Thread, IsStepper, stepper_of}
 use Rattle.arc_replays.specs.Stages.{new_threads}
 use Rattle.arc_plain.specs.Crews.{IsCrew, step_count, steps_asked}
-use Rattle.arc_plain.proofs.Assumed.{makes_stepper}
+use Rattle.arc_ops.proofs.Made.{is_stepper}
 
 pub one_few : (m : Move) → step_count m ≤ 1
 one_few (moves.Step step intent) = omega arith
@@ -57,7 +57,7 @@ new_idle script (suc n) from = let h = new_idle script n (from + 1) in let k = s
 
 pub new_steppers : (script : Script) (n from : ℕ) → IsScript script → IsServed script → from + n ≤ length script.threads + 1 → All IsStepper (new_threads script n from)
 new_steppers script zero from valid served le k d lt = absurd (omega arith)
-new_steppers script (suc n) from valid served le zero d lt = makes_stepper script from valid served (omega arith)
+new_steppers script (suc n) from valid served le zero d lt = is_stepper script from valid served (omega arith)
 new_steppers script (suc n) from valid served le (suc k) d lt = new_steppers script n (from + 1) valid served (omega arith) k d (omega arith)
 
 crew_new : (script : Script) → IsScript script → IsServed script → IsCrew (new_threads script (length script.threads + 1) 0) (replicate (length script.threads + 1) moves.PhaseEnd) 0

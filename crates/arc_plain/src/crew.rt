@@ -128,6 +128,26 @@ impl<'a> Crew<'a> {
         self.steppers.as_slice()
     }
 
+    pub(crate) fn words(&self) -> &[u64]
+        ensures { result.now ≡ self.now.stage.words }
+    {
+        self.words.words()
+    }
+
+    pub(crate) fn steps(&self) -> u64
+        ensures { result ≡ self.now.stage.steps }
+    {
+        self.steps
+    }
+
+    /// The events, the first one first.
+    pub(crate) fn into_events(self) -> Vec<Stamped>
+        ensures { reverse result.items ≡ self.stage.events }
+    {
+        let Crew { events, .. } = self;
+        events
+    }
+
     /// One phase after the other: it begins where no thread has a step, the places of the schedule are followed, and where none is left
     /// the threads make their steps in the order of their numbers.
     fn run_phases(&mut self) -> Result<(), AllocError>

@@ -2,7 +2,9 @@
 #![tactic(auto)]
 
 mod crew;
+mod replay;
 mod words;
 
 pub use arc_ops::{Stamped, ThreadLines};
+pub use replay::{Replay, replay_all};
 pub use words::PlainWords;
