@@ -136,9 +136,9 @@ is_asked : (m : Move) (step : Step) (intent : Intent) → m ≡ moves.Step step 
 is_asked m step intent e = ap is_step e
 
 -- the thread makes a step, and has fewer left
-pub alone_on : (p : ℕ) (before c : Progress) (step : Step) (intent : Intent) → Alone p before c → (thread_at p c).asked ≡ moves.Step step intent → slice_index c.stage.words (place_of step) < 2 ^ 64 → All IsStepper (has_made p step c).stage.threads →
+pub alone_on : (p : ℕ) (before c : Progress) (step : Step) (intent : Intent) → Alone p before c → (thread_at p c).asked ≡ moves.Step step intent → All IsStepper (has_made p step c).stage.threads →
     Alone p before (has_made p step c) × (left (made_by step c.stage.words) (thread_at p (has_made p step c)) < left c.stage.words (thread_at p c))
-alone_on p before c step intent a asked small steppers =
+alone_on p before c step intent a asked steppers =
     let fewer = goes.fewer in
     let bound = a.bound in
     let less : left (made_by step c.stage.words) (thread_at p (has_made p step c)) < left c.stage.words (thread_at p c) = rw now fewer in
@@ -173,12 +173,12 @@ alone_on p before c step intent a asked small steppers =
     now = get_or-set_same c.stage.threads p (turned (thread_at p c) (Some (found_by step c.stage.words))) (stepper_of c.script p) a.within
 
     reached : (n : ℕ) → p ≡ n → Reached c.script (has_made p step c).stage
-    reached zero e = subst (λ (k : ℕ). MayStep c.stage k (thread_at p c) step intent → Reached c.script (stepped k (thread_at p c) step c.stage)) (sym e) (λ m. last_step step intent a.under_way.reached m) (may_step c p step intent a.under_way a.within asked small)
-    reached (suc n) e = let m = a.may (is_asked (thread_at p c).asked step intent asked) (omega arith) in by_number step intent a.under_way.reached m.0 (omega arith) m.1 (may_step c p step intent a.under_way a.within asked small)
+    reached zero e = subst (λ (k : ℕ). MayStep c.stage k (thread_at p c) step intent → Reached c.script (stepped k (thread_at p c) step c.stage)) (sym e) (λ m. last_step step intent a.under_way.reached m) (may_step c p step intent a.under_way a.within asked)
+    reached (suc n) e = let m = a.may (is_asked (thread_at p c).asked step intent asked) (omega arith) in by_number step intent a.under_way.reached m.0 (omega arith) m.1 (may_step c p step intent a.under_way a.within asked)
 
-pub alone_made : (p : ℕ) (before c c' : Progress) (step : Step) (intent : Intent) → Alone p before c → (thread_at p c).asked ≡ moves.Step step intent → slice_index c.stage.words (place_of step) < 2 ^ 64 → c' ≡ has_made p step c → All IsStepper c'.stage.threads →
+pub alone_made : (p : ℕ) (before c c' : Progress) (step : Step) (intent : Intent) → Alone p before c → (thread_at p c).asked ≡ moves.Step step intent → c' ≡ has_made p step c → All IsStepper c'.stage.threads →
     Alone p before c' × (left c'.stage.words (thread_at p c') < left c.stage.words (thread_at p c))
-alone_made p before c c' step intent a asked small is steppers = rw is (alone_on p before c step intent a asked small (rw is at steppers))
+alone_made p before c c' step intent a asked is steppers = rw is (alone_on p before c step intent a asked (rw is at steppers))
 
 -- the thread has no step
 pub alone_last : (p : ℕ) (before c : Progress) → Alone p before c → is_step (thread_at p c).asked ≡ false → ThreadFinished p before c

@@ -1,7 +1,7 @@
 -- A place of the schedule is followed, and a thread makes its step.
 use Rattle.std.proofs.Common.{◌≡◌, ◌≢◌, ℕ, zero, suc, ◌+◌, ◌-◌, ◌*◌, ◌≤◌, ◌<◌, ◌^◌, Bool, true, false, List, [], ◌∷◌, length, drop, get_or, set, Option, Some, None, refl, ap, ◌∙◌, sym, subst, arith}
 use Rattle.std.specs.List.{AllByRecursion}
-use Rattle.std.specs.Prelude.{All, slice_get, slice_index, sum_by}
+use Rattle.std.specs.Prelude.{All, slice_get}
 use Rattle.std.proofs.lemmas.List.{length-set}
 use Rattle.std.proofs.lemmas.Option.{slice_get-get_or, get_or_from_slice_get}
 use Rattle.arc_rule.specs.Steps.{place_of, found_by, made_by}
@@ -31,9 +31,9 @@ is_at c p t at = get_or_from_slice_get c.stage.threads p t (stepper_of c.script 
 pub may_make : (c : Progress) (p : ℕ) (step : Step) (intent : Intent) → IsUnderWay c → p < length c.stage.threads → (thread_at p c).asked ≡ moves.Step step intent → MayBeMade c.stage (thread_at p c) step
 may_make c p step intent u lt asked = steps_may_be_made c.script c.stage p (thread_at p c) step intent u.script u.served u.reached (there c p lt) (u.steppers p (stepper_of c.script p) lt) asked
 
-pub may_step : (c : Progress) (p : ℕ) (step : Step) (intent : Intent) → IsUnderWay c → p < length c.stage.threads → (thread_at p c).asked ≡ moves.Step step intent → slice_index c.stage.words (place_of step) < 2 ^ 64 → MayStep c.stage p (thread_at p c) step intent
-may_step c p step intent u lt asked small =
-    record { there = there c p lt; stepper = u.steppers p (stepper_of c.script p) lt; asked = asked; small = small; takes_it = (may_make c p step intent u lt asked).takes_it small }
+pub may_step : (c : Progress) (p : ℕ) (step : Step) (intent : Intent) → IsUnderWay c → p < length c.stage.threads → (thread_at p c).asked ≡ moves.Step step intent → MayStep c.stage p (thread_at p c) step intent
+may_step c p step intent u lt asked =
+    record { there = there c p lt; stepper = u.steppers p (stepper_of c.script p) lt; asked = asked; takes_it = (may_make c p step intent u lt asked).takes_it }
 
 -- the threads of two places
 pub other_at : (threads : List Thread) (p q : ℕ) (t d : Thread) → q ≢ p → q < length threads → get_or (set threads p t) q d ≡ get_or threads q d
@@ -83,15 +83,15 @@ place_fits c p u next =
 first_stays : (c : Progress) (p : ℕ) (t : Thread) → 1 ≤ p → p < length c.stage.threads → awaits_phase (thread_at 0 c) ≡ true → awaits_phase (get_or (set c.stage.threads p t) 0 (stepper_of c.script 0)) ≡ true
 first_stays c p t p1 lt waits = rw (other_at c.stage.threads p 0 t (stepper_of c.script 0) (λ e. omega arith) (omega arith)) waits
 
-pub place_made : (c : Progress) (p : ℕ) (step : Step) (intent : Intent) → IsInPhases c → slice_get c.stage.places 0 ≡ Some p → (thread_at p c).asked ≡ moves.Step step intent → slice_index c.stage.words (place_of step) < 2 ^ 64 →
+pub place_made : (c : Progress) (p : ℕ) (step : Step) (intent : Intent) → IsInPhases c → slice_get c.stage.places 0 ≡ Some p → (thread_at p c).asked ≡ moves.Step step intent →
     All IsStepper (has_made p step (place_used c)).stage.threads → PlaceFollowed c (has_made p step (place_used c))
-place_made c p step intent i next asked small steppers =
+place_made c p step intent i next asked steppers =
     let u = i.under_way in
     let fits = place_fits c p u next in
     let long : length c.stage.places ≡ suc (length (drop 1 c.stage.places)) = ap (λ (ps : List ℕ). length ps) (headed c.stage.places p next) in
     record {
       in_phases = record {
-        under_way = record { script = u.script; served = u.served; reached = makes {p = p} {places = drop 1 c.stage.places} step intent u.reached (headed c.stage.places p next) fits.0 (may_step c p step intent u fits.1 asked small); steppers = steppers };
+        under_way = record { script = u.script; served = u.served; reached = makes {p = p} {places = drop 1 c.stage.places} step intent u.reached (headed c.stage.places p next) fits.0 (may_step c p step intent u fits.1 asked); steppers = steppers };
         first_waits = first_stays c p (turned (thread_at p c) (Some (found_by step c.stage.words))) fits.0 fits.1 i.first_waits;
       };
       came = record { script = refl; begun = refl; steps = omega arith };
@@ -112,11 +112,11 @@ place_passed c p i next some idle =
       fewer = omega arith;
     }
 
-pub place_made_on : (c u c' : Progress) (p : ℕ) (step : Step) (intent : Intent) → IsInPhases c → slice_get c.stage.places 0 ≡ Some p → u ≡ place_used c → (thread_at p c).asked ≡ moves.Step step intent → slice_index u.stage.words (place_of step) < 2 ^ 64 → c' ≡ has_made p step u → All IsStepper c'.stage.threads →
+pub place_made_on : (c u c' : Progress) (p : ℕ) (step : Step) (intent : Intent) → IsInPhases c → slice_get c.stage.places 0 ≡ Some p → u ≡ place_used c → (thread_at p c).asked ≡ moves.Step step intent → c' ≡ has_made p step u → All IsStepper c'.stage.threads →
     PlaceFollowed c c'
-place_made_on c u c' p step intent i next used asked small made steppers =
+place_made_on c u c' p step intent i next used asked made steppers =
     let is : c' ≡ has_made p step (place_used c) = made ∙ ap (λ (x : Progress). has_made p step x) used in
-    rw is (place_made c p step intent i next asked (rw used at small) (rw is at steppers))
+    rw is (place_made c p step intent i next asked (rw is at steppers))
 
 -- no thread has a step
 pub idle_followed : (c : Progress) → steps_asked c.stage.threads ≡ 0 → AreFollowed c

@@ -1,4 +1,4 @@
-ghost use Rattle.std.specs.Prelude.{◌≡◌, ◌<◌, ◌≤◌, ◌^◌, ◌+◌, true, false, All, length, reverse, slice_get, slice_index, None, Some, IfOk, OnOk, IsTrue};
+ghost use Rattle.std.specs.Prelude.{◌≡◌, ◌<◌, ◌≤◌, ◌^◌, ◌+◌, true, false, All, length, reverse, slice_get, None, Some, IfOk, OnOk, IsTrue};
 ghost use Rattle.arc_rule.specs.Places.{extent_of};
 ghost use Rattle.arc_rule.specs.Steps.{place_of, found_by};
 ghost use Rattle.arc_script.specs.Valid.{IsScript};
@@ -142,7 +142,7 @@ impl<'a> Crew<'a> {
 
     /// The events, the first one first.
     pub(crate) fn into_events(self) -> Vec<Stamped>
-        ensures { reverse result.items ≡ self.stage.events }
+        ensures { reverse result.items ≡ self.entry.stage.events }
     {
         let Crew { events, .. } = self;
         events
@@ -317,9 +317,8 @@ impl<'a> Crew<'a> {
     fn make_step(&mut self, thread: u32, step: Step) -> Result<(), AllocError>
         requires there { thread < length self.old.stage.threads }
         requires place { place_of step < length self.old.stage.words }
-        requires takes { slice_index self.old.stage.words (place_of step) < 2 ^ 64 → takes (thread_at thread self.old) (Some (found_by step self.old.stage.words)) }
+        requires takes { takes (thread_at thread self.old) (Some (found_by step self.old.stage.words)) }
         requires steps { self.old.stage.steps < 2 ^ 62 }
-        ensures small { slice_index self.old.stage.words (place_of step) < 2 ^ 64 }
         ensures made { OnOk result (self.new ≡ has_made thread step self.old) }
         ensures steppers { OnOk result (All IsStepper self.new.stage.threads) }
     {

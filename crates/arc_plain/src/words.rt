@@ -1,4 +1,4 @@
-ghost use Rattle.std.specs.Prelude.{◌≡◌, ◌<◌, ◌^◌, None, length, replicate, slice_index, IfOk};
+ghost use Rattle.std.specs.Prelude.{◌≡◌, ◌<◌, None, length, replicate, IfOk};
 ghost use Rattle.arc_rule.specs.Places.{extent_of, word_count};
 ghost use Rattle.arc_rule.specs.Steps.{place_of, found_by, made_by};
 ghost use Rattle.arc_rule.specs.Plans.{RunsOn, RunsTo};
@@ -38,7 +38,6 @@ impl PlainWords {
         requires { place_of step < length self.old }
         ensures found { result ≡ found_by step self.old }
         ensures made { self.new ≡ made_by step self.old }
-        ensures small { slice_index self.old (place_of step) < 2 ^ 64 }
     {
         match step {
             Step::Load { place } => self.words[place as usize],
@@ -50,7 +49,6 @@ impl PlainWords {
                 word
             }
             Step::Store { place, new } => {
-                let _before = self.words[place as usize];
                 self.words[place as usize] = new;
                 0
             }

@@ -15,10 +15,10 @@ make_step-requires-clause-takes c = (may_make c.loop-step.self c.args.thread c.i
 
 pub loop-step-smaller : goal.loop-step-smaller
 loop-step-smaller c =
-    (alone_made c.args.thread c.args.self.now c.loop-step.self c.make_step.new.self c.in-Step.step c.in-Step.intent c.loop-step.invariant (sym c.asks.ensures.asked ∙ c.in-Step.is) c.make_step.ensures.small c.in_ok-make_step-in-Step.ensures.made
+    (alone_made c.args.thread c.args.self.now c.loop-step.self c.make_step.new.self c.in-Step.step c.in-Step.intent c.loop-step.invariant (sym c.asks.ensures.asked ∙ c.in-Step.is) c.in_ok-make_step-in-Step.ensures.made
         c.in_ok-make_step-in-Step.ensures.steppers).1
 
 pub loop-step-preserved : goal.loop-step-preserved
 loop-step-preserved c =
-    (alone_made c.args.thread c.args.self.now c.loop-step.self c.make_step.new.self c.in-Step.step c.in-Step.intent c.loop-step.invariant (sym c.asks.ensures.asked ∙ c.in-Step.is) c.make_step.ensures.small c.in_ok-make_step-in-Step.ensures.made
+    (alone_made c.args.thread c.args.self.now c.loop-step.self c.make_step.new.self c.in-Step.step c.in-Step.intent c.loop-step.invariant (sym c.asks.ensures.asked ∙ c.in-Step.is) c.in_ok-make_step-in-Step.ensures.made
         c.in_ok-make_step-in-Step.ensures.steppers).0

@@ -36,7 +36,7 @@ pub returns-in-Step : goal.returns-in-Step
 returns-in-Step c =
     let at : c.asks.result ≡ (thread_at c.args.thread c.args.self.now).asked = c.asks.ensures.asked ∙ ap (λ (x : Progress). (thread_at c.args.thread x).asked) c.pass_place.ensures in
     both_ok c.make_step.result c.make_step.ensures.made c.make_step.ensures.steppers
-    (λ made steppers. place_made_on c.args.self.now c.pass_place.new.self c.make_step.new.self c.args.thread c.in-Step.step c.in-Step.intent c.requires.in_phases c.requires.next c.pass_place.ensures (sym at ∙ c.in-Step.is) c.make_step.ensures.small made steppers)
+    (λ made steppers. place_made_on c.args.self.now c.pass_place.new.self c.make_step.new.self c.args.thread c.in-Step.step c.in-Step.intent c.requires.in_phases c.requires.next c.pass_place.ensures (sym at ∙ c.in-Step.is) made steppers)
 
 pub returns-in-PhaseEnd : goal.returns-in-PhaseEnd
 returns-in-PhaseEnd c =
