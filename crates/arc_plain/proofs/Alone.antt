@@ -1,12 +1,10 @@
 -- A thread makes steps alone, until its phase has ended.
-use Rattle.std.proofs.Common.{◌≡◌, ◌≢◌, ℕ, zero, suc, ◌+◌, ◌-◌, ◌*◌, ◌≤◌, ◌<◌, ◌^◌, Bool, true, false, cond, eqb, List, [], ◌∷◌, length, map, get_or, set, Option, Some, None, refl, ap, ◌∙◌, sym, subst, arith}
+use Rattle.std.proofs.Common.{◌≡◌, ◌≢◌, ℕ, zero, suc, ◌+◌, ◌-◌, ◌≤◌, ◌<◌, ◌^◌, Bool, true, false, cond, eqb, List, [], ◌∷◌, length, map, Option, Some, None, refl, ap, ◌∙◌, sym, subst, arith}
 use Rattle.std.specs.List.{AllByRecursion}
-use Rattle.std.specs.Prelude.{All, slice_get, slice_index, sum_by}
+use Rattle.std.specs.Prelude.{All, slice_get, sum_by}
 use Rattle.std.proofs.lemmas.List.{length-map, length-set, get_or-set_same}
 use Rattle.std.proofs.lemmas.List.Sums.{sum_by-cons}
-use Rattle.arc_model.specs.Shapes.{HeapShape}
-use Rattle.arc_rule.specs.Extents.{Extent}
-use Rattle.arc_rule.specs.Steps.{place_of, found_by, made_by}
+use Rattle.arc_rule.specs.Steps.{found_by, made_by}
 use Rattle.arc_rule.specs.declared.step.Step.{Step}
 use Rattle.arc_rule.specs.declared.step.Intent.{Intent}
 use Rattle.arc_plan.specs.declared.attempt.At.{At as AttemptAt}
@@ -26,15 +24,15 @@ use Rattle.arc_ops.specs.declared.stepper.Doing.TheVariants as doings
 use Rattle.arc_ops.specs.declared.stepper.Move.{Move}
 use Rattle.arc_ops.specs.declared.stepper.Move.TheVariants as moves
 use Rattle.arc_ops.specs.Thread.{Thread, IsStepper, stepper_of, turned}
-use Rattle.arc_replays.specs.Stages.{Stage, Reached, MayStep, IsNoneBelow, has_step, is_step, is_phase_end, awaits_phase, stepped}
+use Rattle.arc_replays.specs.Stages.{Reached, MayStep, is_step, is_phase_end, awaits_phase, stepped}
 use Rattle.arc_replays.specs.Stages.Reached.{by_number, last_step}
-use Rattle.arc_plain.specs.Crews.{Progress, IsUnderWay, CameOn, MayGoOn, ThreadFinished, thread_at, has_made}
+use Rattle.arc_plain.specs.Crews.{Progress, IsUnderWay, MayGoOn, ThreadFinished, thread_at, has_made}
 use Rattle.arc_plain.specs.Left.{held_unit, count_at, search_left, attempt_left, cascade_left, doing_left, left}
 use Rattle.arc_replays.proofs.Laws.{threads_are_at_work}
 use Rattle.arc_plain.proofs.Lists.{set_apart}
 use Rattle.arc_plain.proofs.Walks.{IsPhase, unit_few}
 use Rattle.arc_plain.proofs.Falls.{Goes, falls}
-use Rattle.arc_plain.proofs.Keeps.{waits, all_keep}
+use Rattle.arc_plain.proofs.Keeps.{all_keep}
 use Rattle.arc_plain.proofs.Places.{there, may_step}
 
 -- ---- how many steps a thread has left at most
@@ -141,8 +139,7 @@ pub alone_on : (p : ℕ) (before c : Progress) (step : Step) (intent : Intent) �
 alone_on p before c step intent a asked steppers =
     let fewer = goes.fewer in
     let bound = a.bound in
-    let less : left (made_by step c.stage.words) (thread_at p (has_made p step c)) < left c.stage.words (thread_at p c) = rw now fewer in
-    (
+    let less : left (made_by step c.stage.words) (thread_at p (has_made p step c)) < left c.stage.words (thread_at p c) = rw now fewer in (
       record {
         under_way = record { script = u.script; served = u.served; reached = reached p refl; steppers = steppers };
         within = rw length-set a.within;

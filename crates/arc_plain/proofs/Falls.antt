@@ -1,5 +1,5 @@
 -- A step that a thread makes alone brings it nearer to the end of its phase, whatever word it finds.
-use Rattle.std.proofs.Common.{◌≡◌, ℕ, ◌+◌, ◌-◌, ◌*◌, ◌≤◌, ◌<◌, Bool, true, false, cond, eqb, ltb, List, length, get_or, Option, Some, None, refl, ap, ◌∙◌, subst, sym, arith, rules}
+use Rattle.std.proofs.Common.{◌≡◌, ℕ, ◌+◌, ◌*◌, ◌≤◌, ◌<◌, Bool, true, false, cond, eqb, ltb, List, length, Option, Some, None, refl, ◌∙◌, subst, sym, arith, rules}
 use Rattle.arc_bits.specs.declared.packing.Word.{Word}
 use Rattle.arc_bits.specs.declared.packing.Word.TheVariants as word
 use Rattle.arc_bits.specs.Words.{packed, unpacked}
@@ -13,10 +13,9 @@ use Rattle.arc_model.specs.declared.answer.Answer.TheVariants as answers
 use Rattle.arc_rule.specs.Extents.{Extent}
 use Rattle.arc_rule.specs.Places.{extent_of, number}
 use Rattle.arc_rule.specs.Steps.{found_by, made_by}
-use Rattle.arc_rule.specs.Isa.{isa_word_of, isa_name_of}
-use Rattle.arc_rule.specs.declared.layout.Place.TheVariants.{Count, Isa, Next}
+use Rattle.arc_rule.specs.declared.layout.Place.TheVariants.{Count}
 use Rattle.arc_rule.specs.declared.step.Step.{Step}
-use Rattle.arc_rule.specs.declared.step.Step.TheVariants.{Load, Exchange, Store}
+use Rattle.arc_rule.specs.declared.step.Step.TheVariants.{Load, Exchange}
 use Rattle.arc_rule.specs.declared.step.Intent.{Intent}
 use Rattle.arc_rule.specs.declared.step.Intent.TheVariants as intents
 use Rattle.arc_rule.specs.declared.plan.Next.{Next as NextStep}
@@ -27,7 +26,7 @@ use Rattle.arc_plan.specs.declared.attempt.Choice.{Choice}
 use Rattle.arc_plan.specs.declared.attempt.Choice.TheVariants.{Tell, Write}
 use Rattle.arc_plan.specs.declared.slots.Making.{Making as Search}
 use Rattle.arc_plan.specs.declared.slots.Making.TheVariants as search
-use Rattle.arc_plan.specs.declared.slots.NewObjectAnswer.TheVariants.{Slot, NoSlot}
+use Rattle.arc_plan.specs.declared.slots.NewObjectAnswer.TheVariants.{NoSlot}
 use Rattle.arc_plan.specs.declared.slots.Once.{Once}
 use Rattle.arc_plan.specs.declared.slots.Once.TheVariants as once
 use Rattle.arc_plan.specs.declared.strong.StrongUpAnswer.{StrongUpAnswer}
@@ -39,10 +38,9 @@ use Rattle.arc_plan.specs.declared.unowned.UnownedDownAnswer.TheVariants as less
 use Rattle.arc_plan.specs.Attempts.{Attempt, CappedAttempt, exchanging, chosen}
 use Rattle.arc_plan.specs.Strong.{strong_up_row, strong_down_row, strong_down_end}
 use Rattle.arc_plan.specs.Unowned.{unowned_down_row, unowned_down_end}
-use Rattle.arc_plan.specs.Slots.{Creation, OneStep, trial, naming}
+use Rattle.arc_plan.specs.Slots.{trial, naming}
 use Rattle.arc_cells.specs.declared.cascade.At.{At}
 use Rattle.arc_cells.specs.declared.cascade.At.TheVariants as at
-use Rattle.arc_cells.specs.declared.cascade.CascadeNext.TheVariants as says
 use Rattle.arc_cells.specs.Cascades.{CascadeState, finish_turned, finish_says}
 use Rattle.arc_ops.specs.declared.stepper.Held.{Held}
 use Rattle.arc_ops.specs.declared.stepper.Doing.{Doing}

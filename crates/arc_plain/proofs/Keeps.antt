@@ -1,18 +1,15 @@
 -- A thread of a stage has the phases and as many variables as the script gives it.
-use Rattle.std.proofs.Common.{◌≡◌, ◌≢◌, ℕ, zero, suc, ◌+◌, ◌-◌, ◌*◌, ◌≤◌, ◌<◌, ◌^◌, Bool, true, false, cond, eqb, List, [], ◌∷◌, ◌++◌, length, map, set, Option, Some, None, refl, ap, ◌∙◌, subst, sym, arith}
+use Rattle.std.proofs.Common.{◌≡◌, ℕ, zero, suc, ◌+◌, ◌-◌, ◌*◌, ◌≤◌, ◌<◌, Bool, true, false, cond, eqb, List, [], ◌∷◌, ◌++◌, length, map, set, Some, None, refl, ap, ◌∙◌, subst, sym, arith}
 use Rattle.std.proofs.lemmas.List.{length-replicate}
 use native.Mathlib.Decide.{ℕ_discrete}
 use mathlib.Core.Logic.{dite}
 use Rattle.std.specs.List.{AllByRecursion}
 use Rattle.std.specs.Prelude.{slice_get}
 use Rattle.std.proofs.lemmas.Option.{slice_get_within}
-use Rattle.arc_model.specs.Shapes.{HeapShape}
 use Rattle.arc_rule.specs.Extents.{Extent}
-use Rattle.arc_rule.specs.Places.{extent_of}
-use Rattle.arc_rule.specs.Steps.{found_by, made_by}
+use Rattle.arc_rule.specs.Steps.{found_by}
 use Rattle.arc_rule.specs.declared.step.Step.{Step}
 use Rattle.arc_rule.specs.declared.step.Intent.{Intent}
-use Rattle.arc_script.specs.declared.script.Op.{Op}
 use Rattle.arc_script.specs.declared.script.Script.{Script}
 use Rattle.arc_script.specs.declared.script.ClassDecl.{ClassDecl}
 use Rattle.arc_script.specs.declared.script.VarDecl.{VarDecl}
@@ -23,13 +20,13 @@ use Rattle.arc_ops.specs.Served.{IsServed}
 use Rattle.arc_ops.specs.Programs.{phases_in, phases_of, vars_of}
 use Rattle.arc_ops.specs.declared.stepper.Move.{Move}
 use Rattle.arc_ops.specs.declared.stepper.Move.TheVariants as moves
-use Rattle.arc_ops.specs.Thread.{Thread, IsStepper, stepper_of, takes, turned}
-use Rattle.arc_replays.specs.Stages.{Stage, Reached, MayStep, IsNone, is_step, is_phase_end, has_step, awaits_phase, begun_thread, begun_threads, new_threads, first_stage, stepped}
+use Rattle.arc_ops.specs.Thread.{Thread, stepper_of, turned}
+use Rattle.arc_replays.specs.Stages.{Stage, Reached, MayStep, is_step, is_phase_end, awaits_phase, begun_thread, begun_threads, new_threads}
 use Rattle.arc_replays.specs.Stages.Reached.{new, begins, makes, passes, by_number, last, last_step}
 use Rattle.arc_replays.proofs.Laws.{threads_are_at_work}
 use Rattle.arc_plain.proofs.Lists.{set_there, set_apart}
-use Rattle.arc_plain.proofs.Walks.{IsPhase, Comes}
-use Rattle.arc_plain.proofs.Falls.{Goes, falls, begins_phase}
+use Rattle.arc_plain.proofs.Walks.{Comes}
+use Rattle.arc_plain.proofs.Falls.{falls, begins_phase}
 use Rattle.arc_plain.specs.Left.{units}
 
 pub record Keeps (script : Script) (p : ℕ) (t : Thread) : Type 0 where

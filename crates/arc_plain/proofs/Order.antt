@@ -1,26 +1,25 @@
 -- The phases of a replay: each begins for all threads that wait, and ends for one thread after the other.
-use Rattle.std.proofs.Common.{◌≡◌, ◌≢◌, ℕ, zero, suc, ◌+◌, ◌-◌, ◌*◌, ◌≤◌, ◌<◌, ◌^◌, Bool, true, false, cond, List, [], ◌∷◌, length, map, get_or, set, Option, Some, None, refl, ap, ◌∙◌, sym, subst, arith}
+use Rattle.std.proofs.Common.{◌≡◌, ◌≢◌, ℕ, zero, suc, ◌+◌, ◌-◌, ◌*◌, ◌≤◌, ◌<◌, ◌^◌, Bool, true, false, cond, List, [], ◌∷◌, length, map, get_or, set, Some, None, refl, ap, ◌∙◌, sym, subst, arith}
 use native.Mathlib.Decide.{ℕ_discrete}
 use mathlib.Core.Logic.{dite}
 use Rattle.std.specs.Prelude.{All, slice_get, slice_set}
-use Rattle.std.proofs.lemmas.List.{length-set, length-map, set-get_or}
-use Rattle.std.proofs.lemmas.Option.{slice_get_within, slice_get-map, slice_get_past}
+use Rattle.std.proofs.lemmas.List.{length-set}
+use Rattle.std.proofs.lemmas.Option.{slice_get_within}
 use Rattle.arc_script.specs.declared.script.Script.{Script}
 use Rattle.arc_script.specs.Valid.{IsScript}
 use Rattle.arc_script.specs.declared.script.Op.{Op}
 use Rattle.arc_ops.specs.Served.{IsServed}
-use Rattle.arc_ops.specs.declared.stepper.Move.{Move}
 use Rattle.arc_ops.specs.declared.stepper.Move.TheVariants as moves
 use Rattle.arc_ops.specs.Thread.{Thread, IsStepper, stepper_of, takes, turned}
-use Rattle.arc_replays.specs.Stages.{Stage, Reached, IsSome, IsNone, IsNoneBelow, has_step, is_step, is_phase_end, awaits_phase, begun_thread, begun_threads, first_stage, new_threads}
+use Rattle.arc_replays.specs.Stages.{Stage, Reached, IsSome, IsNone, IsNoneBelow, has_step, is_phase_end, awaits_phase, begun_thread, begun_threads, first_stage, new_threads}
 use Rattle.arc_replays.specs.Stages.Reached.{new, begins, last}
-use Rattle.arc_plain.specs.Crews.{Progress, IsUnderWay, IsInPhases, AreFollowed, CameOn, MayGoOn, ThreadFinished, PlacesFollowed, PhaseFinished, PhasesDone, IsDone, thread_at, thread_begun, phase_begun}
+use Rattle.arc_plain.specs.Crews.{Progress, IsUnderWay, IsInPhases, AreFollowed, MayGoOn, ThreadFinished, PlacesFollowed, PhaseFinished, PhasesDone, IsDone, thread_at, thread_begun, phase_begun}
 use Rattle.arc_replays.proofs.Laws.{stages_are_whole, phases_may_begin}
 use Rattle.arc_plain.proofs.Keeps.{phases_left}
 use Rattle.arc_plain.proofs.Keeps.{waits, ended, turns, new_is, all_keep}
 use Rattle.arc_plain.proofs.Turns.{new_steppers}
 use Rattle.arc_plain.proofs.Alone.{came_to}
-use Rattle.arc_plain.proofs.Lists.{set_there, set_apart, same_elements}
+use Rattle.arc_plain.proofs.Lists.{set_there, set_apart}
 use Rattle.arc_plain.proofs.Places.{there, is_at}
 
 pub threads_long : (c : Progress) → IsUnderWay c → length c.stage.threads ≡ length c.script.threads + 1
@@ -93,16 +92,16 @@ beginning_takes n before c u lt b h = phases_may_begin before.script before.stag
 
 pub beginning_on : (n : ℕ) (before c c' : Progress) → 1 ≤ n → n < length c.stage.threads → Beginning n before c → c' ≡ thread_begun n c → Beginning (n + 1) before c'
 beginning_on n before c c' n1 lt b is = rw is (record {
-    c_is = ap (λ (x : Progress). thread_begun_as n c x) b.c_is;
-    long = length-set c.stage.threads n (begun_thread (thread_at n c)) ∙ b.long;
-    first = set_apart c.stage.threads n 0 (begun_thread (thread_at n c)) (λ e. omega arith) ∙ b.first;
-    done = λ q t q1 below at. dite (ℕ_discrete q n)
-        (λ e.
-            let same : thread_at n c ≡ t = is_at c n t (b.rest n (omega arith) ∙ subst (λ (k : ℕ). slice_get before.stage.threads k ≡ Some t) e at) in
-            subst (λ (k : ℕ). slice_get (set c.stage.threads n (begun_thread (thread_at n c))) k ≡ Some (begun_thread t)) (sym e) (set_there c.stage.threads n (begun_thread (thread_at n c)) lt ∙ ap (λ (x : Thread). Some (begun_thread x)) same))
-        (λ ne. set_apart c.stage.threads n q (begun_thread (thread_at n c)) ne ∙ b.done q t q1 (omega arith) at);
-    rest = λ q le. set_apart c.stage.threads n q (begun_thread (thread_at n c)) (λ e. omega arith) ∙ b.rest q (omega arith);
-  })
+  c_is = ap (λ (x : Progress). thread_begun_as n c x) b.c_is;
+  long = length-set c.stage.threads n (begun_thread (thread_at n c)) ∙ b.long;
+  first = set_apart c.stage.threads n 0 (begun_thread (thread_at n c)) (λ e. omega arith) ∙ b.first;
+  done = λ q t q1 below at. dite (ℕ_discrete q n)
+      (λ e.
+      let same : thread_at n c ≡ t = is_at c n t (b.rest n (omega arith) ∙ subst (λ (k : ℕ). slice_get before.stage.threads k ≡ Some t) e at) in
+      subst (λ (k : ℕ). slice_get (set c.stage.threads n (begun_thread (thread_at n c))) k ≡ Some (begun_thread t)) (sym e) (set_there c.stage.threads n (begun_thread (thread_at n c)) lt ∙ ap (λ (x : Thread). Some (begun_thread x)) same))
+      (λ ne. set_apart c.stage.threads n q (begun_thread (thread_at n c)) ne ∙ b.done q t q1 (omega arith) at);
+  rest = λ q le. set_apart c.stage.threads n q (begun_thread (thread_at n c)) (λ e. omega arith) ∙ b.rest q (omega arith);
+})
   where
     thread_begun_as : ℕ → Progress → Progress → Progress
     thread_begun_as n c x = record { script = x.script; stage = record x.stage { threads = set c.stage.threads n (begun_thread (thread_at n c)) } }
@@ -192,8 +191,7 @@ between_on before c b f e i some is p q =
     let followed = p.came.steps in
     let finished = q.came.steps in
     let same : e.stage.begun ≡ c.stage.begun + 1 = q.came.begun ∙ (p.came.begun ∙ began) in
-    let bound = i.bound in
-    (
+    let bound = i.bound in (
       record {
         in_phases = q.in_phases;
         script = q.came.script ∙ (p.came.script ∙ (ap (λ (x : Progress). x.script) is ∙ i.script));
@@ -222,12 +220,12 @@ begun_now t h = ap (λ (b : Bool). cond b (turned t None) t) h
 
 pub first_under_way : (before c c' : Progress) → PhasesDone before c → c' ≡ thread_begun 0 c → All IsStepper c'.stage.threads → IsUnderWay c'
 first_under_way before c c' d is steppers = rw is (record {
-    script = u.script;
-    served = u.served;
-    reached = subst (λ (t : Thread). Reached c.script (record c.stage { threads = slice_set c.stage.threads 0 t })) (sym (begun_now (thread_at 0 c) d.in_phases.first_waits))
-        (last u.reached d.none d.no_phase (there c 0 (some_threads c u)) d.in_phases.first_waits (first_takes before c d d.in_phases.first_waits));
-    steppers = rw is at steppers;
-  })
+  script = u.script;
+  served = u.served;
+  reached = subst (λ (t : Thread). Reached c.script (record c.stage { threads = slice_set c.stage.threads 0 t })) (sym (begun_now (thread_at 0 c) d.in_phases.first_waits))
+      (last u.reached d.none d.no_phase (there c 0 (some_threads c u)) d.in_phases.first_waits (first_takes before c d d.in_phases.first_waits));
+  steppers = rw is at steppers;
+})
   where
     u : IsUnderWay c
     u = d.in_phases.under_way
@@ -246,15 +244,15 @@ never_waits c u lt h w =
 
 pub all_done : (before c b c' : Progress) → PhasesDone before c → b ≡ thread_begun 0 c → ThreadFinished 0 b c' → IsDone before c'
 all_done before c b c' d is t = record {
-    script = t.came.script ∙ (ap (λ (x : Progress). x.script) is ∙ d.script);
-    under_way = t.under_way;
-    ended = λ p x at. dite (ℕ_discrete p 0) (λ e. first x (subst (λ (k : ℕ). slice_get c'.stage.threads k ≡ Some x) e at)) (λ ne. other p x ne at);
-    few = let few = d.few in
-        let steps : b.stage.steps ≡ c.stage.steps = ap (λ (y : Progress). y.stage.steps) is in
-        let places : length b.stage.places ≡ length c.stage.places = ap (λ (y : Progress). length y.stage.places) is in
-        let more = t.came.steps in
-        omega arith;
-  }
+  script = t.came.script ∙ (ap (λ (x : Progress). x.script) is ∙ d.script);
+  under_way = t.under_way;
+  ended = λ p x at. dite (ℕ_discrete p 0) (λ e. first x (subst (λ (k : ℕ). slice_get c'.stage.threads k ≡ Some x) e at)) (λ ne. other p x ne at);
+  few = let few = d.few in
+      let steps : b.stage.steps ≡ c.stage.steps = ap (λ (y : Progress). y.stage.steps) is in
+      let places : length b.stage.places ≡ length c.stage.places = ap (λ (y : Progress). length y.stage.places) is in
+      let more = t.came.steps in
+      omega arith;
+}
   where
     u : IsUnderWay c
     u = d.in_phases.under_way
@@ -262,7 +260,7 @@ all_done before c b c' d is t = record {
     other : (p : ℕ) (x : Thread) → p ≢ 0 → slice_get c'.stage.threads p ≡ Some x → x.asked ≡ moves.Ended
     other p x ne at =
         let there : slice_get c.stage.threads p ≡ Some x =
-            sym (set_apart c.stage.threads 0 p (begun_thread (thread_at 0 c)) ne) ∙ (sym (ap (λ (y : Progress). slice_get y.stage.threads p) is) ∙ (sym (t.others p ne) ∙ at)) in
+        sym (set_apart c.stage.threads 0 p (begun_thread (thread_at 0 c)) ne) ∙ (sym (ap (λ (y : Progress). slice_get y.stage.threads p) is) ∙ (sym (t.others p ne) ∙ at)) in
         ended x.asked (d.none p x (omega arith) there) (d.no_phase p x (omega arith) there)
 
     begun_at : thread_at 0 b ≡ turned (thread_at 0 c) None

@@ -1,24 +1,20 @@
 -- A place of the schedule is followed, and a thread makes its step.
-use Rattle.std.proofs.Common.{◌≡◌, ◌≢◌, ℕ, zero, suc, ◌+◌, ◌-◌, ◌*◌, ◌≤◌, ◌<◌, ◌^◌, Bool, true, false, List, [], ◌∷◌, length, drop, get_or, set, Option, Some, None, refl, ap, ◌∙◌, sym, subst, arith}
+use Rattle.std.proofs.Common.{◌≡◌, ◌≢◌, ℕ, zero, suc, ◌≤◌, ◌<◌, true, false, List, [], ◌∷◌, length, drop, get_or, set, Some, None, refl, ap, ◌∙◌, subst, arith}
 use Rattle.std.specs.List.{AllByRecursion}
 use Rattle.std.specs.Prelude.{All, slice_get}
-use Rattle.std.proofs.lemmas.List.{length-set}
 use Rattle.std.proofs.lemmas.Option.{slice_get-get_or, get_or_from_slice_get}
-use Rattle.arc_rule.specs.Steps.{place_of, found_by, made_by}
+use Rattle.arc_rule.specs.Steps.{found_by}
 use Rattle.arc_rule.specs.declared.step.Step.{Step}
 use Rattle.arc_rule.specs.declared.step.Intent.{Intent}
-use Rattle.arc_script.specs.declared.script.Script.{Script}
-use Rattle.arc_script.specs.Valid.{IsScript}
-use Rattle.arc_ops.specs.Served.{IsServed}
 use Rattle.arc_ops.specs.declared.stepper.Move.{Move}
 use Rattle.arc_ops.specs.declared.stepper.Move.TheVariants as moves
-use Rattle.arc_ops.specs.Thread.{Thread, IsStepper, stepper_of, takes, turned}
-use Rattle.arc_replays.specs.Laws.{IsWhole, MayBeMade}
-use Rattle.arc_replays.specs.Stages.{Stage, Reached, MayStep, IsSome, IsNone, has_step, is_step, is_phase_end, awaits_phase, stepped}
+use Rattle.arc_ops.specs.Thread.{Thread, IsStepper, stepper_of, turned}
+use Rattle.arc_replays.specs.Laws.{MayBeMade}
+use Rattle.arc_replays.specs.Stages.{MayStep, IsSome, has_step, is_step, is_phase_end, awaits_phase}
 use Rattle.arc_replays.specs.Stages.Reached.{makes, passes}
 use Rattle.arc_plain.specs.Crews.{Progress, IsUnderWay, IsInPhases, AreFollowed, PlaceFollowed, thread_at, has_made, place_used, steps_asked, step_count}
 use Rattle.arc_replays.proofs.Laws.{stages_are_whole, steps_may_be_made}
-use Rattle.arc_plain.proofs.Lists.{set_there, set_apart, some_counts, none_counts}
+use Rattle.arc_plain.proofs.Lists.{set_apart, some_counts, none_counts}
 use Rattle.arc_plain.proofs.Keeps.{places_fit}
 
 pub there : (c : Progress) (p : ℕ) → p < length c.stage.threads → slice_get c.stage.threads p ≡ Some (thread_at p c)

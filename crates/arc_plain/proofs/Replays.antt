@@ -1,23 +1,16 @@
 -- What comes of a crew that is done is a replay.
-use Rattle.std.proofs.Common.{◌≡◌, ℕ, zero, suc, ◌+◌, ◌-◌, ◌≤◌, ◌<◌, ◌^◌, List, [], ◌∷◌, ◌++◌, length, take, drop, get_or, reverse, Option, refl, ap, ◌∙◌, subst, sym, arith}
+use Rattle.std.proofs.Common.{◌≡◌, ℕ, zero, suc, ◌+◌, ◌-◌, ◌≤◌, ◌<◌, List, [], ◌∷◌, ◌++◌, length, take, drop, get_or, reverse, ap, ◌∙◌, subst, arith}
 use Rattle.std.specs.Prelude.{All}
 use Rattle.std.proofs.lemmas.List.{length-reverse, get_or-reverse}
 use Rattle.arc_script.specs.declared.script.Script.{Script}
-use Rattle.arc_script.specs.declared.answer.Line.{Line}
-use Rattle.arc_script.specs.Valid.{IsScript}
-use Rattle.arc_ops.specs.Served.{IsServed}
 use Rattle.arc_ops.specs.declared.told.Stamped.{Stamped}
 use Rattle.arc_ops.specs.declared.told.ThreadLines.{ThreadLines}
 use Rattle.arc_ops.specs.Thread.{Thread}
-use Rattle.arc_rule.specs.Places.{extent_of}
-use Rattle.arc_replays.specs.Empty.{AreEmpty}
-use Rattle.arc_replays.specs.Histories.{IsHistory, history_of, lines_from, first_lines}
-use Rattle.arc_replays.specs.Named.{LineFits}
+use Rattle.arc_replays.specs.Histories.{lines_from, first_lines}
 use Rattle.arc_replays.specs.Laws.{IsWholeReplay}
-use Rattle.arc_replays.specs.Stages.{Stage}
 use Rattle.arc_replays.proofs.Whole.{replays_are_histories}
 use Rattle.arc_plain.specs.declared.replay.Replay.{Replay}
-use Rattle.arc_plain.specs.Crews.{Progress, IsUnderWay, IsDone}
+use Rattle.arc_plain.specs.Crews.{Progress, IsDone}
 use Rattle.arc_plain.specs.Replays.{StampedFits, IsReplay}
 use Rattle.arc_plain.proofs.Order.{threads_long}
 

@@ -14,7 +14,7 @@ use Rattle.arc_ops.specs.declared.stepper.Held.{Held}
 use Rattle.arc_ops.specs.declared.stepper.Doing.TheVariants as doings
 use Rattle.arc_ops.specs.declared.stepper.Move.{Move}
 use Rattle.arc_ops.specs.declared.stepper.Move.TheVariants as moves
-use Rattle.arc_ops.specs.Thread.{Thread, value, set_var, put, skipped, moved, is_held, drop_begun, make_begun, copy_begun, begun_nil, begun_copy, begun_move, begun_drop, begun_op, scope_at, scope_drop, scope_begun, phase_end, phase_over, begun_at, begun, next_op, replaced, replaced_old}
+use Rattle.arc_ops.specs.Thread.{Thread, value, set_var, put, skipped, moved, is_held, drop_begun, make_begun, begun_nil, begun_copy, begun_move, begun_drop, begun_op, scope_at, scope_drop, scope_begun, phase_end, phase_over, begun_at, begun, next_op, replaced, replaced_old}
 use Rattle.arc_plain.specs.Left.{held_unit, units, busy_units, left}
 
 -- where a thread comes to the end of a phase it is at the next one, and else at the same one
@@ -167,9 +167,9 @@ begins_at [] t slots few = phase_comes t
 begins_at (o ∷ ops) t slots few =
     op_comes o t (λ (behind : Thread). begun_at ops behind) (omega arith) slots
     (λ u same index vars.
-        let program : length u.program ≡ length t.program = ap (λ (xs : List Op). length xs) same.program in
-        let fits : u.layout.slots ≤ 4096 = subst (λ (l : Extent). l.slots ≤ 4096) (sym same.layout) slots in
-        begins_at ops u fits (omega arith))
+    let program : length u.program ≡ length t.program = ap (λ (xs : List Op). length xs) same.program in
+    let fits : u.layout.slots ≤ 4096 = subst (λ (l : Extent). l.slots ≤ 4096) (sym same.layout) slots in
+    begins_at ops u fits (omega arith))
 
 pub begins : (t : Thread) → t.layout.slots ≤ 4096 → Comes t (begun t) (4200 * units t)
 begins t slots = begins_at (drop t.index (take (phase_end t) t.program)) t slots (let a = length-drop t.index (take (phase_end t) t.program) in let b = length-take (phase_end t) t.program in omega arith)

@@ -1,5 +1,5 @@
 -- A replay under way, as the contracts of its crew see it.
-use Rattle.std.specs.Prelude.{ℕ, Bool, true, false, ◌≡◌, ◌≢◌, ◌≤◌, ◌<◌, ◌+◌, ◌*◌, ◌^◌, List, [], length, drop, map, sum_by, slice_get, slice_set, slice_index_or, All, Option, Some, None}
+use Rattle.std.specs.Prelude.{ℕ, true, false, ◌≡◌, ◌≢◌, ◌≤◌, ◌<◌, ◌+◌, ◌^◌, List, [], length, drop, map, sum_by, slice_get, slice_set, slice_index_or, All, Option, Some}
 use Rattle.arc_script.specs.declared.script.Script.{Script}
 use Rattle.arc_script.specs.Valid.{IsScript}
 use Rattle.arc_rule.specs.declared.step.Step.{Step}

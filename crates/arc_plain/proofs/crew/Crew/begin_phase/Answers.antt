@@ -1,8 +1,8 @@
-use Rattle.std.proofs.Common.{◌≡◌, ◌<◌, ◌≤◌, ◌+◌, List, length, rules, ap, ◌∙◌, sym, subst, arith}
+use Rattle.std.proofs.Common.{◌≡◌, ◌+◌, List, length, rules, ap, ◌∙◌, sym, subst, arith}
 use Rattle.std.specs.Prelude.{All}
 use Rattle.arc_ops.specs.Thread.{Thread, IsStepper}
 use Rattle.arc_plain.specs.Crews.{Progress, IsInPhases}
-use Rattle.arc_plain.proofs.Order.{beginning_first, beginning_takes, beginning_on, beginning_last, beginning_done, begun_in_phases, phase_left}
+use Rattle.arc_plain.proofs.Order.{beginning_takes, beginning_on, beginning_last, beginning_done, begun_in_phases, phase_left}
 use Rattle.arc_plain.proofs.crew.Crew.begin_phase.Goals as goal
 
 pub begin-requires-clause-takes : goal.begin-requires-clause-takes
@@ -44,4 +44,4 @@ returns-clause-in_phases c =
     subst IsInPhases
     (sym (ap (λ (x : Progress). record { script = x.script; stage = record x.stage { begun = x.stage.begun + 1 } }) c.self-2.view_is ∙ beginning_done c.loop-thread.thread c.args.self.now c.loop-thread.self (omega arith) c.loop-thread.invariant.begun))
     (begun_in_phases c.args.self.now c.requires.in_phases c.requires.none c.requires.some
-        (subst (λ (ts : List Thread). All IsStepper ts) (beginning_last c.loop-thread.thread c.args.self.now c.loop-thread.self (omega arith) c.loop-thread.invariant.begun) c.loop-thread.invariant.steppers))
+    (subst (λ (ts : List Thread). All IsStepper ts) (beginning_last c.loop-thread.thread c.args.self.now c.loop-thread.self (omega arith) c.loop-thread.invariant.begun) c.loop-thread.invariant.steppers))

@@ -1,7 +1,6 @@
-use Rattle.std.proofs.Common.{sym, ◌∙◌, ap}
-use Rattle.arc_replays.specs.Stages.{is_step}
+use Rattle.std.proofs.Common.{sym, ◌∙◌}
 use Rattle.arc_plain.proofs.Places.{may_make}
-use Rattle.arc_plain.proofs.Alone.{alone_first, alone_made, alone_last}
+use Rattle.arc_plain.proofs.Alone.{alone_first, alone_made}
 use Rattle.arc_plain.proofs.crew.Crew.finish_thread.Goals as goal
 
 pub loop-step-init : goal.loop-step-init
@@ -16,9 +15,9 @@ make_step-requires-clause-takes c = (may_make c.loop-step.self c.args.thread c.i
 pub loop-step-smaller : goal.loop-step-smaller
 loop-step-smaller c =
     (alone_made c.args.thread c.args.self.now c.loop-step.self c.make_step.new.self c.in-Step.step c.in-Step.intent c.loop-step.invariant (sym c.asks.ensures.asked ∙ c.in-Step.is) c.in_ok-make_step-in-Step.ensures.made
-        c.in_ok-make_step-in-Step.ensures.steppers).1
+    c.in_ok-make_step-in-Step.ensures.steppers).1
 
 pub loop-step-preserved : goal.loop-step-preserved
 loop-step-preserved c =
     (alone_made c.args.thread c.args.self.now c.loop-step.self c.make_step.new.self c.in-Step.step c.in-Step.intent c.loop-step.invariant (sym c.asks.ensures.asked ∙ c.in-Step.is) c.in_ok-make_step-in-Step.ensures.made
-        c.in_ok-make_step-in-Step.ensures.steppers).0
+    c.in_ok-make_step-in-Step.ensures.steppers).0

@@ -1,6 +1,5 @@
-use Rattle.std.proofs.Common.{◌≡◌, false, Result, Ok, Err, ap, ◌∙◌, sym}
+use Rattle.std.proofs.Common.{◌≡◌, Result, Ok, Err, ap, ◌∙◌, sym}
 use Rattle.std.specs.Prelude.{OnOk}
-use Rattle.arc_ops.specs.declared.stepper.Move.TheVariants as moves
 use Rattle.arc_replays.specs.Stages.{is_step}
 use Rattle.arc_plain.specs.Crews.{Progress, thread_at}
 use Rattle.arc_plain.proofs.Places.{place_fits, may_make, place_made_on, place_passed, places_left}

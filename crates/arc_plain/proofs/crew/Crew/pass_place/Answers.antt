@@ -1,4 +1,4 @@
-use Rattle.std.proofs.Common.{◌≡◌, ℕ, List, length, drop, ap, sym, arith, length-drop}
+use Rattle.std.proofs.Common.{◌≡◌, length, drop, ap, sym, arith, length-drop}
 use Rattle.arc_plain.specs.Crews.{Progress}
 use Rattle.arc_plain.proofs.Lists.{drop_next}
 use Rattle.arc_plain.proofs.crew.Crew.pass_place.Goals as goal
