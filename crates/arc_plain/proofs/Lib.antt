@@ -1,21 +1,9 @@
-pub mod Places
-pub mod Begins
-pub mod Writes
-pub mod Makes
-pub mod Copies
-pub mod Drops
-pub mod Dies
-pub mod Steps
-pub mod Tells
-pub mod Runs
-pub mod Whole
-pub mod References
-pub mod Owned
-pub mod Sides
-pub mod SideMakes
-pub mod SideCopies
-pub mod SideDies
-pub mod Told
-pub mod ToldFirst
-pub mod WholeHistory
-pub mod Promises
+mod Alone
+mod Falls
+mod Keeps
+mod Lists
+mod Order
+mod Places
+mod Replays
+mod Turns
+mod Walks

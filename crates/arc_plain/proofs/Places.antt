@@ -1,103 +1,126 @@
--- Words at places, and what a write leaves.
-use Rattle.std.proofs.Common.{◌≡◌, ℕ, zero, suc, ◌+◌, ◌≤◌, ◌<◌, Bool, true, false, cond, eqb, List, [], ◌∷◌, length, get_or, set, Option, Some, None, refl, subst, arith, get_or-set_other}
-use Rattle.std.proofs.lemmas.List.{get_or-set_same}
-use Rattle.std.proofs.lemmas.List.Sums.{sum_by-set, sum_by-cons, get_or-le-sum_by}
-use Rattle.std.proofs.lemmas.Bool.{eqb-true, eqb-false}
-use Rattle.std.specs.Prelude.{sum_by}
-use Rattle.arc_rule.specs.Extents.{Extent}
-use Rattle.arc_rule.specs.Places.{number, word_count}
-use Rattle.arc_rule.specs.declared.layout.Place.TheVariants.{Count, Isa, Next, Link}
-use Rattle.arc_ops.specs.declared.stepper.Held.{Held}
-use Rattle.arc_ops.specs.Thread.{value}
-use Rattle.arc_plain.specs.Shown.{word_at, one_if, refers, holders, held_unit, live_word}
+-- A place of the schedule is followed, and a thread makes its step.
+use Rattle.std.proofs.Common.{◌≡◌, ◌≢◌, ℕ, zero, suc, ◌≤◌, ◌<◌, true, false, List, [], ◌∷◌, length, drop, get_or, set, Some, None, refl, ap, ◌∙◌, subst, arith}
+use Rattle.std.specs.List.{AllByRecursion}
+use Rattle.std.specs.Prelude.{All, slice_get}
+use Rattle.std.proofs.lemmas.Option.{slice_get-get_or, get_or_from_slice_get}
+use Rattle.arc_rule.specs.Steps.{found_by}
+use Rattle.arc_rule.specs.declared.step.Step.{Step}
+use Rattle.arc_rule.specs.declared.step.Intent.{Intent}
+use Rattle.arc_ops.specs.declared.stepper.Move.{Move}
+use Rattle.arc_ops.specs.declared.stepper.Move.TheVariants as moves
+use Rattle.arc_ops.specs.Thread.{Thread, IsStepper, stepper_of, turned}
+use Rattle.arc_replays.specs.Laws.{MayBeMade}
+use Rattle.arc_replays.specs.Stages.{MayStep, IsSome, has_step, is_step, is_phase_end, awaits_phase}
+use Rattle.arc_replays.specs.Stages.Reached.{makes, passes}
+use Rattle.arc_plain.specs.Crews.{Progress, IsUnderWay, IsInPhases, AreFollowed, PlaceFollowed, thread_at, has_made, place_used, steps_asked, step_count}
+use Rattle.arc_replays.proofs.Laws.{stages_are_whole, steps_may_be_made}
+use Rattle.arc_plain.proofs.Lists.{set_apart, some_counts, none_counts}
+use Rattle.arc_plain.proofs.Keeps.{places_fit}
 
--- ---- the inline word of one slot is written
+pub there : (c : Progress) (p : ℕ) → p < length c.stage.threads → slice_get c.stage.threads p ≡ Some (thread_at p c)
+there c p lt = slice_get-get_or c.stage.threads p (stepper_of c.script p) lt
 
-pub count_set : (l : Extent) (words : List ℕ) (s v : ℕ) → length words ≡ word_count l → s < l.slots → (k : ℕ) → word_at (set words (number l (Count s)) v) l (Count k) ≡ cond (eqb s k) v (word_at words l (Count k))
-count_set l words s v long within k = go (eqb s k) refl
+pub is_at : (c : Progress) (p : ℕ) (t : Thread) → slice_get c.stage.threads p ≡ Some t → thread_at p c ≡ t
+is_at c p t at = get_or_from_slice_get c.stage.threads p t (stepper_of c.script p) at
+
+-- a step that a thread asks for may be made
+pub may_make : (c : Progress) (p : ℕ) (step : Step) (intent : Intent) → IsUnderWay c → p < length c.stage.threads → (thread_at p c).asked ≡ moves.Step step intent → MayBeMade c.stage (thread_at p c) step
+may_make c p step intent u lt asked = steps_may_be_made c.script c.stage p (thread_at p c) step intent u.script u.served u.reached (there c p lt) (u.steppers p (stepper_of c.script p) lt) asked
+
+pub may_step : (c : Progress) (p : ℕ) (step : Step) (intent : Intent) → IsUnderWay c → p < length c.stage.threads → (thread_at p c).asked ≡ moves.Step step intent → MayStep c.stage p (thread_at p c) step intent
+may_step c p step intent u lt asked =
+    record { there = there c p lt; stepper = u.steppers p (stepper_of c.script p) lt; asked = asked; takes_it = (may_make c p step intent u lt asked).takes_it }
+
+-- the threads of two places
+pub other_at : (threads : List Thread) (p q : ℕ) (t d : Thread) → q ≢ p → q < length threads → get_or (set threads p t) q d ≡ get_or threads q d
+other_at threads p q t d ne lt = let e = set_apart threads p q t ne in let a = slice_get-get_or threads q d lt in get_or_from_slice_get (set threads p t) q (get_or threads q d) d (e ∙ a)
+
+counts : (m : Move) → 1 ≤ step_count m → is_step m ≡ true
+counts (moves.Step step intent) h = refl
+counts moves.PhaseEnd h = absurd (omega arith)
+counts moves.Ended h = absurd (omega arith)
+
+pub counts_not : (m : Move) → step_count m ≡ 0 → is_step m ≡ false
+counts_not (moves.Step step intent) h = absurd (omega arith)
+counts_not moves.PhaseEnd h = refl
+counts_not moves.Ended h = refl
+
+-- a thread with a step doesn't wait for a phase
+not_both : (m : Move) → is_step m ≡ true → is_phase_end m ≡ true → ⊥
+not_both (moves.Step step intent) h k = cc
+not_both moves.PhaseEnd h k = cc
+not_both moves.Ended h k = cc
+
+-- where threads have a step, one but thread 0 has
+pub some_has : (c : Progress) → IsInPhases c → 1 ≤ steps_asked c.stage.threads → IsSome has_step c.stage.threads
+some_has c i h =
+    let found = some_counts (λ (t : Thread). step_count t.asked) c.stage.threads h in
+    record { place = found.0; thread = found.1; other = other found.0 found.1 found.2 (counts found.1.asked found.3); there = found.2; passes = counts found.1.asked found.3 }
   where
-    go : (b : Bool) → eqb s k ≡ b → get_or (set words (number l (Count s)) v) (number l (Count k)) 0 ≡ cond b v (get_or words (number l (Count k)) 0)
-    go true e =
-        let same : s ≡ k = eqb-true s k e in
-        let inside : number l (Count s) < length words = omega arith in
-        subst (λ (j : ℕ). get_or (set words (number l (Count s)) v) (number l (Count j)) 0 ≡ v) same (get_or-set_same words (number l (Count s)) v 0 inside)
-    go false e =
-        let differ = eqb-false s k e in
-        get_or-set_other words (number l (Count s)) (number l (Count k)) v 0 (λ h. differ (omega arith))
+    other : (p : ℕ) (t : Thread) → slice_get c.stage.threads p ≡ Some t → is_step t.asked ≡ true → 1 ≤ p
+    other zero t at steps = absurd (not_both t.asked steps (subst (λ (x : Thread). awaits_phase x ≡ true) (is_at c 0 t at) i.first_waits))
+    other (suc p) t at steps = omega arith
 
-pub isa_after_count : (l : Extent) (words : List ℕ) (s v k : ℕ) → word_at (set words (number l (Count s)) v) l (Isa k) ≡ word_at words l (Isa k)
-isa_after_count l words s v k = get_or-set_other words (number l (Count s)) (number l (Isa k)) v 0 (λ h. omega arith)
+-- ---- the next place
 
-pub next_after_count : (l : Extent) (words : List ℕ) (s v k : ℕ) → word_at (set words (number l (Count s)) v) l (Next k) ≡ word_at words l (Next k)
-next_after_count l words s v k = get_or-set_other words (number l (Count s)) (number l (Next k)) v 0 (λ h. omega arith)
+headed : (ps : List ℕ) (p : ℕ) → slice_get ps 0 ≡ Some p → ps ≡ p ∷ drop 1 ps
+headed [] p e = absurd (cc)
+headed (q ∷ ps) p e = let same : q ≡ p = cc in ap (λ (n : ℕ). n ∷ ps) same
 
-pub link_after_count : (l : Extent) (words : List ℕ) (s v e : ℕ) → s < l.slots → word_at (set words (number l (Count s)) v) l (Link e) ≡ word_at words l (Link e)
-link_after_count l words s v e within = get_or-set_other words (number l (Count s)) (number l (Link e)) v 0 (λ h. omega arith)
+-- it is that of a thread but thread 0
+pub place_fits : (c : Progress) (p : ℕ) → IsUnderWay c → slice_get c.stage.places 0 ≡ Some p → (1 ≤ p) × (p < length c.stage.threads)
+place_fits c p u next =
+    let whole = stages_are_whole c.script c.stage u.script u.served u.reached in
+    let fits = (subst (AllByRecursion (λ (q : ℕ). (1 ≤ q) × (q ≤ length c.script.threads))) (headed c.stage.places p next) (places_fit c.script u.script c.stage u.reached)).0 in
+    let most = fits.1 in
+    let long = whole.threads in
+    (fits.0, omega arith)
 
--- ---- the isa word
+first_stays : (c : Progress) (p : ℕ) (t : Thread) → 1 ≤ p → p < length c.stage.threads → awaits_phase (thread_at 0 c) ≡ true → awaits_phase (get_or (set c.stage.threads p t) 0 (stepper_of c.script 0)) ≡ true
+first_stays c p t p1 lt waits = rw (other_at c.stage.threads p 0 t (stepper_of c.script 0) (λ e. omega arith) (omega arith)) waits
 
-pub isa_set : (l : Extent) (words : List ℕ) (s v : ℕ) → length words ≡ word_count l → s < l.slots → (k : ℕ) → word_at (set words (number l (Isa s)) v) l (Isa k) ≡ cond (eqb s k) v (word_at words l (Isa k))
-isa_set l words s v long within k = go (eqb s k) refl
-  where
-    go : (b : Bool) → eqb s k ≡ b → get_or (set words (number l (Isa s)) v) (number l (Isa k)) 0 ≡ cond b v (get_or words (number l (Isa k)) 0)
-    go true e =
-        let same : s ≡ k = eqb-true s k e in
-        let inside : number l (Isa s) < length words = omega arith in
-        subst (λ (j : ℕ). get_or (set words (number l (Isa s)) v) (number l (Isa j)) 0 ≡ v) same (get_or-set_same words (number l (Isa s)) v 0 inside)
-    go false e =
-        let differ = eqb-false s k e in
-        get_or-set_other words (number l (Isa s)) (number l (Isa k)) v 0 (λ h. differ (omega arith))
+pub place_made : (c : Progress) (p : ℕ) (step : Step) (intent : Intent) → IsInPhases c → slice_get c.stage.places 0 ≡ Some p → (thread_at p c).asked ≡ moves.Step step intent →
+    All IsStepper (has_made p step (place_used c)).stage.threads → PlaceFollowed c (has_made p step (place_used c))
+place_made c p step intent i next asked steppers =
+    let u = i.under_way in
+    let fits = place_fits c p u next in
+    let long : length c.stage.places ≡ suc (length (drop 1 c.stage.places)) = ap (λ (ps : List ℕ). length ps) (headed c.stage.places p next) in
+    record {
+      in_phases = record {
+        under_way = record { script = u.script; served = u.served; reached = makes {p = p} {places = drop 1 c.stage.places} step intent u.reached (headed c.stage.places p next) fits.0 (may_step c p step intent u fits.1 asked); steppers = steppers };
+        first_waits = first_stays c p (turned (thread_at p c) (Some (found_by step c.stage.words))) fits.0 fits.1 i.first_waits;
+      };
+      came = record { script = refl; begun = refl; steps = omega arith };
+      fewer = omega arith;
+    }
 
-pub count_after_isa : (l : Extent) (words : List ℕ) (s v k : ℕ) → word_at (set words (number l (Isa s)) v) l (Count k) ≡ word_at words l (Count k)
-count_after_isa l words s v k = get_or-set_other words (number l (Isa s)) (number l (Count k)) v 0 (λ h. omega arith)
+pub place_passed : (c : Progress) (p : ℕ) → IsInPhases c → slice_get c.stage.places 0 ≡ Some p → 1 ≤ steps_asked c.stage.threads → is_step (thread_at p c).asked ≡ false → PlaceFollowed c (place_used c)
+place_passed c p i next some idle =
+    let u = i.under_way in
+    let fits = place_fits c p u next in
+    let long : length c.stage.places ≡ suc (length (drop 1 c.stage.places)) = ap (λ (ps : List ℕ). length ps) (headed c.stage.places p next) in
+    record {
+      in_phases = record {
+        under_way = record { script = u.script; served = u.served; reached = passes u.reached (headed c.stage.places p next) fits.0 (there c p fits.1) idle (some_has c i some); steppers = u.steppers };
+        first_waits = i.first_waits;
+      };
+      came = record { script = refl; begun = refl; steps = omega arith };
+      fewer = omega arith;
+    }
 
-pub link_after_isa : (l : Extent) (words : List ℕ) (s v e : ℕ) → s < l.slots → word_at (set words (number l (Isa s)) v) l (Link e) ≡ word_at words l (Link e)
-link_after_isa l words s v e within = get_or-set_other words (number l (Isa s)) (number l (Link e)) v 0 (λ h. omega arith)
+pub place_made_on : (c u c' : Progress) (p : ℕ) (step : Step) (intent : Intent) → IsInPhases c → slice_get c.stage.places 0 ≡ Some p → u ≡ place_used c → (thread_at p c).asked ≡ moves.Step step intent → c' ≡ has_made p step u → All IsStepper c'.stage.threads →
+    PlaceFollowed c c'
+place_made_on c u c' p step intent i next used asked made steppers =
+    let is : c' ≡ has_made p step (place_used c) = made ∙ ap (λ (x : Progress). has_made p step x) used in
+    rw is (place_made c p step intent i next asked (rw is at steppers))
 
--- ---- the next word
+-- no thread has a step
+pub idle_followed : (c : Progress) → steps_asked c.stage.threads ≡ 0 → AreFollowed c
+idle_followed c h = λ some. absurd (let none = counts_not some.thread.asked (none_counts (λ (t : Thread). step_count t.asked) c.stage.threads some.place some.thread h some.there) in let has = some.passes in cc)
 
-pub next_set : (l : Extent) (words : List ℕ) (s v : ℕ) → length words ≡ word_count l → s < l.slots → word_at (set words (number l (Next s)) v) l (Next s) ≡ v
-next_set l words s v long within = let inside : number l (Next s) < length words = omega arith in get_or-set_same words (number l (Next s)) v 0 inside
+pub places_left : (ps : List ℕ) (p : ℕ) → slice_get ps 0 ≡ Some p → 1 ≤ length ps
+places_left ps p e = let long : length ps ≡ suc (length (drop 1 ps)) = ap (λ (x : List ℕ). length x) (headed ps p e) in omega arith
 
-pub count_after_next : (l : Extent) (words : List ℕ) (s v k : ℕ) → word_at (set words (number l (Next s)) v) l (Count k) ≡ word_at words l (Count k)
-count_after_next l words s v k = get_or-set_other words (number l (Next s)) (number l (Count k)) v 0 (λ h. omega arith)
-
-pub isa_after_next : (l : Extent) (words : List ℕ) (s v k : ℕ) → word_at (set words (number l (Next s)) v) l (Isa k) ≡ word_at words l (Isa k)
-isa_after_next l words s v k = get_or-set_other words (number l (Next s)) (number l (Isa k)) v 0 (λ h. omega arith)
-
-pub link_after_next : (l : Extent) (words : List ℕ) (s v e : ℕ) → s < l.slots → word_at (set words (number l (Next s)) v) l (Link e) ≡ word_at words l (Link e)
-link_after_next l words s v e within = get_or-set_other words (number l (Next s)) (number l (Link e)) v 0 (λ h. omega arith)
-
--- ---- the holders of a slot
-
-pub holders-set : (s v : ℕ) (new : Option Held) (vars : List (Option Held)) → v < length vars → holders s (set vars v new) + refers s (value vars v) ≡ holders s vars + refers s new
-holders-set s v new vars within = sum_by-set (refers s) vars v new None within
-
-pub holders_of_var : (s v : ℕ) (vars : List (Option Held)) → v < length vars → refers s (value vars v) ≤ holders s vars
-holders_of_var s v vars within = get_or-le-sum_by (refers s) vars v None within
-
-pub units-set : (v : ℕ) (new : Option Held) (vars : List (Option Held)) → v < length vars → sum_by held_unit (set vars v new) + held_unit (value vars v) ≡ sum_by held_unit vars + held_unit new
-units-set v new vars within = sum_by-set held_unit vars v new None within
-
-refers_one : (s : ℕ) (o : Option Held) → refers s o ≤ 1
-refers_one s None = omega arith
-refers_one s (Some held) = go (eqb held.place s)
-  where
-    go : (b : Bool) → one_if b ≤ 1
-    go true = omega arith
-    go false = omega arith
-
-pub holders_few : (s : ℕ) (vars : List (Option Held)) → holders s vars ≤ length vars
-holders_few s [] = omega arith
-holders_few s (o ∷ vars) = let h = holders_few s vars in let k = refers_one s o in let e = sum_by-cons (refers s) o vars in omega arith
-
-pub refers_itself : (held : Held) → refers held.place (Some held) ≡ 1
-refers_itself held = go (eqb held.place held.place) refl
-  where
-    go : (b : Bool) → eqb held.place held.place ≡ b → one_if b ≡ 1
-    go true e = refl
-    go false e = absurd (eqb-false held.place held.place e refl)
-
-pub live_word-zero : (n : ℕ) → live_word n ≡ 0 → n ≡ 0
-live_word-zero zero e = refl
-live_word-zero (suc m) e = absurd (omega arith)
+pub none_left : (ps : List ℕ) → slice_get ps 0 ≡ None → ps ≡ []
+none_left [] e = refl
+none_left (p ∷ ps) e = absurd (cc)

@@ -1,6 +1,3 @@
-pub mod Shown
-pub mod Named
-pub mod Histories
-pub mod Promises
+pub mod Crews
+pub mod Left
 pub mod Replays
-pub mod Replaying

@@ -1,9 +1,8 @@
 //! Plain words, and the replay of a script on them.
 #![tactic(auto)]
 
+mod crew;
 mod replay;
-#[cfg(test)]
-mod tests;
 mod words;
 
 pub use arc_ops::{Stamped, ThreadLines};

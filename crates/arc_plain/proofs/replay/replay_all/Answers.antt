@@ -1,13 +1,15 @@
-use Rattle.std.proofs.Common.{reverse, refl, ap, ◌∙◌}
-use Rattle.arc_plain.proofs.Whole.{first_starts, replay_is}
+use Rattle.std.proofs.Common.{List, drop, ap, ◌∙◌}
+use Rattle.arc_ops.specs.Thread.{Thread}
+use Rattle.arc_replays.specs.Histories.{lines_from, first_lines}
+use Rattle.arc_plain.specs.Crews.{Progress}
+use Rattle.arc_plain.proofs.Replays.{crew_few, replay_is}
 use Rattle.arc_plain.proofs.replay.replay_all.Goals as goal
 
-pub run_thread-requires-clause-starts : goal.run_thread-requires-clause-starts
-run_thread-requires-clause-starts c =
-    first_starts c.args.script.now c.in_ok-stepper.stepper c.in_ok-words.words c.requires.script c.requires.served c.in_ok-stepper.ensures c.in_ok-words.ensures
+pub lines_of-requires : goal.lines_of-requires
+lines_of-requires c = rw c.steppers.ensures (crew_few c.in_ok-crew.crew c.run.new.self c.in_ok-run.ensures)
 
 pub returns : goal.returns
 returns c =
-    replay_is c.args.script.now c.in_ok-stepper.stepper c.run_thread.new.stepper c.in_ok-end.end c.run_thread-2.new.stepper c.in_ok-words.words c.run_thread.new.words c.run_thread-2.new.words c.in_ok-steps.steps c.in_ok-steps-2.steps
-    (reverse c.new-events.result.items) (reverse c.run_thread.new.events.items) c.run_thread-2.new.events.items c.requires.script c.requires.served c.in_ok-stepper.ensures c.in_ok-end.ensures c.in_ok-words.ensures
-    (ap reverse c.new-events.ensures.items) c.in_ok-steps.ensures c.in_ok-steps-2.ensures _ (rw (← c.lines.ensures) c.in_ok-lines_of_one.ensures) (c.in_ok-from_slice.ensures.items ∙ c.lines-2.ensures) refl (c.in_ok-from_slice-2.ensures.items ∙ c.words-4.ensures) refl
+    replay_is c.args.script.now c.in_ok-crew.crew c.run.new.self (record { threads = c.in_ok-threads.threads; end = c.in_ok-end.end; events = c.into_events.result; words = c.in_ok-words.words; steps = c.steps-steps.result })
+    (ap (λ (x : Progress). x.script) c.in_ok-crew.ensures) c.in_ok-run.ensures (c.in_ok-threads.ensures ∙ ap (λ (ts : List Thread). lines_from 1 (drop 1 ts)) c.steppers.ensures)
+    (c.in_ok-end.ensures.items ∙ (c.end_lines.ensures ∙ ap first_lines c.steppers-2.ensures)) c.into_events.ensures (c.in_ok-words.ensures.items ∙ c.words.ensures) c.steps-steps.ensures

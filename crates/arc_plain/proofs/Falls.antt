@@ -1,0 +1,374 @@
+-- A step that a thread makes alone brings it nearer to the end of its phase, whatever word it finds.
+use Rattle.std.proofs.Common.{◌≡◌, ℕ, ◌+◌, ◌*◌, ◌≤◌, ◌<◌, Bool, true, false, cond, eqb, ltb, List, length, Option, Some, None, refl, ◌∙◌, subst, sym, arith, rules}
+use Rattle.arc_bits.specs.declared.packing.Word.{Word}
+use Rattle.arc_bits.specs.declared.packing.Word.TheVariants as word
+use Rattle.arc_bits.specs.Words.{packed, unpacked}
+use Rattle.arc_bits.specs.Moves.{strong_more}
+use Rattle.arc_model.specs.Shapes.{HeapShape}
+use Rattle.arc_model.specs.declared.event.Act.{Act}
+use Rattle.arc_model.specs.declared.event.Act.TheVariants as acts
+use Rattle.arc_model.specs.declared.event.Origin.TheVariants.{Hand}
+use Rattle.arc_model.specs.declared.event.ObjectName.{ObjectName}
+use Rattle.arc_model.specs.declared.answer.Answer.TheVariants as answers
+use Rattle.arc_rule.specs.Extents.{Extent}
+use Rattle.arc_rule.specs.Places.{extent_of, number}
+use Rattle.arc_rule.specs.Steps.{found_by, made_by}
+use Rattle.arc_rule.specs.declared.layout.Place.TheVariants.{Count}
+use Rattle.arc_rule.specs.declared.step.Step.{Step}
+use Rattle.arc_rule.specs.declared.step.Step.TheVariants.{Load, Exchange}
+use Rattle.arc_rule.specs.declared.step.Intent.{Intent}
+use Rattle.arc_rule.specs.declared.step.Intent.TheVariants as intents
+use Rattle.arc_rule.specs.declared.plan.Next.{Next as NextStep}
+use Rattle.arc_rule.specs.declared.plan.Next.TheVariants as nexts
+use Rattle.arc_plan.specs.declared.attempt.At.{At as AttemptAt}
+use Rattle.arc_plan.specs.declared.attempt.At.TheVariants as attempt
+use Rattle.arc_plan.specs.declared.attempt.Choice.{Choice}
+use Rattle.arc_plan.specs.declared.attempt.Choice.TheVariants.{Tell, Write}
+use Rattle.arc_plan.specs.declared.slots.Making.{Making as Search}
+use Rattle.arc_plan.specs.declared.slots.Making.TheVariants as search
+use Rattle.arc_plan.specs.declared.slots.NewObjectAnswer.TheVariants.{NoSlot}
+use Rattle.arc_plan.specs.declared.slots.Once.{Once}
+use Rattle.arc_plan.specs.declared.slots.Once.TheVariants as once
+use Rattle.arc_plan.specs.declared.strong.StrongUpAnswer.{StrongUpAnswer}
+use Rattle.arc_plan.specs.declared.strong.StrongUpAnswer.TheVariants as ups
+use Rattle.arc_plan.specs.declared.strong.StrongDownAnswer.{StrongDownAnswer}
+use Rattle.arc_plan.specs.declared.unowned.UnownedDownAnswer.{UnownedDownAnswer}
+use Rattle.arc_plan.specs.declared.strong.StrongDownAnswer.TheVariants as downs
+use Rattle.arc_plan.specs.declared.unowned.UnownedDownAnswer.TheVariants as less
+use Rattle.arc_plan.specs.Attempts.{Attempt, CappedAttempt, exchanging, chosen}
+use Rattle.arc_plan.specs.Strong.{strong_up_row, strong_down_row, strong_down_end}
+use Rattle.arc_plan.specs.Unowned.{unowned_down_row, unowned_down_end}
+use Rattle.arc_plan.specs.Slots.{trial, naming}
+use Rattle.arc_cells.specs.declared.cascade.At.{At}
+use Rattle.arc_cells.specs.declared.cascade.At.TheVariants as at
+use Rattle.arc_cells.specs.Cascades.{CascadeState, finish_turned, finish_says}
+use Rattle.arc_ops.specs.declared.stepper.Held.{Held}
+use Rattle.arc_ops.specs.declared.stepper.Doing.{Doing}
+use Rattle.arc_ops.specs.declared.stepper.Doing.TheVariants as doings
+use Rattle.arc_ops.specs.declared.stepper.Move.{Move}
+use Rattle.arc_ops.specs.declared.stepper.Move.TheVariants as moves
+use Rattle.arc_ops.specs.Thread.{Thread, IsStepper, IsUnderWay, IsInOperation, turned, turned_at, put, begun, next_op, made_on, copied_on, dropped_on, dying_on}
+use Rattle.arc_ops_passes.specs.Drives.{Asks, SearchAsks, AttemptAsks, VacateAsks, CascadeAsks}
+use Rattle.arc_plain.specs.Left.{units, busy_units, count_at, doing_left, left}
+use Rattle.arc_plain.proofs.Walks.{IsPhase, Comes, Same, after_same, begins, next_comes, replaced_comes}
+
+-- what the thread is while it is given a word
+abbrev pub quiet : Thread → Thread
+quiet t = record t { doing = doings.Ended; first = false; event = None }
+
+-- The thread, which was doing this, became another state of it. It has fewer steps left on the words then than it had before.
+pub record Goes (t : Thread) (words after : List ℕ) (d : Doing) (u : Thread) : Type 0 where
+  pub layout : u.layout ≡ t.layout
+  pub phases : u.phases ≡ t.phases
+  pub program : u.program ≡ t.program
+  pub count : length u.vars ≡ length t.vars
+  pub phase : IsPhase t.phase u.asked u.phase
+  pub fewer : left after u < doing_left words t d
+
+goes_to : (t t' u : Thread) (words after : List ℕ) (d : Doing) (bound : ℕ) → Same t t' → Comes t' u bound → bound < doing_left words t d → Goes t words after d u
+goes_to t t' u words after d bound s c lt = record {
+  layout = c.layout ∙ s.layout;
+  phases = c.phases ∙ s.phases;
+  program = c.program ∙ s.program;
+  count = c.count ∙ s.count;
+  phase = subst (λ (k : ℕ). IsPhase k u.asked u.phase) s.phase c.phase;
+  fewer = let f = c.few after in omega arith;
+}
+
+-- a step is asked for, so the phase is the same
+stays : (m : Move) (step : Step) (intent : Intent) (k : ℕ) → m ≡ moves.Step step intent → IsPhase k m k
+stays m step intent k is = subst (λ (x : Move). IsPhase k x k) (sym is) refl
+
+eqb_same : (n : ℕ) → eqb n n ≡ true
+eqb_same n = search rules
+
+asked_is : (m : Move) (s s' : Step) (i i' : Intent) → m ≡ moves.Step s i → m ≡ moves.Step s' i' → s ≡ s'
+asked_is m s s' i i' p q = cc
+
+-- ---- an object is made
+
+trying : (t : Thread) (words after : List ℕ) (l : Extent) (to : ℕ) (name : ObjectName) (slot found : ℕ) → t.layout.slots ≤ 4096 → slot < t.layout.slots →
+    Goes t words after (doings.Making to name slot (record { layout = l; name = name; at = search.Trying slot })) (turned_at (Some found) (doings.Making to name slot (record { layout = l; name = name; at = search.Trying slot })) (quiet t))
+trying t words after l to name slot found slots lt = go (eqb found 0) (ltb (slot + 1) l.slots)
+  where
+    go : (b d : Bool) →
+        Goes t words after (doings.Making to name slot (record { layout = l; name = name; at = search.Trying slot }))
+        (made_on to name slot (record { layout = l; name = name; at = cond b (search.Naming slot) (cond d (search.Trying (slot + 1)) search.Ended) })
+        (cond b (nexts.Step (naming l name slot)) (cond d (nexts.Step (trial l (slot + 1))) (nexts.Done NoSlot))) (quiet t))
+    go true d = record { layout = refl; phases = refl; program = refl; count = refl; phase = refl; fewer = omega arith }
+    go false true = record { layout = refl; phases = refl; program = refl; count = refl; phase = refl; fewer = omega arith }
+    go false false =
+        goes_to t (put answers.Full (record t { doing = doings.Ended; first = false; event = Some acts.Full })) _ words after _ (4200 * busy_units t) (record { layout = refl; phases = refl; program = refl; count = refl; phase = refl })
+        (next_comes (put answers.Full (record t { doing = doings.Ended; first = false; event = Some acts.Full })) slots) (omega arith)
+
+named : (t : Thread) (words after : List ℕ) (l : Extent) (to : ℕ) (name : ObjectName) (slot found : ℕ) → t.layout.slots ≤ 4096 → t.index < length t.program →
+    Goes t words after (doings.Making to name slot (record { layout = l; name = name; at = search.Naming slot })) (turned_at (Some found) (doings.Making to name slot (record { layout = l; name = name; at = search.Naming slot })) (quiet t))
+named t words after l to name slot found slots here =
+    goes_to t (put (answers.New name) (quiet t)) _ words after _ (4200 * busy_units t + 8) (record { layout = refl; phases = refl; program = refl; count = refl; phase = refl })
+    (replaced_comes (put (answers.New name) (quiet t)) to (record { hand = t.hands; place = slot }) slots here) (omega arith)
+
+-- ---- a reference is copied
+
+abbrev up_plan : Extent → ℕ → ℕ → AttemptAt → CappedAttempt
+up_plan l s cap at = record { layout = l; slot = s; cap = cap; at = at }
+
+-- by what the row says of the word that was read
+abbrev up_by : Thread → Extent → (cap to : ℕ) → Held → ℕ → Choice StrongUpAnswer → Thread
+up_by t l cap to held w r = copied_on to held (up_plan l held.place cap (exchanging w r)) (chosen (number l (Count held.place)) w r) (quiet t)
+
+-- the reference has come
+abbrev up_got : Thread → Held → Thread
+up_got t held = put answers.Ok (record (quiet t) { hands = t.hands + 1; event = Some (acts.Copy (Hand held.hand) (t.hands + 1)) })
+
+up_read : (t : Thread) (words : List ℕ) (l : Extent) (cap to : ℕ) (held : Held) (step : Step) (intent : Intent) → t.asked ≡ moves.Step step intent →
+    Goes t words words (doings.Copying to held (up_plan l held.place cap attempt.Loading)) (turned_at (Some (count_at words l held.place)) (doings.Copying to held (up_plan l held.place cap attempt.Loading)) (quiet t))
+up_read t words l cap to held step intent asked = go (unpacked (count_at words l held.place))
+  where
+    told : Goes t words words (doings.Copying to held (up_plan l held.place cap attempt.Loading)) (quiet t)
+    told = record { layout = refl; phases = refl; program = refl; count = refl; phase = stays t.asked step intent t.phase asked; fewer = omega arith }
+
+    on : (dead full : Bool) (new : ℕ) → Goes t words words (doings.Copying to held (up_plan l held.place cap attempt.Loading)) (up_by t l cap to held (count_at words l held.place) (cond dead (Tell ups.Dead) (cond full (Tell ups.AtCap) (Write new))))
+    on true full new = told
+    on false true new = told
+    on false false new = record { layout = refl; phases = refl; program = refl; count = refl; phase = refl; fewer = rw (eqb_same (count_at words l held.place)) (omega arith) }
+
+    go : (o : Option Word) → Goes t words words (doings.Copying to held (up_plan l held.place cap attempt.Loading)) (up_by t l cap to held (count_at words l held.place) (strong_up_row cap o))
+    go None = told
+    go (Some word.Free) = told
+    go (Some (word.Slow e)) = told
+    go (Some (word.Counts c)) = on c.deiniting (eqb c.strong_extra cap) (packed (word.Counts (strong_more c)))
+
+up_made : (t : Thread) (words after : List ℕ) (l : Extent) (cap to : ℕ) (held : Held) (seen new : ℕ) → t.layout.slots ≤ 4096 → t.index < length t.program →
+    Goes t words after (doings.Copying to held (up_plan l held.place cap (attempt.Exchanging seen new))) (turned_at (Some (count_at words l held.place)) (doings.Copying to held (up_plan l held.place cap (attempt.Exchanging seen new))) (quiet t))
+up_made t words after l cap to held seen new slots here = go (eqb (count_at words l held.place) seen) refl
+  where
+    go : (b : Bool) → eqb (count_at words l held.place) seen ≡ b → Goes t words after (doings.Copying to held (up_plan l held.place cap (attempt.Exchanging seen new)))
+        (copied_on to held (up_plan l held.place cap attempt.Ended) (nexts.Done (cond b ups.Up (ups.Again (record { seen = seen; found = count_at words l held.place })))) (quiet t))
+    go true e = goes_to t (up_got t held) _ words after _ (4200 * busy_units t + 8) (record { layout = refl; phases = refl; program = refl; count = refl; phase = refl }) (replaced_comes (up_got t held) to (record { hand = t.hands + 1; place = held.place }) slots here) (rw e (omega arith))
+    go false e = record { layout = refl; phases = refl; program = refl; count = refl; phase = refl; fewer = rw e (omega arith) }
+
+-- ---- a reference is given up
+
+abbrev down_plan : Extent → ℕ → AttemptAt → Attempt
+down_plan l s at = record { layout = l; slot = s; at = at }
+
+abbrev down_by : Thread → Extent → Held → ℕ → Choice StrongDownAnswer → Thread
+down_by t l held w r = dropped_on held (down_plan l held.place (exchanging w r)) (chosen (number l (Count held.place)) w r) (quiet t)
+
+abbrev down_told : Thread → Extent → Held → StrongDownAnswer → Thread
+down_told t l held a = dropped_on held (down_plan l held.place attempt.Ended) (nexts.Done a) (quiet t)
+
+down_read : (t : Thread) (words : List ℕ) (l : Extent) (held : Held) (step : Step) (intent : Intent) → t.layout.slots ≤ 4096 → t.asked ≡ moves.Step step intent →
+    Goes t words words (doings.Dropping held (down_plan l held.place attempt.Loading)) (turned_at (Some (count_at words l held.place)) (doings.Dropping held (down_plan l held.place attempt.Loading)) (quiet t))
+down_read t words l held step intent slots asked = go (unpacked (count_at words l held.place))
+  where
+    more : Goes t words words (doings.Dropping held (down_plan l held.place attempt.Loading)) (next_op (record (quiet t) { event = Some (acts.Drop held.hand false) }))
+    more = goes_to t (record (quiet t) { event = Some (acts.Drop held.hand false) }) _ words words _ (4200 * busy_units t) (record { layout = refl; phases = refl; program = refl; count = refl; phase = refl })
+        (next_comes (record (quiet t) { event = Some (acts.Drop held.hand false) }) slots) (omega arith)
+
+    go : (o : Option Word) → Goes t words words (doings.Dropping held (down_plan l held.place attempt.Loading)) (down_by t l held (count_at words l held.place) (strong_down_row o))
+    go None = more
+    go (Some word.Free) = more
+    go (Some (word.Slow e)) = record { layout = refl; phases = refl; program = refl; count = refl; phase = stays t.asked step intent t.phase asked; fewer = omega arith }
+    go (Some (word.Counts c)) = record { layout = refl; phases = refl; program = refl; count = refl; phase = refl; fewer = rw (eqb_same (count_at words l held.place)) (omega arith) }
+
+down_made : (t : Thread) (words after : List ℕ) (l : Extent) (held : Held) (seen new : ℕ) → t.layout.slots ≤ 4096 →
+    Goes t words after (doings.Dropping held (down_plan l held.place (attempt.Exchanging seen new))) (turned_at (Some (count_at words l held.place)) (doings.Dropping held (down_plan l held.place (attempt.Exchanging seen new))) (quiet t))
+down_made t words after l held seen new slots = go (eqb (count_at words l held.place) seen) refl
+  where
+    more : eqb (count_at words l held.place) seen ≡ true → Goes t words after (doings.Dropping held (down_plan l held.place (attempt.Exchanging seen new))) (next_op (record (quiet t) { event = Some (acts.Drop held.hand false) }))
+    more e = goes_to t (record (quiet t) { event = Some (acts.Drop held.hand false) }) _ words after _ (4200 * busy_units t) (record { layout = refl; phases = refl; program = refl; count = refl; phase = refl })
+        (next_comes (record (quiet t) { event = Some (acts.Drop held.hand false) }) slots) (rw e (omega arith))
+
+    counted : (b : Bool) → eqb (count_at words l held.place) seen ≡ true → Goes t words after (doings.Dropping held (down_plan l held.place (attempt.Exchanging seen new))) (down_told t l held (cond b downs.Last downs.More))
+    counted true e = record { layout = refl; phases = refl; program = refl; count = refl; phase = refl; fewer = rw e (omega arith) }
+    counted false e = more e
+
+    hit : (o : Option Word) → eqb (count_at words l held.place) seen ≡ true → Goes t words after (doings.Dropping held (down_plan l held.place (attempt.Exchanging seen new))) (down_told t l held (strong_down_end o))
+    hit None e = more e
+    hit (Some word.Free) e = more e
+    hit (Some (word.Slow x)) e = more e
+    hit (Some (word.Counts c)) e = counted (eqb c.strong_extra 0) e
+
+    go : (b : Bool) → eqb (count_at words l held.place) seen ≡ b → Goes t words after (doings.Dropping held (down_plan l held.place (attempt.Exchanging seen new)))
+        (down_told t l held (cond b (strong_down_end (unpacked seen)) (downs.Again (record { seen = seen; found = count_at words l held.place }))))
+    go true e = hit (unpacked seen) e
+    go false e = record { layout = refl; phases = refl; program = refl; count = refl; phase = refl; fewer = rw e (omega arith) }
+
+-- ---- an object dies
+
+abbrev dying_state : Extent → HeapShape → ℕ → Option Act → At → CascadeState
+dying_state l shape s event at = record { layout = l; shape = shape; slot = s; at = at; event = event }
+
+-- the deinit is over
+over : (t : Thread) (words after : List ℕ) (event : Option Act) (d : Doing) → t.layout.slots ≤ 4096 → 4200 * busy_units t < doing_left words t d → Goes t words after d (next_op (record (quiet t) { event = event }))
+over t words after event d slots lt =
+    goes_to t (record (quiet t) { event = event }) (next_op (record (quiet t) { event = event })) words after d (4200 * busy_units t) (record { layout = refl; phases = refl; program = refl; count = refl; phase = refl })
+    (next_comes (record (quiet t) { event = event }) slots) lt
+
+-- a cascade at its end goes on, by what its attempt says
+abbrev dying_by : Thread → Extent → HeapShape → ℕ → Option Act → (before after : AttemptAt) → NextStep UnownedDownAnswer → Thread
+dying_by t l shape s event before after next =
+    dying_on (finish_turned (dying_state l shape s None at.Ended) (down_plan l s after) next) (finish_says (dying_state l shape s event (at.Finishing (down_plan l s before))) next)
+    (record (quiet t) { event = (finish_turned (dying_state l shape s None at.Ended) (down_plan l s after) next).event })
+
+finish_read : (t : Thread) (words : List ℕ) (l : Extent) (shape : HeapShape) (s : ℕ) (event : Option Act) → t.layout.slots ≤ 4096 →
+    Goes t words words (doings.Dying (dying_state l shape s event (at.Finishing (down_plan l s attempt.Loading)))) (turned_at (Some (count_at words l s)) (doings.Dying (dying_state l shape s event (at.Finishing (down_plan l s attempt.Loading)))) (quiet t))
+finish_read t words l shape s event slots = go (unpacked (count_at words l s))
+  where
+    go : (o : Option Word) → Goes t words words (doings.Dying (dying_state l shape s event (at.Finishing (down_plan l s attempt.Loading)))) (dying_by t l shape s event attempt.Loading (exchanging (count_at words l s) (unowned_down_row o)) (chosen (number l (Count s)) (count_at words l s) (unowned_down_row o)))
+    go None = over t words words _ _ slots (omega arith)
+    go (Some word.Free) = over t words words _ _ slots (omega arith)
+    go (Some (word.Slow e)) = over t words words _ _ slots (omega arith)
+    go (Some (word.Counts c)) = record { layout = refl; phases = refl; program = refl; count = refl; phase = refl; fewer = rw (eqb_same (count_at words l s)) (omega arith) }
+
+abbrev Gone : Thread → (words after : List ℕ) → Extent → HeapShape → ℕ → Option Act → (seen new : ℕ) → UnownedDownAnswer → Type 0
+Gone t words after l shape s event seen new a =
+    Goes t words after (doings.Dying (dying_state l shape s event (at.Finishing (down_plan l s (attempt.Exchanging seen new))))) (dying_by t l shape s event (attempt.Exchanging seen new) attempt.Ended (nexts.Done a))
+
+finish_made : (t : Thread) (words after : List ℕ) (l : Extent) (shape : HeapShape) (s : ℕ) (event : Option Act) (seen new : ℕ) → t.layout.slots ≤ 4096 →
+    Goes t words after (doings.Dying (dying_state l shape s event (at.Finishing (down_plan l s (attempt.Exchanging seen new)))))
+    (turned_at (Some (count_at words l s)) (doings.Dying (dying_state l shape s event (at.Finishing (down_plan l s (attempt.Exchanging seen new))))) (quiet t))
+finish_made t words after l shape s event seen new slots = go (eqb (count_at words l s) seen) refl
+  where
+    counted : (b : Bool) → eqb (count_at words l s) seen ≡ true → Gone t words after l shape s event seen new (cond b less.Last less.More)
+    counted true e = record { layout = refl; phases = refl; program = refl; count = refl; phase = refl; fewer = rw e (omega arith) }
+    counted false e = over t words after _ _ slots (rw e (omega arith))
+
+    hit : (o : Option Word) → eqb (count_at words l s) seen ≡ true → Gone t words after l shape s event seen new (unowned_down_end o)
+    hit None e = over t words after _ _ slots (rw e (omega arith))
+    hit (Some word.Free) e = over t words after _ _ slots (rw e (omega arith))
+    hit (Some (word.Slow x)) e = over t words after _ _ slots (rw e (omega arith))
+    hit (Some (word.Counts c)) e = counted (eqb c.unowned 1) e
+
+    go : (b : Bool) → eqb (count_at words l s) seen ≡ b → Gone t words after l shape s event seen new (cond b (unowned_down_end (unpacked seen)) (less.Again (record { seen = seen; found = count_at words l s })))
+    go true e = hit (unpacked seen) e
+    go false e = record { layout = refl; phases = refl; program = refl; count = refl; phase = refl; fewer = rw e (omega arith) }
+
+-- ---- whatever it is doing
+
+-- what the thread is after the step, which was doing this
+abbrev Falls : Thread → List ℕ → Step → Doing → Type 0
+Falls t words step d = Goes t words (made_by step words) d (turned_at (Some (found_by step words)) d (quiet t))
+
+falls_at : (shape : HeapShape) (t : Thread) (words : List ℕ) (step : Step) (intent : Intent) (d : Doing) → t.layout.slots ≤ 4096 → t.asked ≡ moves.Step step intent → Asks shape t d →
+    IsUnderWay t.layout t.shape (length t.vars) d → IsInOperation t d → Falls t words step d
+falls_at shape t words step intent d slots asked a u o = go d a u o
+  where
+    l : Extent
+    l = extent_of shape
+
+    making : (to : ℕ) (name : ObjectName) (slot : ℕ) (x : Search) → SearchAsks shape t.asked name slot x → slot < t.layout.slots → t.index < length t.program → Falls t words step (doings.Making to name slot (record { layout = extent_of shape; name = name; at = x }))
+    making to name slot search.Start h lt here = absurd h
+    making to name slot (search.Trying x) h lt here =
+        let is : step ≡ trial (extent_of shape) slot = rw (h.0) at (asked_is t.asked step (trial (extent_of shape) x) intent (intents.New name.class) asked h.1) in
+        rw (is, h.0) (trying t words (made_by (trial (extent_of shape) slot) words) (extent_of shape) to name slot (count_at words (extent_of shape) slot) slots lt)
+    making to name slot (search.Naming x) h lt here =
+        rw (h.0) (named t words (made_by step words) (extent_of shape) to name slot (found_by step words) slots here)
+    making to name slot search.Ended h lt here = absurd h
+
+    copying : (to : ℕ) (held : Held) (x : AttemptAt) → AttemptAsks shape t.asked held.place (intents.Copy (Hand held.hand)) x → t.index < length t.program → Falls t words step (doings.Copying to held (up_plan (extent_of shape) held.place shape.caps.strong x))
+    copying to held attempt.Start h here = absurd h
+    copying to held attempt.Loading h here =
+        let is = asked_is t.asked step (Load (number (extent_of shape) (Count held.place))) intent (intents.Copy (Hand held.hand)) asked h in
+        rw is (up_read t words (extent_of shape) shape.caps.strong to held step intent asked)
+    copying to held (attempt.Exchanging seen new) h here =
+        let is = asked_is t.asked step (Exchange (number (extent_of shape) (Count held.place)) seen new) intent (intents.Copy (Hand held.hand)) asked h in
+        rw is (up_made t words (made_by (Exchange (number (extent_of shape) (Count held.place)) seen new) words) (extent_of shape) shape.caps.strong to held seen new slots here)
+    copying to held attempt.Ended h here = absurd h
+
+    dropping : (held : Held) (x : AttemptAt) → AttemptAsks shape t.asked held.place (intents.Drop held.hand) x → Falls t words step (doings.Dropping held (down_plan (extent_of shape) held.place x))
+    dropping held attempt.Start h = absurd h
+    dropping held attempt.Loading h =
+        let is = asked_is t.asked step (Load (number (extent_of shape) (Count held.place))) intent (intents.Drop held.hand) asked h in
+        rw is (down_read t words (extent_of shape) held step intent slots asked)
+    dropping held (attempt.Exchanging seen new) h =
+        let is = asked_is t.asked step (Exchange (number (extent_of shape) (Count held.place)) seen new) intent (intents.Drop held.hand) asked h in
+        rw is (down_made t words (made_by (Exchange (number (extent_of shape) (Count held.place)) seen new) words) (extent_of shape) held seen new slots)
+    dropping held attempt.Ended h = absurd h
+
+    finishing : (s : ℕ) (event : Option Act) (x : AttemptAt) → AttemptAsks shape t.asked s (intents.Deinit s) x → Falls t words step (doings.Dying (dying_state (extent_of shape) shape s event (at.Finishing (down_plan (extent_of shape) s x))))
+    finishing s event attempt.Start h = absurd h
+    finishing s event attempt.Loading h =
+        let is = asked_is t.asked step (Load (number (extent_of shape) (Count s))) intent (intents.Deinit s) asked h in
+        rw is (finish_read t words (extent_of shape) shape s event slots)
+    finishing s event (attempt.Exchanging seen new) h =
+        let is = asked_is t.asked step (Exchange (number (extent_of shape) (Count s)) seen new) intent (intents.Deinit s) asked h in
+        rw is (finish_made t words (made_by (Exchange (number (extent_of shape) (Count s)) seen new) words) (extent_of shape) shape s event seen new slots)
+    finishing s event attempt.Ended h = absurd h
+
+    vacating : (s : ℕ) (event : Option Act) (x : Once) → VacateAsks shape t.asked s x → Falls t words step (doings.Dying (dying_state (extent_of shape) shape s event (at.Vacating (record { layout = extent_of shape; slot = s; at = x }))))
+    vacating s event once.Start h = absurd h
+    vacating s event once.Asked h = over t words (made_by step words) _ _ slots (omega arith)
+    vacating s event once.Ended h = absurd h
+
+    dying : (s : ℕ) (event : Option Act) (x : At) → CascadeAsks shape t.asked s x → Falls t words step (doings.Dying (dying_state (extent_of shape) shape s event x))
+    dying s event at.Start h = absurd h
+    dying s event at.Entering h = record { layout = refl; phases = refl; program = refl; count = refl; phase = refl; fewer = omega arith }
+    dying s event at.Naming h = record { layout = refl; phases = refl; program = refl; count = refl; phase = refl; fewer = omega arith }
+    dying s event (at.Named name) h = absurd h
+    dying s event at.Leaving h = record { layout = refl; phases = refl; program = refl; count = refl; phase = refl; fewer = omega arith }
+    dying s event (at.Finishing p) h = rw (h.0) (finishing s event p.at h.1)
+    dying s event (at.Vacating p) h = rw (h.0) (vacating s event p.at h.1)
+    dying s event at.Ended h = absurd h
+
+    go : (d : Doing) → Asks shape t d → IsUnderWay t.layout t.shape (length t.vars) d → IsInOperation t d → Falls t words step d
+    go doings.Ready a u o = absurd (let k : t.asked ≡ moves.PhaseEnd = a in cc)
+    go (doings.Making to name slot plan) a u o = rw (a.0) (making to name slot plan.at a.1 u.1 o.0)
+    go (doings.Copying to held plan) a u o = rw (a.0) (copying to held plan.at a.1 o.0)
+    go (doings.Dropping held plan) a u o = rw (a.0) (dropping held plan.at a.1)
+    go (doings.Dying c) a u o = rw (a.0) (dying c.slot c.event c.at a.1)
+    go doings.Ended a u o = absurd (let k : t.asked ≡ moves.Ended = a.0 in cc)
+
+-- A thread that is given what its step finds has fewer steps left.
+pub falls : (shape : HeapShape) (t : Thread) (words : List ℕ) (step : Step) (intent : Intent) → IsStepper t → Asks shape t t.doing → t.asked ≡ moves.Step step intent → Falls t words step t.doing
+falls shape t words step intent s a asked = falls_at shape t words step intent t.doing s.slots asked a s.under_way s.in_operation
+
+-- a thread that waits for its next phase has nothing under way
+ready : (shape : HeapShape) (t : Thread) (d : Doing) → Asks shape t d → t.asked ≡ moves.PhaseEnd → d ≡ doings.Ready
+ready shape t d a asked = go d a
+  where
+    stepping : (step : Step) (intent : Intent) → t.asked ≡ moves.Step step intent → ⊥
+    stepping step intent h = cc
+
+    making : (name : ObjectName) (slot : ℕ) (x : Search) → SearchAsks shape t.asked name slot x → ⊥
+    making name slot search.Start h = h
+    making name slot (search.Trying s) h = stepping _ _ h.1
+    making name slot (search.Naming s) h = stepping _ _ h.1
+    making name slot search.Ended h = h
+
+    attempting : (s : ℕ) (intent : Intent) (x : AttemptAt) → AttemptAsks shape t.asked s intent x → ⊥
+    attempting s intent attempt.Start h = h
+    attempting s intent attempt.Loading h = stepping _ _ h
+    attempting s intent (attempt.Exchanging seen new) h = stepping _ _ h
+    attempting s intent attempt.Ended h = h
+
+    vacating : (s : ℕ) (x : Once) → VacateAsks shape t.asked s x → ⊥
+    vacating s once.Start h = h
+    vacating s once.Asked h = stepping _ _ h
+    vacating s once.Ended h = h
+
+    dying : (s : ℕ) (x : At) → CascadeAsks shape t.asked s x → ⊥
+    dying s at.Start h = h
+    dying s at.Entering h = stepping _ _ h
+    dying s at.Naming h = stepping _ _ h
+    dying s (at.Named name) h = h
+    dying s at.Leaving h = stepping _ _ h
+    dying s (at.Finishing p) h = attempting s _ p.at h.1
+    dying s (at.Vacating p) h = vacating s p.at h.1
+    dying s at.Ended h = h
+
+    go : (d : Doing) → Asks shape t d → d ≡ doings.Ready
+    go doings.Ready a = refl
+    go (doings.Making to name slot plan) a = absurd (making name slot plan.at a.1)
+    go (doings.Copying to held plan) a = absurd (attempting held.place _ plan.at a.1)
+    go (doings.Dropping held plan) a = absurd (attempting held.place _ plan.at a.1)
+    go (doings.Dying c) a = absurd (dying c.slot c.at a.1)
+    go doings.Ended a = absurd (let h : t.asked ≡ moves.Ended = a.0 in cc)
+
+-- A thread that waits for its next phase begins it.
+pub begins_phase : (shape : HeapShape) (t : Thread) → t.layout.slots ≤ 4096 → Asks shape t t.doing → t.asked ≡ moves.PhaseEnd → Comes t (turned t None) (4200 * units t)
+begins_phase shape t slots asks asked = go t.doing (ready shape t t.doing asks asked)
+  where
+    go : (d : Doing) → d ≡ doings.Ready → Comes t (turned_at None d (quiet t)) (4200 * units t)
+    go d e = rw e (after_same t (quiet t) (begun (quiet t)) (4200 * units t) (4200 * units t) (record { layout = refl; phases = refl; program = refl; count = refl; phase = refl }) (begins (quiet t) slots) (omega arith))

@@ -1,0 +1,214 @@
+-- A thread that goes on to its next operation stays in its program, and owes no more steps than before.
+use Rattle.std.proofs.Common.{◌≡◌, ℕ, zero, suc, ◌+◌, ◌-◌, ◌*◌, ◌≤◌, ◌<◌, Bool, true, false, cond, ltb, List, [], ◌∷◌, length, take, drop, get_or, set, Option, Some, None, refl, ap, ◌∙◌, subst, sym, arith, length-drop}
+use Rattle.std.proofs.lemmas.List.{length-set, length-take}
+use Rattle.std.proofs.lemmas.List.Sums.{sum_by-cons}
+use Rattle.std.proofs.lemmas.Bool.{ltb-false}
+use Rattle.std.proofs.lemmas.List.Quantifiers.{position-Some}
+use Rattle.std.specs.Prelude.{position, sum_by}
+use Rattle.arc_rule.specs.Extents.{Extent}
+use Rattle.arc_script.specs.declared.script.Op.{Op}
+use Rattle.arc_script.specs.declared.script.Op.TheVariants as op
+use Rattle.arc_model.specs.declared.answer.Answer.{Answer}
+use Rattle.arc_model.specs.declared.answer.Answer.TheVariants as answers
+use Rattle.arc_ops.specs.declared.stepper.Held.{Held}
+use Rattle.arc_ops.specs.declared.stepper.Doing.TheVariants as doings
+use Rattle.arc_ops.specs.declared.stepper.Move.{Move}
+use Rattle.arc_ops.specs.declared.stepper.Move.TheVariants as moves
+use Rattle.arc_ops.specs.Thread.{Thread, value, set_var, put, skipped, moved, is_held, drop_begun, make_begun, begun_nil, begun_copy, begun_move, begun_drop, begun_op, scope_at, scope_drop, scope_begun, phase_end, phase_over, begun_at, begun, next_op, replaced, replaced_old}
+use Rattle.arc_plain.specs.Left.{held_unit, units, busy_units, left}
+
+-- where a thread comes to the end of a phase it is at the next one, and else at the same one
+abbrev pub IsPhase : ℕ → Move → ℕ → Type 0
+IsPhase k (moves.Step step intent) n = n ≡ k
+IsPhase k moves.PhaseEnd n = n ≡ k + 1
+IsPhase k moves.Ended n = n ≡ k
+
+-- a thread has become another state of it, which has at most so many steps left
+pub record Comes (t u : Thread) (bound : ℕ) : Type 0 where
+  pub layout : u.layout ≡ t.layout
+  pub phases : u.phases ≡ t.phases
+  pub program : u.program ≡ t.program
+  pub count : length u.vars ≡ length t.vars
+  pub phase : IsPhase t.phase u.asked u.phase
+  pub few : (words : List ℕ) → left words u ≤ bound
+
+-- nothing of this changed but the variables' values, the place in the program and what is told
+pub record Same (t u : Thread) : Type 0 where
+  pub layout : u.layout ≡ t.layout
+  pub phases : u.phases ≡ t.phases
+  pub program : u.program ≡ t.program
+  pub count : length u.vars ≡ length t.vars
+  pub phase : u.phase ≡ t.phase
+
+pub after_same : (t u x : Thread) (a b : ℕ) → Same t u → Comes u x a → a ≤ b → Comes t x b
+after_same t u x a b s c le = record {
+  layout = c.layout ∙ s.layout;
+  phases = c.phases ∙ s.phases;
+  program = c.program ∙ s.program;
+  count = c.count ∙ s.count;
+  phase = subst (λ (k : ℕ). IsPhase k x.asked x.phase) s.phase c.phase;
+  few = λ words. let f = c.few words in omega arith;
+}
+
+-- a variable gets another value
+pub units_set : (vars : List (Option Held)) (v : ℕ) (new : Option Held) → sum_by held_unit (set vars v new) + held_unit (get_or vars v None) ≤ sum_by held_unit vars + held_unit new
+units_set [] v new = omega arith
+units_set (o ∷ vars) zero new = let a = sum_by-cons held_unit o vars in let b = sum_by-cons held_unit new vars in omega arith
+units_set (o ∷ vars) (suc v) new = let h = units_set vars v new in let a = sum_by-cons held_unit o vars in let b = sum_by-cons held_unit o (set vars v new) in omega arith
+
+pub unit_few : (o : Option Held) → held_unit o ≤ 1
+unit_few None = omega arith
+unit_few (Some held) = omega arith
+
+-- a drop begins
+pub drop_comes : (t : Thread) (held : Held) → Comes t (drop_begun held t) (4200 * busy_units t + 8)
+drop_comes t held = record { layout = refl; phases = refl; program = refl; count = refl; phase = refl; few = λ words. omega arith }
+
+-- the value of a variable that refers is dropped
+taken : (t : Thread) (v : ℕ) (held : Held) → value t.vars v ≡ Some held → Same t (set_var v None t) × (sum_by held_unit (set t.vars v None) + 1 ≤ sum_by held_unit t.vars)
+taken t v held is =
+    let e = units_set t.vars v None in
+    let at : held_unit (get_or t.vars v None) ≡ 1 = ap held_unit is in
+    (record { layout = refl; phases = refl; program = refl; count = length-set t.vars v None; phase = refl }, omega arith)
+
+-- the end of the scope
+pub scope_comes : (t : Thread) → Comes t (scope_begun t) (4200 * units t)
+scope_comes t = go (position is_held t.vars) refl
+  where
+    dropping : (v : ℕ) (o : Option Held) → value t.vars v ≡ o → is_held o ≡ true → Comes t (scope_drop v o t) (4200 * units t)
+    dropping v None is held = absurd (cc)
+    dropping v (Some h) is held =
+        let fewer = taken t v h is in
+        let less = fewer.1 in
+        after_same t (set_var v None t) (drop_begun h (set_var v None t)) (4200 * busy_units (set_var v None t) + 8) (4200 * units t) fewer.0 (drop_comes (set_var v None t) h) (omega arith)
+
+    go : (o : Option ℕ) → position is_held t.vars ≡ o → Comes t (scope_at o t) (4200 * units t)
+    go None e = record { layout = refl; phases = refl; program = refl; count = refl; phase = refl; few = λ words. omega arith }
+    go (Some v) e = let found = position-Some is_held t.vars v None e in dropping v (value t.vars v) refl found.1
+
+-- the end of the phase
+pub phase_comes : (t : Thread) → Comes t (phase_over t) (4200 * units t)
+phase_comes t = go (ltb (t.phase + 1) (length t.phases))
+  where
+    go : (b : Bool) → Comes t (cond b (record t { doing = doings.Ready; asked = moves.PhaseEnd; phase = t.phase + 1 }) (scope_begun t)) (4200 * units t)
+    go true = record { layout = refl; phases = refl; program = refl; count = refl; phase = refl; few = λ words. omega arith }
+    go false = scope_comes t
+
+-- what an operation does that begins, where an operation that asks for no step leaves the rest for later
+op_comes : (o : Op) (t : Thread) (rest : Thread → Thread) → t.index < length t.program → t.layout.slots ≤ 4096 →
+    ((u : Thread) → Same t u → u.index ≡ t.index + 1 → sum_by held_unit u.vars ≤ sum_by held_unit t.vars + 1 → Comes u (rest u) (4200 * units u)) → Comes t (begun_op o t rest) (4200 * units t)
+op_comes o t rest here slots later = at o
+  where
+    -- an operation that is done at once
+    behind : (u : Thread) → Same t u → u.index ≡ t.index + 1 → sum_by held_unit u.vars ≤ sum_by held_unit t.vars + 1 → Comes t (rest u) (4200 * units t)
+    behind u same index vars =
+        let program : length u.program ≡ length t.program = ap (λ (ops : List Op). length ops) same.program in
+        after_same t u (rest u) (4200 * units u) (4200 * units t) same (later u same index vars) (omega arith)
+
+    skips : (answer : Answer) → Comes t (rest (skipped answer t)) (4200 * units t)
+    skips answer = behind (skipped answer t) (record { layout = refl; phases = refl; program = refl; count = refl; phase = refl }) refl (omega arith)
+
+    -- the old value of a variable is dropped, by an operation that is under way
+    drops : (u : Thread) (v : ℕ) (held : Held) → Same t u → u.index ≡ t.index → sum_by held_unit u.vars ≤ sum_by held_unit t.vars → value u.vars v ≡ Some held → Comes t (drop_begun held (set_var v None u)) (4200 * units t)
+    drops u v held same index vars is =
+        let fewer = taken u v held is in
+        let less = fewer.1 in
+        let program : length u.program ≡ length t.program = ap (λ (ops : List Op). length ops) same.program in
+        after_same t u (drop_begun held (set_var v None u)) (4200 * busy_units (set_var v None u) + 8) (4200 * units t) same
+        (after_same u (set_var v None u) (drop_begun held (set_var v None u)) (4200 * busy_units (set_var v None u) + 8) (4200 * busy_units (set_var v None u) + 8) fewer.0 (drop_comes (set_var v None u) held) (omega arith)) (omega arith)
+
+    makes : (to class : ℕ) → Comes t (make_begun to class (record t { first = true })) (4200 * units t)
+    makes to class = record { layout = refl; phases = refl; program = refl; count = refl; phase = refl; few = λ words. omega arith }
+
+    nil : (to : ℕ) (old : Option Held) → value t.vars to ≡ old → Comes t (begun_nil to old t rest) (4200 * units t)
+    nil to (Some old) is = drops (put answers.Nil (record t { first = true })) to old (record { layout = refl; phases = refl; program = refl; count = refl; phase = refl }) refl (omega arith) is
+    nil to None is = skips answers.Nil
+
+    copying : (to : ℕ) (from old : Option Held) → value t.vars to ≡ old → Comes t (begun_copy to from old t rest) (4200 * units t)
+    copying to (Some held) old is = record { layout = refl; phases = refl; program = refl; count = refl; phase = refl; few = λ words. omega arith }
+    copying to None old is = nil to old is
+
+    counts : (to from : ℕ) (held : Held) → length (set (set t.vars to (Some held)) from None) ≡ length t.vars
+    counts to from held = length-set (set t.vars to (Some held)) from None ∙ length-set t.vars to (Some held)
+
+    moving : (to from : ℕ) (held old : Option Held) → value t.vars to ≡ old → Comes t (begun_move to from held old t rest) (4200 * units t)
+    moving to from (Some held) (Some old) is =
+        let a = units_set t.vars to (Some held) in
+        let b = units_set (set t.vars to (Some held)) from None in
+        let at : held_unit (get_or t.vars to None) ≡ 1 = ap held_unit is in
+        after_same t (moved to from held (put answers.Ok (record t { first = true }))) (drop_begun old (moved to from held (put answers.Ok (record t { first = true }))))
+        (4200 * busy_units (moved to from held (put answers.Ok (record t { first = true }))) + 8) (4200 * units t)
+        (record { layout = refl; phases = refl; program = refl; count = counts to from held; phase = refl })
+        (drop_comes (moved to from held (put answers.Ok (record t { first = true }))) old) (omega arith)
+    moving to from (Some held) None is =
+        let a = units_set t.vars to (Some held) in
+        let b = units_set (set t.vars to (Some held)) from None in
+        behind (moved to from held (skipped answers.Ok t)) (record { layout = refl; phases = refl; program = refl; count = counts to from held; phase = refl }) refl (omega arith)
+    moving to from None old is = nil to old is
+
+    dropping : (v : ℕ) (held : Option Held) → value t.vars v ≡ held → Comes t (begun_drop v held t rest) (4200 * units t)
+    dropping v (Some held) is = drops (put answers.Ok (record t { first = true })) v held (record { layout = refl; phases = refl; program = refl; count = refl; phase = refl }) refl (omega arith) is
+    dropping v None is = skips answers.Nil
+
+    at : (o : Op) → Comes t (begun_op o t rest) (4200 * units t)
+    at (op.New to class) = makes to class
+    at (op.Copy to from) = copying to (value t.vars from) (value t.vars to) refl
+    at (op.Move to from) = moving to from (value t.vars from) (value t.vars to) refl
+    at (op.Drop v) = dropping v (value t.vars v) refl
+    at (op.Unown to of) = skips answers.Nil
+    at (op.Weak to of) = skips answers.Nil
+    at (op.Load to of) = skips answers.Nil
+    at (op.Get to cell) = skips answers.Nil
+    at (op.Set cell from) = skips answers.Nil
+
+-- the thread goes on to the first of these operations that asks for a step
+begins_at : (ops : List Op) (t : Thread) → t.layout.slots ≤ 4096 → length ops ≤ length t.program - t.index → Comes t (begun_at ops t) (4200 * units t)
+begins_at [] t slots few = phase_comes t
+begins_at (o ∷ ops) t slots few =
+    op_comes o t (λ (behind : Thread). begun_at ops behind) (omega arith) slots
+    (λ u same index vars.
+    let program : length u.program ≡ length t.program = ap (λ (xs : List Op). length xs) same.program in
+    let fits : u.layout.slots ≤ 4096 = subst (λ (l : Extent). l.slots ≤ 4096) (sym same.layout) slots in
+    begins_at ops u fits (omega arith))
+
+pub begins : (t : Thread) → t.layout.slots ≤ 4096 → Comes t (begun t) (4200 * units t)
+begins t slots = begins_at (drop t.index (take (phase_end t) t.program)) t slots (let a = length-drop t.index (take (phase_end t) t.program) in let b = length-take (phase_end t) t.program in omega arith)
+
+-- the operation, or a drop at the end of the scope, is over
+pub next_comes : (t : Thread) → t.layout.slots ≤ 4096 → Comes t (next_op t) (4200 * busy_units t)
+next_comes t slots = go (ltb t.index (length t.program)) refl
+  where
+    go : (b : Bool) → ltb t.index (length t.program) ≡ b → Comes t (begun (record t { doing = doings.Ended; index = cond b (t.index + 1) t.index })) (4200 * busy_units t)
+    go true e =
+        after_same t (record t { doing = doings.Ended; index = t.index + 1 }) (begun (record t { doing = doings.Ended; index = t.index + 1 })) (4200 * units (record t { doing = doings.Ended; index = t.index + 1 })) (4200 * busy_units t)
+        (record { layout = refl; phases = refl; program = refl; count = refl; phase = refl }) (begins (record t { doing = doings.Ended; index = t.index + 1 }) slots) (omega arith)
+    go false e =
+        let past = ltb-false t.index (length t.program) e in
+        after_same t (record t { doing = doings.Ended }) (begun (record t { doing = doings.Ended })) (4200 * units (record t { doing = doings.Ended })) (4200 * busy_units t)
+        (record { layout = refl; phases = refl; program = refl; count = refl; phase = refl }) (begins (record t { doing = doings.Ended }) slots) (omega arith)
+
+-- a variable gets a reference, and what it held before is dropped last
+pub replaced_comes : (t : Thread) (to : ℕ) (held : Held) → t.layout.slots ≤ 4096 → t.index < length t.program → Comes t (replaced to held t) (4200 * busy_units t + 8)
+replaced_comes t to held slots here = go (value t.vars to) refl
+  where
+    same : Same t (set_var to (Some held) t)
+    same = record { layout = refl; phases = refl; program = refl; count = length-set t.vars to (Some held); phase = refl }
+
+    go : (old : Option Held) → value t.vars to ≡ old → Comes t (replaced_old old (set_var to (Some held) t)) (4200 * busy_units t + 8)
+    go (Some old) is =
+        let a = units_set t.vars to (Some held) in
+        let at : held_unit (get_or t.vars to None) ≡ 1 = ap held_unit is in
+        after_same t (set_var to (Some held) t) (drop_begun old (set_var to (Some held) t)) (4200 * busy_units (set_var to (Some held) t) + 8) (4200 * busy_units t + 8) same (drop_comes (set_var to (Some held) t) old) (omega arith)
+    go None is =
+        let a = units_set t.vars to (Some held) in
+        let on = ends_op (ltb t.index (length t.program)) refl in
+        on
+      where
+        ends_op : (b : Bool) → ltb t.index (length t.program) ≡ b → Comes t (begun (record t { vars = set t.vars to (Some held); doing = doings.Ended; index = cond b (t.index + 1) t.index })) (4200 * busy_units t + 8)
+        ends_op true e =
+            let a = units_set t.vars to (Some held) in
+            after_same t (record t { vars = set t.vars to (Some held); doing = doings.Ended; index = t.index + 1 }) (begun (record t { vars = set t.vars to (Some held); doing = doings.Ended; index = t.index + 1 }))
+            (4200 * units (record t { vars = set t.vars to (Some held); doing = doings.Ended; index = t.index + 1 })) (4200 * busy_units t + 8)
+            (record { layout = refl; phases = refl; program = refl; count = length-set t.vars to (Some held); phase = refl })
+            (begins (record t { vars = set t.vars to (Some held); doing = doings.Ended; index = t.index + 1 }) slots) (omega arith)
+        ends_op false e = let past = ltb-false t.index (length t.program) e in absurd (omega arith)

@@ -1,0 +1,59 @@
+-- How many steps a thread may still make in its phase, where nobody else makes one meanwhile.
+use Rattle.std.specs.Prelude.{ℕ, ◌+◌, ◌-◌, ◌*◌, ◌==◌, if◌then◌else◌, List, length, slice_index, sum_by, Option, Some, None}
+use Rattle.arc_rule.specs.Places.{number}
+use Rattle.arc_rule.specs.declared.layout.Place.TheVariants.{Count}
+use Rattle.arc_plan.specs.declared.attempt.At.{At as AttemptAt}
+use Rattle.arc_plan.specs.declared.attempt.At.TheVariants.{Loading, Exchanging}
+use Rattle.arc_plan.specs.declared.slots.Making.{Making as Search}
+use Rattle.arc_plan.specs.declared.slots.Making.TheVariants.{Trying}
+use Rattle.arc_rule.specs.Extents.{Extent}
+use Rattle.arc_cells.specs.declared.cascade.At.{At}
+use Rattle.arc_cells.specs.declared.cascade.At.TheVariants.{Entering, Naming, Leaving, Finishing}
+use Rattle.arc_ops.specs.declared.stepper.Held.{Held}
+use Rattle.arc_ops.specs.declared.stepper.Doing.{Doing}
+use Rattle.arc_ops.specs.declared.stepper.Doing.TheVariants.{Ready, Making, Copying, Dropping, Dying, Ended}
+use Rattle.arc_ops.specs.Thread.{Thread}
+
+abbrev pub held_unit : Option Held → ℕ
+held_unit None = 0
+held_unit (Some held) = 1
+
+-- what is owed for the operations from this one on, and for the variables that are dropped in the end
+abbrev pub units : Thread → ℕ
+units t = 2 * (length t.program - t.index) + sum_by held_unit t.vars
+
+-- the same while an operation is under way
+abbrev pub busy_units : Thread → ℕ
+busy_units t = 2 * (length t.program - t.index) - 1 + sum_by held_unit t.vars
+
+abbrev pub search_left : ℕ → Search → ℕ
+search_left slots (Trying s) = slots - s + 12
+search_left slots _ = 11
+
+-- An attempt that has read another word than the one that is there now is made again.
+abbrev pub attempt_left : ℕ → AttemptAt → ℕ
+attempt_left word Loading = 2
+attempt_left word (Exchanging seen new) = if word == seen then 1 else 3
+attempt_left word _ = 1
+
+-- the inline word of the slot
+abbrev pub count_at : List ℕ → Extent → ℕ → ℕ
+count_at words l s = slice_index words (number l (Count s))
+
+abbrev pub cascade_left : List ℕ → At → ℕ
+cascade_left words Entering = 6
+cascade_left words Naming = 5
+cascade_left words Leaving = 4
+cascade_left words (Finishing p) = 1 + attempt_left (count_at words p.layout p.slot) p.at
+cascade_left words _ = 1
+
+abbrev pub doing_left : List ℕ → Thread → Doing → ℕ
+doing_left words t (Making to name slot plan) = 4200 * busy_units t + search_left t.layout.slots plan.at
+doing_left words t (Copying to held plan) = 4200 * busy_units t + 10 + attempt_left (count_at words plan.layout plan.slot) plan.at
+doing_left words t (Dropping held plan) = 4200 * busy_units t + 6 + attempt_left (count_at words plan.layout plan.slot) plan.at
+doing_left words t (Dying c) = 4200 * busy_units t + cascade_left words c.at
+doing_left words t Ready = 0
+doing_left words t Ended = 0
+
+abbrev pub left : List ℕ → Thread → ℕ
+left words t = doing_left words t t.doing

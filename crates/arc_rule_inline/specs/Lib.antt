@@ -1,4 +1,0 @@
-pub mod Inline
-pub mod References
-pub mod Bare
-pub mod Worked
