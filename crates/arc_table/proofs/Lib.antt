@@ -1,4 +1,5 @@
 pub mod Running
+pub mod Possessing
 pub mod Invariant
 pub mod InEntry
 pub mod EntryUpping
