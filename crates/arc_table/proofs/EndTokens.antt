@@ -14,7 +14,7 @@ use Rattle.arc_table.specs.declared.tokens.Release.{Release}
 use Rattle.arc_table.specs.declared.tokens.Release.TheVariants as releases
 use Rattle.arc_table.specs.declared.ends.Finish.{Finish}
 use Rattle.arc_table.specs.declared.ends.Finish.TheVariants as finishes
-use Rattle.arc_table.specs.Tokens.{hand_of, IsHeld, IsOwed, IsReleased, release_act}
+use Rattle.arc_table.specs.Tokens.{IsHeld, IsOwed, IsReleased, release_act}
 use Rattle.arc_view_laws.specs.Having.{IsDyingOf}
 use Rattle.arc_table.specs.Calls.{works_after}
 use Rattle.arc_table.specs.Ends.{HasNoField, finish_act}

@@ -3,27 +3,21 @@ use Rattle.std.proofs.Common.{◌≡◌, ◌≢◌, inl, inr, ℕ, zero, suc, �
 use Rattle.std.specs.Prelude.{slice_get, slice_index_or}
 use mathlib.Core.Logic.{dite}
 use native.Mathlib.Decide.{ℕ_discrete}
-use Rattle.arc_bits.specs.declared.packing.Inline.{Inline}
-use Rattle.arc_bits.specs.declared.packing.Word.TheVariants.{Counts, Slow}
-use Rattle.arc_bits.specs.Words.{IsWordOf, CountsFit, unpacked}
-use Rattle.arc_bits.proofs.Unpacking.{unpacked-packed}
+use Rattle.arc_bits.specs.Words.{unpacked}
 use Rattle.arc_model.specs.declared.event.Act.TheVariants as acts
 use Rattle.arc_model.specs.declared.event.Event.{Event}
 use Rattle.arc_model.specs.declared.shape.Kind.{Kind}
 use Rattle.arc_model.specs.declared.shape.Kind.TheVariants as kinds
 use Rattle.arc_model.specs.Shapes.{HeapShape}
-use Rattle.arc_model.specs.Heaps.{Holder, Field as field_holder, Strongs, Deinit, Vacating, Object, Heap}
-use Rattle.arc_model.specs.Holders.{is_empty, is_number, in_slot}
+use Rattle.arc_model.specs.Heaps.{Field as field_holder, Deinit, Vacating, Object, Heap}
+use Rattle.arc_model.specs.Holders.{is_number, in_slot}
 use Rattle.arc_model.specs.Cells.{is_nil, are_all_nil, each_below}
 use Rattle.arc_model.specs.Needs.{passes}
-use Rattle.arc_model.specs.WellFormed.{tally}
 use Rattle.arc_model.specs.History.{History, heap_after, share, IsLegal}
 use Rattle.arc_model.specs.Lookup.{duty_of}
 use Rattle.arc_model.proofs.Basics.{None≢Some, Some-inj, true≢false}
-use Rattle.arc_model.proofs.Courses.{well_formed}
 use Rattle.arc_model.proofs.Duties.{own_duties}
 use Rattle.arc_model.proofs.Others.{others_leave}
-use Rattle.arc_model.proofs.Stages.{dying-facts}
 use Rattle.arc_rule.specs.declared.layout.Place.{Place}
 use Rattle.arc_rule.specs.declared.layout.Place.TheVariants as places
 use Rattle.arc_rule.specs.declared.layout.Place.TheVariants.{Count}
@@ -32,24 +26,23 @@ use Rattle.arc_rule.specs.declared.step.Step.TheVariants.{Load, Exchange}
 use Rattle.arc_rule.specs.declared.step.Intent.{Intent}
 use Rattle.arc_rule.specs.declared.step.Intent.TheVariants as intents
 use Rattle.arc_rule.specs.Places.{IsPlace, extent_of, number, place_at}
-use Rattle.arc_rule.specs.Shown.{Says, IsHeader, ShowsCounts, ShowsHolders, counts_in}
+use Rattle.arc_rule.specs.Shown.{Says, ShowsCounts, ShowsHolders}
 use Rattle.arc_rule.proofs.Places.{place_at-number}
 use Rattle.arc_view.specs.declared.view.Mark.{Mark}
 use Rattle.arc_view.specs.declared.view.Working.{Working}
 use Rattle.arc_view.specs.declared.view.View.{View}
 use Rattle.arc_view.specs.Views.{made_in}
 use Rattle.arc_view.specs.Holding.{At, HasDuty, is_counted, heap_of}
-use Rattle.arc_view.specs.Rule.{IsWithin, InShape, IsSized}
+use Rattle.arc_view.specs.Rule.{InShape, IsSized}
 use Rattle.arc_view.specs.Kinds.{act_of, event_list, working_loaded, working_after, working_hit, without_next, is_last, is_last_in}
 use Rattle.arc_view.specs.Admission.{MayLoad, IsDown}
 use Rattle.arc_view.specs.Built.{IsAllowed}
 use Rattle.arc_view.specs.Steps.{IsUnsettled, Told}
 use Rattle.arc_view.specs.Calls.{Grew, Called}
 use Rattle.arc_view.proofs.Held.{stays_after, dying_busy}
-use Rattle.arc_view.proofs.Within.{each_at}
 use Rattle.arc_view.proofs.Strongs.{slot_found, entry_found}
 use Rattle.arc_view.proofs.Counting.{header_counts}
-use Rattle.arc_view.proofs.Owed.{owed_stays, duty_parts}
+use Rattle.arc_view.proofs.Owed.{owed_stays}
 use Rattle.arc_plan.specs.declared.attempt.At.{At as At'}
 use Rattle.arc_plan.specs.declared.attempt.At.TheVariants as ats
 use Rattle.arc_plan.specs.declared.attempt.Choice.{Choice}

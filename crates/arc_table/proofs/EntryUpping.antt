@@ -45,7 +45,6 @@ use Rattle.arc_side.specs.Entries.{EntryRise, entry_up_row, entry_up_takes, entr
 use Rattle.arc_table.specs.Attempts.{IsRaisedInEntry, entry_up_act, entry_up_steps}
 use Rattle.arc_table.specs.Calls.{GoesOn}
 use Rattle.arc_table.specs.Runs.{MayRun, Ran}
-use Rattle.arc_view_laws.specs.Strangers.{SeesNoStranger}
 use Rattle.arc_view_laws.specs.Having.{StandsAs}
 use Rattle.arc_view_laws.proofs.Counted.{told_alone}
 use Rattle.arc_view_laws.proofs.Growing.{acts_of, told_grew}

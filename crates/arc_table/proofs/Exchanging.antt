@@ -54,7 +54,7 @@ use Rattle.arc_table.specs.declared.tokens.Any.{Any}
 use Rattle.arc_table.specs.declared.tokens.Any.TheVariants as anys
 use Rattle.arc_table.specs.Causes.{ReadTwice}
 use Rattle.arc_table.specs.Cells.{hand_in, word_of, HoldsStrong, IsNamed, MayPut, hand_for, IsExchanged, exchanged_act}
-use Rattle.arc_table.specs.Calls.{GoesOn, IsFree}
+use Rattle.arc_table.specs.Calls.{GoesOn}
 use Rattle.arc_table.specs.Runs.{MayRun, Ran}
 use Rattle.arc_view_laws.specs.Strangers.{SeesNoStranger}
 use Rattle.arc_view_laws.specs.Having.{IsStrongOf}

@@ -1,5 +1,5 @@
 -- The plan that vacates a slot, on the shared heap.
-use Rattle.std.proofs.Common.{◌≡◌, ℕ, ◌<◌, false, cond, [], ◌∷◌, ◌++◌, Option, Some, None, refl, sym, ap, ◌∙◌, subst, arith, eq-eqb}
+use Rattle.std.proofs.Common.{◌≡◌, ℕ, ◌<◌, false, cond, ◌∷◌, ◌++◌, Option, Some, None, refl, sym, ap, ◌∙◌, subst, arith, eq-eqb}
 use Rattle.std.specs.Prelude.{slice_get, is_some}
 use Rattle.arc_model.specs.declared.event.Act.TheVariants as acts
 use Rattle.arc_model.specs.declared.event.Event.{Event}
@@ -28,7 +28,7 @@ use Rattle.arc_view.specs.Rule.{IsSized}
 use Rattle.arc_view.specs.Kinds.{act_of, event_list, stored_act, working_stored}
 use Rattle.arc_view.specs.Built.{IsAllowed}
 use Rattle.arc_view.specs.Steps.{Told}
-use Rattle.arc_view.specs.Calls.{Grew, Called}
+use Rattle.arc_view.specs.Calls.{Grew}
 use Rattle.arc_view.proofs.Held.{stays_after}
 use Rattle.arc_view.proofs.Strongs.{slot_found}
 use Rattle.arc_view.proofs.Owed.{OwedLater, owed_stays}
@@ -37,7 +37,6 @@ use Rattle.arc_plan.specs.declared.slots.Once.{Once}
 use Rattle.arc_plan.specs.declared.slots.Once.TheVariants as onces
 use Rattle.arc_plan.specs.Slots.{OneStep, one_turned, one_left, vacate_takes, vacate_answer}
 use Rattle.arc_table.specs.Runs.{MayRun, Ran}
-use Rattle.arc_view_laws.specs.Strangers.{SeesNoStranger}
 use Rattle.arc_table.specs.Calls.{GoesOn}
 use Rattle.arc_table.specs.Ends.{IsLeft}
 use Rattle.arc_view_laws.proofs.Counted.{told_alone}

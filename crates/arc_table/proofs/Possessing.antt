@@ -1,6 +1,6 @@
 -- What a pass has stays, for the same object in the same slot, until its own act spends it.
-use Rattle.std.proofs.Common.{◌≡◌, inl, inr, ⊎_elim, ℕ, ◌≤◌, ◌==◌, Bool, true, false, cond, List, [], ◌∷◌, ◌++◌, Option, Some, None, refl, sym, ap, ◌∙◌, subst, eq-eqb, ne_eqb}
-use Rattle.std.specs.Prelude.{slice_get, is_some, ◌||◌, ◌&&◌, not}
+use Rattle.std.proofs.Common.{◌≡◌, inl, inr, ⊎_elim, ℕ, ◌≤◌, ◌==◌, Bool, true, false, cond, [], ◌∷◌, ◌++◌, Option, Some, None, refl, sym, ap, ◌∙◌, subst, eq-eqb, ne_eqb}
+use Rattle.std.specs.Prelude.{slice_get, is_some, ◌&&◌, not}
 use Rattle.std.proofs.lemmas.Bool.{eqb-true, or_right}
 use mathlib.Core.Logic.{dite}
 use native.Mathlib.Decide.{ℕ_discrete}
@@ -28,7 +28,7 @@ use Rattle.arc_model.proofs.Others.{others_leave, own_leave, duties_last}
 use Rattle.arc_model.proofs.Duties.{own_duties}
 use Rattle.arc_view.specs.declared.view.View.{View}
 use Rattle.arc_view.specs.Views.{Each}
-use Rattle.arc_view.specs.Holding.{At, HasClaim, heap_of}
+use Rattle.arc_view.specs.Holding.{At, HasClaim}
 use Rattle.arc_view.specs.Rule.{IsSized}
 use Rattle.arc_view.specs.Calls.{events_by, Called, Took}
 use Rattle.arc_view.proofs.Held.{Busy, busy_weak, hand_listed, stays_after, dying_busy}

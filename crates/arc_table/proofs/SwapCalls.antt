@@ -1,11 +1,10 @@
 -- What a call that exchanges a global leaves of a pass's numbers, and what it tells with the token of the word that came out.
-use Rattle.std.proofs.Common.{◌≡◌, ◌≢◌, ℕ, false, cond, [], ◌∷◌, Option, None, Some, refl, sym, ap, ◌∙◌, subst, arith, eq-eqb, ne_eqb}
+use Rattle.std.proofs.Common.{◌≡◌, ◌≢◌, ℕ, false, cond, Option, None, Some, refl, sym, ap, ◌∙◌, subst, arith, eq-eqb, ne_eqb}
 use Rattle.arc_model.specs.declared.event.Act.TheVariants as acts
 use Rattle.arc_model.specs.declared.event.CellName.TheVariants as cells
 use Rattle.arc_model.specs.Shapes.{HeapShape}
 use Rattle.arc_model.specs.History.{next_hand}
 use Rattle.arc_view.specs.declared.view.View.{View}
-use Rattle.arc_view.specs.Calls.{Called}
 use Rattle.arc_cells.specs.declared.swap.SwapAnswer.{SwapAnswer}
 use Rattle.arc_cells.specs.declared.swap.SwapAnswer.TheVariants as answers
 use Rattle.arc_table.specs.declared.tokens.Any.{Any}

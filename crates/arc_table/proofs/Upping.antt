@@ -1,35 +1,26 @@
 -- The plan that copies a strong reference by the inline word, on the shared heap.
-use Rattle.std.proofs.Common.{◌≡◌, ◌≢◌, inl, inr, ℕ, ◌<◌, ◌≤◌, ◌==◌, Bool, false, cond, List, [], ◌∷◌, ◌++◌, length, Option, None, Some, refl, sym, ap, ◌∙◌, subst, arith, eq-eqb, ne_eqb}
+use Rattle.std.proofs.Common.{◌≡◌, ◌≢◌, inl, inr, ℕ, ◌<◌, ◌==◌, Bool, false, cond, [], ◌∷◌, ◌++◌, length, Option, None, Some, refl, sym, ap, ◌∙◌, subst, arith, eq-eqb, ne_eqb}
 use Rattle.std.specs.Prelude.{slice_get}
 use Rattle.std.specs.Option.{unwrap_or}
 use mathlib.Core.Logic.{dite}
 use native.Mathlib.Decide.{ℕ_discrete}
 use Rattle.arc_bits.specs.declared.packing.Inline.{Inline}
-use Rattle.arc_bits.specs.declared.packing.Word.TheVariants.{Counts, Slow}
-use Rattle.arc_bits.specs.Words.{CountsFit, IsWordOf, unpacked, counts_word}
+use Rattle.arc_bits.specs.declared.packing.Word.TheVariants.{Counts}
+use Rattle.arc_bits.specs.Words.{IsWordOf, unpacked, counts_word}
 use Rattle.arc_bits.specs.Moves.{strong_more}
-use Rattle.arc_bits.proofs.Unpacking.{unpacked-packed}
 use Rattle.arc_model.specs.declared.event.Act.{Act}
 use Rattle.arc_model.specs.declared.shape.Kind.TheVariants as kinds
 use Rattle.arc_model.specs.Shapes.{HeapShape}
-use Rattle.arc_model.specs.Heaps.{Hand, Strongs, Object, Heap}
-use Rattle.arc_model.specs.Holders.{is_empty}
-use Rattle.arc_model.specs.History.{History, heap_after, IsLegal}
-use Rattle.arc_model.specs.Lookup.{Spot, spot}
-use Rattle.arc_model.specs.WellFormed.{IsWhole, tally}
-use Rattle.arc_model.specs.WellFormed.IsWhole.{live, deiniting, deinited, vacating, going, freed, dead}
+use Rattle.arc_model.specs.Heaps.{Hand, Object}
+use Rattle.arc_model.specs.History.{heap_after, IsLegal}
+use Rattle.arc_model.specs.Lookup.{spot}
 use Rattle.arc_model.proofs.Basics.{in-not_empty}
-use Rattle.arc_model.proofs.Courses.{well_formed}
-use Rattle.arc_model.proofs.Tally.{clash}
 use Rattle.arc_rule.specs.Places.{extent_of}
 use Rattle.arc_rule.specs.declared.layout.Place.TheVariants.{Count}
-use Rattle.arc_rule.specs.Shown.{Says, ShowsCounts, IsHeader, counts_in}
+use Rattle.arc_rule.specs.Shown.{Says}
 use Rattle.arc_view.specs.Holding.{At}
-use Rattle.arc_view.specs.Rule.{InShape, IsSized, IsWithin}
+use Rattle.arc_view.specs.Rule.{InShape, IsSized}
 use Rattle.arc_view.proofs.Held.{hand_listed, stays_after}
-use Rattle.arc_view.proofs.Strongs.{slot_found}
-use Rattle.arc_view.proofs.Within.{each_at}
-use Rattle.arc_plan.specs.Attempts.{IsCountWord}
 use Rattle.arc_model.specs.declared.event.Act.TheVariants as acts
 use Rattle.arc_model.specs.declared.event.Origin.TheVariants as origins
 use Rattle.arc_model.specs.Holders.{is_number}

@@ -1,5 +1,5 @@
 -- What tokens stand for, and what attempts answer.
-use Rattle.std.specs.Prelude.{ℕ, ◌≡◌, ◌≢◌, ◌+◌, ◌-◌, ◌<◌, true, false, List, ◌++◌, Option, None, Some, length, ⊤}
+use Rattle.std.specs.Prelude.{ℕ, ◌≡◌, ◌+◌, ◌<◌, true, false, List, ◌++◌, Option, None, Some, length, ⊤}
 use Rattle.arc_model.specs.declared.event.ObjectName.{ObjectName}
 use Rattle.arc_view.specs.Rule.{news}
 use Rattle.arc_model.specs.declared.event.Act.{Act}
@@ -7,15 +7,12 @@ use Rattle.arc_model.specs.declared.event.Act.TheVariants as acts
 use Rattle.arc_model.specs.declared.event.Origin.TheVariants as origins
 use Rattle.arc_model.specs.declared.shape.Kind.TheVariants.{Strong}
 use Rattle.arc_model.specs.Shapes.{HeapShape}
-use Rattle.arc_model.specs.Heaps.{Hand, Deinit, Object}
 use Rattle.arc_model.specs.History.{next_hand}
-use Rattle.arc_model.specs.Lookup.{spot}
 use Rattle.arc_rule.specs.declared.layout.Place.TheVariants.{Count}
 use Rattle.arc_rule.specs.Places.{extent_of, number}
 use Rattle.arc_view.specs.declared.view.Mark.{Mark}
 use Rattle.arc_view.specs.declared.view.View.{View}
 use Rattle.arc_view.specs.Views.{made_in}
-use Rattle.arc_view.specs.Holding.{At, HasHand, HasDuty, heap_of}
 use Rattle.arc_view.specs.Kinds.{searched}
 use Rattle.arc_view_laws.specs.Having.{last_hand, IsStrongOf, IsNewHand, StandsAs, IsDyingOf}
 use Rattle.arc_plan.specs.declared.slots.NewObjectAnswer.{NewObjectAnswer}

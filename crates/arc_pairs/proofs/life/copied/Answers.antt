@@ -1,5 +1,5 @@
 use Rattle.arc_table.specs.Seats.{view_of}
-use Rattle.arc_pairs.proofs.Readied.{held, ours_on, up_apart, up_keeps, kept_on}
+use Rattle.arc_pairs.proofs.Readied.{ours_on, up_apart, up_keeps, kept_on}
 use Rattle.arc_pairs.proofs.life.copied.Goals as goal
 
 pub copied_again-requires-clause-held : goal.copied_again-requires-clause-held

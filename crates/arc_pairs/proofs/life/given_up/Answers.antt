@@ -3,7 +3,7 @@ use Rattle.arc_table.specs.declared.tokens.Strong.{Strong as Token}
 use Rattle.arc_table.specs.Seats.{view_of}
 use Rattle.arc_table.specs.Tokens.{hand_of}
 use Rattle.arc_pairs.specs.Ready.{IsOurs}
-use Rattle.arc_pairs.proofs.Readied.{held, ours_on, last_ours, release_keeps, none_keeps}
+use Rattle.arc_pairs.proofs.Readied.{ours_on, last_ours, release_keeps, none_keeps}
 use Rattle.arc_pairs.proofs.life.given_up.Goals as goal
 
 pub given_up_again-requires-clause-held : goal.given_up_again-requires-clause-held

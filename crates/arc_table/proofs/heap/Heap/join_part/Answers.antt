@@ -1,4 +1,4 @@
-use Rattle.std.proofs.Common.{◌≡◌, sym, ap, ◌∙◌, subst, arith}
+use Rattle.std.proofs.Common.{sym, ap, ◌∙◌, subst, arith}
 use Rattle.atomic_table.specs.Table.{Me, Joins}
 use Rattle.arc_rule.specs.declared.step.Intent.TheVariants.{Look}
 use Rattle.arc_rule.specs.declared.step.Step.TheVariants.{Load}
@@ -7,7 +7,6 @@ use Rattle.arc_view.specs.Views.{spent_view}
 use Rattle.arc_view.specs.Rule.{IsKept}
 use Rattle.arc_view.specs.Steps.{Told}
 use Rattle.arc_view.specs.Passes.{joined}
-use Rattle.arc_view.specs.Calls.{Took}
 use Rattle.arc_view.proofs.Ends.{takes_in}
 use Rattle.arc_table.specs.Seats.{shape_of, part_view}
 use Rattle.arc_view_laws.proofs.Counted.{told_alone}

@@ -1,4 +1,4 @@
-use Rattle.std.proofs.Common.{None, Some, ◌∙◌}
+use Rattle.std.proofs.Common.{None, ◌∙◌}
 use Rattle.arc_table.specs.declared.tokens.Swapped.TheVariants.{Ok}
 use Rattle.arc_table.specs.Seats.{shape_of, view_of, part_view}
 use Rattle.arc_table.specs.Cells.{hand_in, exchanged_act, swap_act}
