@@ -1,7 +1,21 @@
 -- What stays of a pass and its tokens from call to call.
-use Rattle.std.proofs.Common.{◌≡◌, ◌≢◌, ◌<◌, [], Some, sym, ap, ◌∙◌, subst}
+use Rattle.std.proofs.Common.{◌≡◌, ◌≢◌, ℕ, ◌<◌, [], Option, Some, None, refl, sym, ap, ◌∙◌, subst}
 use Rattle.std.specs.Prelude.{slice_get}
+use Rattle.arc_model.specs.declared.event.Act.{Act}
+use Rattle.arc_model.specs.declared.event.Act.TheVariants as acts
+use Rattle.arc_model.specs.Shapes.{HeapShape}
 use Rattle.arc_model.specs.Heaps.{Object}
+use Rattle.arc_view.specs.declared.view.Working.{Working}
+use Rattle.arc_view.specs.Views.{idle}
+use Rattle.arc_model.specs.declared.shape.Kind.TheVariants.{Strong}
+use Rattle.arc_view.specs.declared.view.View.{View}
+use Rattle.arc_table.specs.Calls.{works_after, IsFree, IsCall}
+use Rattle.arc_table.specs.Possessions.{StillHas}
+use Rattle.arc_table.proofs.Keeping.{keeps_strong, keeps_strong_but, keeps_deinit}
+use Rattle.arc_table.proofs.Spared.{up_spares, release_spares, finish_spares}
+use Rattle.arc_table.specs.declared.tokens.Up.{Up}
+use Rattle.arc_table.specs.declared.tokens.Release.{Release}
+use Rattle.arc_table.specs.declared.ends.Finish.{Finish}
 use Rattle.arc_model.proofs.Basics.{Some-inj}
 use Rattle.arc_view.proofs.Strongs.{slot_found}
 use Rattle.arc_table.specs.declared.heap.Heap.{Heap}
@@ -11,14 +25,46 @@ use Rattle.arc_table.specs.declared.tokens.Dying.{Dying}
 use Rattle.arc_table.specs.declared.tokens.Up.TheVariants as ups
 use Rattle.arc_table.specs.declared.tokens.Release.TheVariants as releases
 use Rattle.arc_table.specs.Seats.{shape_of, view_of}
-use Rattle.arc_table.specs.Tokens.{hand_of, IsHeld, IsUp, IsReleased}
-use Rattle.arc_view_laws.specs.Having.{KeepsStrong}
-use Rattle.arc_table.specs.Ends.{HasNoField}
+use Rattle.arc_table.specs.Tokens.{hand_of, IsHeld, IsUp, up_act, IsReleased, release_act}
+use Rattle.arc_view_laws.specs.Having.{KeepsStrong, KeepsStrongBut}
+use Rattle.arc_table.specs.Ends.{HasNoField, finish_act}
 use Rattle.arc_table.proofs.HeldTokens.{copy_apart}
 use Rattle.arc_pairs.specs.Ready.{IsReady, IsPlain, IsOurs, IsOurDying}
 
 pub held : (heap : Heap) (pass : Pass) (t : Token) → IsOurs heap pass t → IsHeld (shape_of heap) (view_of pass) t
 held heap pass t ours = (ours.0, (0, ours.1))
+
+-- nothing under way stays so
+idle_after : (shape : HeapShape) (act : Option Act) → works_after shape act idle ≡ idle
+idle_after shape None = refl
+idle_after shape (Some (acts.Finish s last)) = refl
+idle_after shape (Some a) = refl
+
+pub ready_on : (heap : Heap) (act : Option Act) (n : ℕ) (v w : Pass) → IsReady heap v → IsCall (shape_of heap) act n v.part w.part → IsReady heap w
+ready_on heap act n v w ready c = (c.0 ∙ ready.0, c.1.working ∙ (ap (works_after (shape_of heap) act) ready.1 ∙ idle_after (shape_of heap) act), c.1.called.legal)
+
+pub free : (heap : Heap) (pass : Pass) → IsReady heap pass → IsFree (view_of pass)
+free heap pass ready = record { owes = ap (λ (w : Working). w.owes) ready.1; access = ap (λ (w : Working). w.access) ready.1 }
+
+-- the strong references that a call keeps, whatever it answers
+pub up_keeps : (of : Token) (r : Up Token) (v w : View) → StillHas (up_act of r) v w → KeepsStrong v w
+up_keeps of r v w has = keeps_strong (up_act of r) v w (λ k. (up_spares of r).0 k Strong) has
+
+pub release_keeps : (t : Token) (r : Release) (v w : View) → StillHas (release_act t r) v w → KeepsStrongBut (hand_of t) v w
+release_keeps t r v w has = keeps_strong_but (release_act t r) (hand_of t) v w (λ k other. (release_spares t r).0 k Strong other) has
+
+pub finish_keeps : (d : Dying) (r : Finish) (v w : View) → StillHas (finish_act d r) v w → KeepsStrong v w
+finish_keeps d r v w has = keeps_strong (finish_act d r) v w (λ k. (finish_spares d r).0 k Strong) has
+
+pub vacate_keeps : (s : ℕ) (v w : View) → StillHas (Some (acts.Vacate s)) v w → KeepsStrong v w
+vacate_keeps s v w has = keeps_strong (Some (acts.Vacate s)) v w (λ k. refl) has
+
+pub none_keeps : (v w : View) → StillHas None v w → KeepsStrong v w
+none_keeps v w has = keeps_strong None v w (λ k. refl) has
+
+-- what two calls keep
+pub kept_on : (u v w : View) → KeepsStrong u v → KeepsStrong v w → KeepsStrong u w
+kept_on u v w first second k s class ours = second k s class (first k s class ours)
 
 -- a reference that a call keeps
 pub ours_on : (heap : Heap) (v w : Pass) (t : Token) → KeepsStrong (view_of v) (view_of w) → IsOurs heap v t → IsOurs heap w t
@@ -28,9 +74,13 @@ ours_on heap v w t kept ours = (ours.0, kept (hand_of t) t.slot 0 ours.1)
 pub up_apart : (heap : Heap) (v w : Pass) (of t : Token) → IsOurs heap v of → IsUp (shape_of heap) of (view_of v) (view_of w) (ups.Ok t) → hand_of t ≢ hand_of of
 up_apart heap v w of t ours u = copy_apart (shape_of heap) of t (view_of v) (view_of w) (held heap v of ours) u
 
+-- a deinit that a call without an act keeps
+pub dying_on : (heap : Heap) (v w : Pass) (d : Dying) → StillHas None (view_of v) (view_of w) → IsOurDying heap v d → IsOurDying heap w d
+dying_on heap v w d has ours = (ours.0, keeps_deinit None (view_of v) (view_of w) d.slot 0 refl has ours.1)
+
 -- the duty that the last reference leaves
 pub last_ours : (heap : Heap) (v w : Pass) (t : Token) (d : Dying) → IsOurs heap v t → IsReleased (shape_of heap) t (view_of v) (view_of w) (releases.Last d) → IsOurDying heap w d
-last_ours heap v w t d ours r = (subst (λ s. s < (shape_of heap).slots) (sym r.1) ours.0, r.2 0 ours.1)
+last_ours heap v w t d ours r = (subst (λ s. s < (shape_of heap).slots) (sym r.0) ours.0, r.1 0 ours.1)
 
 -- one object is in a slot, and its class has no field
 pub bare : (heap : Heap) (pass : Pass) (d : Dying) → IsReady heap pass → IsPlain heap → IsOurDying heap pass d → HasNoField (shape_of heap) (view_of pass) d.slot

@@ -20,7 +20,11 @@ use Rattle.arc_table.specs.declared.tokens.Swapped.TheVariants as swaps
 use Rattle.arc_table.specs.Seats.{shape_of, view_of}
 use Rattle.arc_table.specs.Tokens.{hand_of}
 use Rattle.arc_view_laws.specs.Having.{IsStrongOf, IsNewHand, KeepsStrong}
-use Rattle.arc_table.specs.Cells.{hand_in, IsSwapped, MayPut, KeepsUnput}
+use Rattle.arc_table.specs.Cells.{hand_in, IsSwapped, swap_act, MayPut, KeepsUnput}
+use Rattle.arc_table.specs.Calls.{GoesOn}
+use Rattle.arc_table.specs.Possessions.{StillHas}
+use Rattle.arc_table.proofs.Keeping.{keeps_strong, keeps_strong_but}
+use Rattle.arc_table.proofs.Spared.{swap_spares}
 use Rattle.arc_view_laws.proofs.Fresh.{fresh_hand}
 use Rattle.arc_pairs.specs.Ready.{IsOurAny, IsApart, IsForOurs, AreForOurs}
 
@@ -36,11 +40,16 @@ pub unput_on : (put : Any) (u v w : View) → KeepsStrong u v → KeepsUnput put
 unput_on anys.Nil u v w kept rest = λ k s class ours. rest k s class (kept k s class ours)
 unput_on (anys.Strong t) u v w kept rest = λ k other s class ours. rest k other s class (kept k s class ours)
 
+-- what an exchange keeps
+pub swap_keeps : (g : ℕ) (put got : Any) (v w : View) → StillHas (swap_act g put (swaps.Ok got)) v w → KeepsUnput put v w
+swap_keeps g anys.Nil got v w has = keeps_strong (swap_act g anys.Nil (swaps.Ok got)) v w (λ k. refl) has
+swap_keeps g (anys.Strong t) got v w has = keeps_strong_but (swap_act g (anys.Strong t) (swaps.Ok got)) (hand_of t) v w (λ k other. (swap_spares g (anys.Strong t) (swaps.Ok got)).0 k Strong other) has
+
 -- what comes out of a global has a hand that the pass hadn't
-pub got_apart : (shape : HeapShape) (g : ℕ) (put got : Any) (u v w : View) → KeepsStrong u v → IsSwapped shape g put v w (swaps.Ok got) → IsApart u got
-got_apart shape g put anys.Nil u v w kept s = tt
-got_apart shape g put (anys.Strong t) u v w kept s = λ k slot class strong same.
-    let new : IsNewHand v (hand_of t) = subst (IsNewHand v) (sym s.1.0) (fresh_hand shape (acts.Swap (cells.Global g) (hand_in put) (Some (hand_of t)) ∷ []) 2 v w s.0) in
+pub got_apart : (shape : HeapShape) (g : ℕ) (put got : Any) (u v w : View) → KeepsStrong u v → GoesOn shape (swap_act g put (swaps.Ok got)) 2 v w → IsSwapped shape g put v w (swaps.Ok got) → IsApart u got
+got_apart shape g put anys.Nil u v w kept c s = tt
+got_apart shape g put (anys.Strong t) u v w kept c s = λ k slot class strong same.
+    let new : IsNewHand v (hand_of t) = subst (IsNewHand v) (sym s.0) (fresh_hand shape (acts.Swap (cells.Global g) (hand_in put) (Some (hand_of t)) ∷ []) 2 v w c.called) in
     let had : IsStrongOf v k slot class = kept k slot class strong in
     None≢Some (record { place = had.0; kind = Strong }) (sym (subst (λ n. spot (Hand v.number n) (heap_of v) ≡ None) (sym same) new) ∙ had.2)
 

@@ -5,7 +5,8 @@ use Rattle.arc_view_laws.proofs.Counted.{told_alone}
 use Rattle.arc_view_laws.specs.Strangers.{SeesNoStranger}
 use Rattle.arc_view_laws.specs.Having.{IsStrongOf, StandsAs}
 use Rattle.arc_table.specs.Causes.{ReadTwice, HasEntry}
-use Rattle.arc_table.specs.Attempts.{IsLoweredInline}
+use Rattle.arc_table.specs.Attempts.{IsLoweredInline, inline_down_act, down_steps}
+use Rattle.arc_table.specs.Calls.{GoesOn, IsFree}
 use Rattle.arc_rule.specs.declared.step.Changed.{Changed}
 use Rattle.std.proofs.Common.{◌≡◌, ◌≢◌, inl, ℕ, ◌<◌, ◌==◌, false, cond, [], ◌∷◌, ◌++◌, length, Option, None, Some, refl, sym, ap, ◌∙◌, subst, arith, eq-eqb, ne_eqb}
 use Rattle.std.specs.Prelude.{slice_get}
@@ -352,25 +353,25 @@ module _ (shape : HeapShape) (k s : ℕ) (v0 : View) (sized : IsSized shape) (lt
       )
 
   -- what each answer tells
-  pub lowered_inline : (a : StrongDownAnswer) (w : View) → Outcome a w → IsLoweredInline shape k s v0 w a × (w.working ≡ v0.working) × SeesNoStranger w
+  pub lowered_inline : (a : StrongDownAnswer) (w : View) → Outcome a w → IsLoweredInline shape k s v0 w a × GoesOn shape (inline_down_act k a) (down_steps a) v0 w
   lowered_inline downs.More w (seen, t, some) =
       let gone = has_let_go seen w t in
-      (subst (λ b. Called shape (acts.Drop k b ∷ []) 2 v0 w) (ne_eqb t.c.strong_extra 0 some) gone.0, gone.1, gone.2)
+      (tt, record { called = subst (λ b. Called shape (acts.Drop k b ∷ []) 2 v0 w) (ne_eqb t.c.strong_extra 0 some) gone.0; working = gone.1; alone = gone.2 })
   lowered_inline downs.Last w (seen, t, none) =
       let gone = has_let_go seen w t in
-      (subst (λ b. Called shape (acts.Drop k b ∷ []) 2 v0 w) (eq-eqb t.c.strong_extra 0 none) gone.0, gone.1, gone.2)
-  lowered_inline (downs.Slow e) w (x, l, entry, within) = ((look_called x w l, look_stands x w l, look_has x e w l entry, within), l.holding.working, l.alone)
+      (tt, record { called = subst (λ b. Called shape (acts.Drop k b ∷ []) 2 v0 w) (eq-eqb t.c.strong_extra 0 none) gone.0; working = gone.1; alone = gone.2 })
+  lowered_inline (downs.Slow e) w (x, l, entry, within) = ((look_stands x w l, look_has x e w l entry, within), record { called = look_called x w l; working = l.holding.working; alone = l.alone })
   lowered_inline (downs.Again c) w (t, differ) =
       let missed = has_missed c w t differ in
-      ((missed.0, read_twice c w t differ), missed.1, told_alone shape drop (swap c.seen t.c) t.v c.found w t.told)
+      (read_twice c w t differ, record { called = missed.0; working = missed.1; alone = told_alone shape drop (swap c.seen t.c) t.v c.found w t.told })
 
 -- the same for a strong reference to an object in the slot
-pub may_lower : (shape : HeapShape) (k s : ℕ) (v : View) → IsSized shape → (s < shape.slots) × ((class : ℕ) × IsStrongOf v k s class) → v.working.owes ≡ None → v.working.access ≡ None
+pub may_lower : (shape : HeapShape) (k s : ℕ) (v : View) → IsSized shape → (s < shape.slots) × ((class : ℕ) × IsStrongOf v k s class) → IsFree v
     → MayRun strong_down_takes strong_down_turned strong_down_answer shape (intents.Drop k) (record { layout = extent_of shape; slot = s; at = ats.Start }) None v
-may_lower shape k s v sized (lt, (class, (i, o, hand, here, slot, is))) free no_access = may_down shape k s v sized lt free no_access i o hand here slot
+may_lower shape k s v sized (lt, (class, (i, o, hand, here, slot, is))) free = may_down shape k s v sized lt free.owes free.access i o hand here slot
 
-pub has_lowered : (shape : HeapShape) (k s : ℕ) (v : View) → IsSized shape → (s < shape.slots) × ((class : ℕ) × IsStrongOf v k s class) → v.working.owes ≡ None → v.working.access ≡ None → (a : StrongDownAnswer) (w : View)
+pub has_lowered : (shape : HeapShape) (k s : ℕ) (v : View) → IsSized shape → (s < shape.slots) × ((class : ℕ) × IsStrongOf v k s class) → IsFree v → (a : StrongDownAnswer) (w : View)
     → Ran strong_down_turned strong_down_answer shape (intents.Drop k) (record { layout = extent_of shape; slot = s; at = ats.Start }) None v a w
-    → IsLoweredInline shape k s v w a × (w.working ≡ v.working) × SeesNoStranger w
-has_lowered shape k s v sized (lt, (class, (i, o, hand, here, slot, is))) free no_access a w ran =
-    lowered_inline shape k s v sized lt free no_access i o hand here slot a w (has_dropped shape k s v sized lt free no_access i o hand here slot a w ran)
+    → IsLoweredInline shape k s v w a × GoesOn shape (inline_down_act k a) (down_steps a) v w
+has_lowered shape k s v sized (lt, (class, (i, o, hand, here, slot, is))) free a w ran =
+    lowered_inline shape k s v sized lt free.owes free.access i o hand here slot a w (has_dropped shape k s v sized lt free.owes free.access i o hand here slot a w ran)

@@ -56,7 +56,8 @@ use Rattle.arc_side.specs.declared.down.EntryDownAnswer.TheVariants as entry_dow
 use Rattle.arc_side.specs.Entries.{EntryFall, EntryDownWord, entry_down_row, entry_down_end, entry_down_takes, entry_down_turned, entry_down_answer}
 use Rattle.arc_table.specs.Causes.{ReadTwice}
 use Rattle.arc_view_laws.specs.Strangers.{SeesNoStranger}
-use Rattle.arc_table.specs.Ends.{IsBareDyingWith, IsFinishedInline, IsFinishedInEntry, deinit_ended, inline_works, entry_works}
+use Rattle.arc_table.specs.Calls.{GoesOn}
+use Rattle.arc_table.specs.Ends.{IsBareDyingWith, IsFinishedInline, inline_finish_act, finish_steps, IsFinishedInEntry, entry_finish_act}
 use Rattle.arc_view_laws.specs.Having.{IsFreedOf}
 use Rattle.arc_table.specs.Runs.{MayRun, Ran}
 use Rattle.arc_table.proofs.Attempt.{IsAttempt, MayTry, Comes, may_attempt, has_attempted}
@@ -196,7 +197,7 @@ module _ (shape : HeapShape) (s : ℕ) (v0 : View) (free : v0.working.owes ≡ N
           in_shape = told.in_shape;
         }
 
-        pub hit_works : w.working ≡ deinit_ended shape s v0.working
+        pub hit_works : w.working ≡ without_next (number (extent_of shape)) s v0.working
         hit_works = ap (λ (u : View). u.working) told.after ∙ (ap (λ b. cond b (working_hit (number (extent_of shape)) v.working (place_at (extent_of shape) at) seen new deinit) v.working) (eq-eqb seen seen refl) ∙ ap (without_next (number (extent_of shape)) s) l.owing.working)
 
         pub hit_alone : SeesNoStranger w
@@ -319,13 +320,13 @@ module _ (shape : HeapShape) (s : ℕ) (v0 : View) (free : v0.working.owes ≡ N
     inline_swaps x new v l is (slow e shown entry within) = tell≢write (sym (ap unowned_down_row shown) ∙ is)
 
     abbrev InlineClaim : UnownedDownAnswer → View → Type 0
-    InlineClaim a w = IsFinishedInline shape s v0 w a × (w.working ≡ inline_works shape s a v0.working) × SeesNoStranger w
+    InlineClaim a w = IsFinishedInline shape s v0 w a × GoesOn shape (inline_finish_act s a) (finish_steps a) v0 w
 
     inline_tells : (x : ℕ) (v : View) (a : UnownedDownAnswer) (l : SeenCount x v) → inline_row x ≡ Tell a → ShowsDying shape l.owing.o x → InlineClaim a v
     inline_tells x v a l is (counts c shown word ends unowned none) = tell≢write (sym is ∙ ap unowned_down_row shown)
     inline_tells x v a l is (slow e shown entry within) =
         subst (λ b. InlineClaim b v) (tell_inj (sym (ap unowned_down_row shown) ∙ is))
-        ((record { grew = l.grew; legal = l.legal; in_shape = l.in_shape }, has_with v l.owing e entry, within), l.owing.working, l.alone)
+        ((has_with v l.owing e entry, within), record { called = record { grew = l.grew; legal = l.legal; in_shape = l.in_shape }; working = l.owing.working; alone = l.alone })
 
     inline_hits : (seen new : ℕ) (v w : View) (l : SeenCount seen v) → inline_row seen ≡ Write new → (told : Told shape deinit (Exchange (number (extent_of shape) (Count s)) seen new) v seen w) → ShowsDying shape l.owing.o seen → InlineClaim (unowned_down_end (unpacked seen)) w
     inline_hits seen new v w l is told (slow e shown entry within) = tell≢write (sym (ap unowned_down_row shown) ∙ is)
@@ -337,7 +338,7 @@ module _ (shape : HeapShape) (s : ℕ) (v0 : View) (free : v0.working.owes ≡ N
         called_by : (b : Bool) → (c.unowned == 1) ≡ b → Called shape (acts.Finish s b ∷ []) 2 v0 w
         called_by b e = subst (λ t. Called shape (acts.Finish s t ∷ []) 2 v0 w) (ap (is_last_in kinds.Unowned) shown ∙ e) called
 
-        works : w.working ≡ deinit_ended shape s v0.working
+        works : w.working ≡ without_next (number (extent_of shape)) s v0.working
         works = hit_works (Count s) lt (λ w x. refl) knows_count (λ p heap x u. u) seen new v w l told
 
         alone : SeesNoStranger w
@@ -354,19 +355,19 @@ module _ (shape : HeapShape) (s : ℕ) (v0 : View) (free : v0.working.owes ≡ N
         one e =
             let t = eq-eqb c.unowned 1 e in
             subst (λ b. InlineClaim (cond b inline_downs.Last inline_downs.More) w) (sym t)
-            ((called_by true t, hit_frees (Count s) lt (λ w x. refl) knows_count (λ p heap x u. u) seen new v w l told None (ap (is_last_in kinds.Unowned) shown ∙ t) (λ o here slot _. bare_then o here slot)), works, alone)
+            (hit_frees (Count s) lt (λ w x. refl) knows_count (λ p heap x u. u) seen new v w l told None (ap (is_last_in kinds.Unowned) shown ∙ t) (λ o here slot _. bare_then o here slot), record { called = called_by true t; working = works; alone = alone })
 
         more : c.unowned ≢ 1 → InlineClaim (cond (c.unowned == 1) inline_downs.Last inline_downs.More) w
-        more ne = let t = ne_eqb c.unowned 1 ne in subst (λ b. InlineClaim (cond b inline_downs.Last inline_downs.More) w) (sym t) (called_by false t, works, alone)
+        more ne = let t = ne_eqb c.unowned 1 ne in subst (λ b. InlineClaim (cond b inline_downs.Last inline_downs.More) w) (sym t) (tt, record { called = called_by false t; working = works; alone = alone })
 
     inline_misses : (seen new found : ℕ) (v w : View) (l : SeenCount seen v) → Told shape deinit (Exchange (number (extent_of shape) (Count s)) seen new) v found w → found ≢ seen → InlineClaim (inline_downs.Again (record { seen = seen; found = found })) w
     inline_misses seen new found v w l told ne = (
-      (
-        miss_called (Count s) lt (λ w x. refl) knows_count (λ p heap x u. u) seen new found v w l told ne,
-        read_twice (Count s) lt (λ w x. refl) knows_count (λ p heap x u. u) seen new found v w l told ne,
-      ),
-      miss_works (Count s) lt (λ w x. refl) knows_count (λ p heap x u. u) seen new found v w l told ne,
-      miss_alone (Count s) lt (λ w x. refl) knows_count (λ p heap x u. u) seen new found v w l told ne,
+      read_twice (Count s) lt (λ w x. refl) knows_count (λ p heap x u. u) seen new found v w l told ne,
+      record {
+        called = miss_called (Count s) lt (λ w x. refl) knows_count (λ p heap x u. u) seen new found v w l told ne;
+        working = miss_works (Count s) lt (λ w x. refl) knows_count (λ p heap x u. u) seen new found v w l told ne;
+        alone = miss_alone (Count s) lt (λ w x. refl) knows_count (λ p heap x u. u) seen new found v w l told ne;
+      },
     )
 
     inline_may : MayTry unowned_down_takes unowned_down_turned unowned_down_answer shape deinit (number (extent_of shape) (Count s)) InlineFits inline_row (λ seen. unowned_down_end (unpacked seen)) inline_downs.Again inline_plan (λ p. left_at p.at) inline_attempt v0 SeenCount
@@ -388,7 +389,7 @@ module _ (shape : HeapShape) (s : ℕ) (v0 : View) (free : v0.working.owes ≡ N
     pub may_finish : MayRun unowned_down_takes unowned_down_turned unowned_down_answer shape deinit (inline_plan ats.Start) None v0
     may_finish = may_attempt unowned_down_takes unowned_down_turned unowned_down_answer shape deinit (number (extent_of shape) (Count s)) InlineFits inline_row (λ seen. unowned_down_end (unpacked seen)) inline_downs.Again inline_plan (λ p. left_at p.at) inline_attempt v0 SeenCount InlineClaim inline_may inline_comes
 
-    pub has_finished : (a : UnownedDownAnswer) (w : View) → Ran unowned_down_turned unowned_down_answer shape deinit (inline_plan ats.Start) None v0 a w → IsFinishedInline shape s v0 w a × (w.working ≡ inline_works shape s a v0.working) × SeesNoStranger w
+    pub has_finished : (a : UnownedDownAnswer) (w : View) → Ran unowned_down_turned unowned_down_answer shape deinit (inline_plan ats.Start) None v0 a w → InlineClaim a w
     has_finished = has_attempted unowned_down_takes unowned_down_turned unowned_down_answer shape deinit (number (extent_of shape) (Count s)) InlineFits inline_row (λ seen. unowned_down_end (unpacked seen)) inline_downs.Again inline_plan (λ p. left_at p.at) inline_attempt v0 SeenCount InlineClaim inline_may inline_comes
 
   -- by the unowned count of the object's entry
@@ -415,7 +416,7 @@ module _ (shape : HeapShape) (s : ℕ) (v0 : View) (free : v0.working.owes ≡ N
     entry_told same = absurd (cc)
 
     abbrev EntryClaim : EntryDownAnswer → View → Type 0
-    EntryClaim a w = IsFinishedInEntry shape s e v0 w a × (w.working ≡ entry_works shape s a v0.working) × SeesNoStranger w
+    EntryClaim a w = IsFinishedInEntry shape s e v0 w a × GoesOn shape (entry_finish_act s a) 2 v0 w
 
     entry_hits : (seen new : ℕ) (v w : View) (l : SeenUnowned seen v) → Told shape deinit (Exchange (number (extent_of shape) (places.Unowned e)) seen new) v seen w → EntryClaim (entry_down_end seen) w
     entry_hits seen new v w l told = dite (ℕ_discrete seen 1) one more
@@ -423,7 +424,7 @@ module _ (shape : HeapShape) (s : ℕ) (v0 : View) (free : v0.working.owes ≡ N
         called_by : (b : Bool) → (seen == 1) ≡ b → Called shape (acts.Finish s b ∷ []) 2 v0 w
         called_by b is = subst (λ t. Called shape (acts.Finish s t ∷ []) 2 v0 w) is (hit_called (places.Unowned e) lt (λ w x. refl) knows_unowned (λ p heap x u. u) seen new v w l told)
 
-        works : w.working ≡ deinit_ended shape s v0.working
+        works : w.working ≡ without_next (number (extent_of shape)) s v0.working
         works = hit_works (places.Unowned e) lt (λ w x. refl) knows_unowned (λ p heap x u. u) seen new v w l told
 
         alone : SeesNoStranger w
@@ -433,21 +434,23 @@ module _ (shape : HeapShape) (s : ℕ) (v0 : View) (free : v0.working.owes ≡ N
         one is =
             let t = eq-eqb seen 1 is in
             subst (λ b. EntryClaim (cond b entry_downs.Last entry_downs.More) w) (sym t)
-            ((called_by true t, hit_frees (places.Unowned e) lt (λ w x. refl) knows_unowned (λ p heap x u. u) seen new v w l told (Some e) t (λ o here slot entry. entry e entry0)), works, alone)
+            (hit_frees (places.Unowned e) lt (λ w x. refl) knows_unowned (λ p heap x u. u) seen new v w l told (Some e) t (λ o here slot entry. entry e entry0), record { called = called_by true t; working = works; alone = alone })
 
         more : seen ≢ 1 → EntryClaim (cond (seen == 1) entry_downs.Last entry_downs.More) w
-        more ne = let t = ne_eqb seen 1 ne in subst (λ b. EntryClaim (cond b entry_downs.Last entry_downs.More) w) (sym t) (called_by false t, works, alone)
+        more ne = let t = ne_eqb seen 1 ne in subst (λ b. EntryClaim (cond b entry_downs.Last entry_downs.More) w) (sym t) (tt, record { called = called_by false t; working = works; alone = alone })
 
     entry_misses : (seen new found : ℕ) (v w : View) (l : SeenUnowned seen v) → Told shape deinit (Exchange (number (extent_of shape) (places.Unowned e)) seen new) v found w → found ≢ seen → EntryClaim (entry_downs.Again (record { seen = seen; found = found })) w
     entry_misses seen new found v w l told ne =
         let g = miss_owing (places.Unowned e) lt (λ w x. refl) knows_unowned (λ p heap x u. u) seen new found v w l told ne in (
           (
-            miss_called (places.Unowned e) lt (λ w x. refl) knows_unowned (λ p heap x u. u) seen new found v w l told ne,
             (i, g.o, g.here, g.duty, g.slot, g.entry e entry0),
             read_twice (places.Unowned e) lt (λ w x. refl) knows_unowned (λ p heap x u. u) seen new found v w l told ne,
           ),
-          miss_works (places.Unowned e) lt (λ w x. refl) knows_unowned (λ p heap x u. u) seen new found v w l told ne,
-          miss_alone (places.Unowned e) lt (λ w x. refl) knows_unowned (λ p heap x u. u) seen new found v w l told ne,
+          record {
+            called = miss_called (places.Unowned e) lt (λ w x. refl) knows_unowned (λ p heap x u. u) seen new found v w l told ne;
+            working = miss_works (places.Unowned e) lt (λ w x. refl) knows_unowned (λ p heap x u. u) seen new found v w l told ne;
+            alone = miss_alone (places.Unowned e) lt (λ w x. refl) knows_unowned (λ p heap x u. u) seen new found v w l told ne;
+          },
         )
 
     entry_may : MayTry entry_down_takes entry_down_turned entry_down_answer shape deinit (number (extent_of shape) (places.Unowned e)) EntryDownWord entry_down_row entry_down_end entry_downs.Again entry_plan (λ p. left_at p.at) entry_attempt v0 SeenUnowned
@@ -469,5 +472,5 @@ module _ (shape : HeapShape) (s : ℕ) (v0 : View) (free : v0.working.owes ≡ N
     pub may_finish_in_entry : MayRun entry_down_takes entry_down_turned entry_down_answer shape deinit (entry_plan ats.Start) None v0
     may_finish_in_entry = may_attempt entry_down_takes entry_down_turned entry_down_answer shape deinit (number (extent_of shape) (places.Unowned e)) EntryDownWord entry_down_row entry_down_end entry_downs.Again entry_plan (λ p. left_at p.at) entry_attempt v0 SeenUnowned EntryClaim entry_may entry_comes
 
-    pub has_finished_in_entry : (a : EntryDownAnswer) (w : View) → Ran entry_down_turned entry_down_answer shape deinit (entry_plan ats.Start) None v0 a w → IsFinishedInEntry shape s e v0 w a × (w.working ≡ entry_works shape s a v0.working) × SeesNoStranger w
+    pub has_finished_in_entry : (a : EntryDownAnswer) (w : View) → Ran entry_down_turned entry_down_answer shape deinit (entry_plan ats.Start) None v0 a w → EntryClaim a w
     has_finished_in_entry = has_attempted entry_down_takes entry_down_turned entry_down_answer shape deinit (number (extent_of shape) (places.Unowned e)) EntryDownWord entry_down_row entry_down_end entry_downs.Again entry_plan (λ p. left_at p.at) entry_attempt v0 SeenUnowned EntryClaim entry_may entry_comes

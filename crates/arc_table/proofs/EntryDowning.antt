@@ -35,7 +35,8 @@ use Rattle.arc_plan.specs.Attempts.{turned_at, left_at}
 use Rattle.arc_side.specs.declared.down.EntryDownAnswer.{EntryDownAnswer}
 use Rattle.arc_side.specs.declared.down.EntryDownAnswer.TheVariants as downs
 use Rattle.arc_side.specs.Entries.{EntryFall, entry_down_row, entry_down_end, entry_down_takes, entry_down_turned, entry_down_answer}
-use Rattle.arc_table.specs.Attempts.{IsLoweredInEntry}
+use Rattle.arc_table.specs.Attempts.{IsLoweredInEntry, entry_down_act}
+use Rattle.arc_table.specs.Calls.{GoesOn}
 use Rattle.arc_table.specs.Runs.{MayRun, Ran}
 use Rattle.arc_view_laws.specs.Strangers.{SeesNoStranger}
 use Rattle.arc_view_laws.proofs.Counted.{told_alone}
@@ -210,7 +211,7 @@ module _ (shape : HeapShape) (k e : ℕ) (v0 : View) (lt : e < shape.entries) (f
   has_dropped a w ran = has_run entry_down_takes entry_down_turned entry_down_answer shape drop Is Outcome (λ p. left_at p.at) down_keeps (plan ats.Start) None v0 a w ran (ats.Start, refl, (refl, refl))
 
   abbrev Claims : EntryDownAnswer → View → Type 0
-  Claims a w = IsLoweredInEntry shape k e v0 w a × (w.working ≡ v0.working) × SeesNoStranger w
+  Claims a w = IsLoweredInEntry shape k e v0 w a × GoesOn shape (entry_down_act k a) 2 v0 w
 
   -- More and Last: the pass has dropped the hand
   let_go : (seen : ℕ) (w : View) → Tried seen seen w → Called shape (acts.Drop k (seen == 1) ∷ []) 2 v0 w × (w.working ≡ v0.working) × SeesNoStranger w
@@ -245,7 +246,6 @@ module _ (shape : HeapShape) (k e : ℕ) (v0 : View) (lt : e < shape.entries) (f
       let works : w.working ≡ v.working = ap (λ (u : View). u.working) t.told.after ∙ ap (λ b. cond b v.working v.working) (ne_eqb found seen ne) in
       let g = holds_on shape k e v0 i o0 v t.told.between legal t.told.others l.holding w (ap (λ (u : View). u.number) t.told.after) works (ap heap_after seen_is) in (
         (
-          record { grew = grew_on [] [] 1 1 v0 v w l.grew (subst (λ b. Grew (acts_of b) 1 v w) act_is (told_grew shape drop st v found w t.told)); legal = t.told.legal; in_shape = t.told.in_shape },
           its_entry shape k e v0 i o0 w g,
           record {
             first = l.mark;
@@ -260,11 +260,14 @@ module _ (shape : HeapShape) (k e : ℕ) (v0 : View) (lt : e < shape.entries) (f
             differ = λ same. ne (sym same);
           },
         ),
-        g.working,
-        told_alone shape drop st v found w t.told,
+        record {
+          called = record { grew = grew_on [] [] 1 1 v0 v w l.grew (subst (λ b. Grew (acts_of b) 1 v w) act_is (told_grew shape drop st v found w t.told)); legal = t.told.legal; in_shape = t.told.in_shape };
+          working = g.working;
+          alone = told_alone shape drop st v found w t.told;
+        },
       )
 
-  pub lowered_in_entry : (a : EntryDownAnswer) (w : View) → Outcome a w → IsLoweredInEntry shape k e v0 w a × (w.working ≡ v0.working) × SeesNoStranger w
-  lowered_in_entry downs.More w o = let t = let_go o.0 w o.1 in (subst (λ b. Called shape (acts.Drop k b ∷ []) 2 v0 w) (ne_eqb o.0 1 o.2) t.0, t.1, t.2)
-  lowered_in_entry downs.Last w o = let t = let_go o.0 w o.1 in (subst (λ b. Called shape (acts.Drop k b ∷ []) 2 v0 w) (eq-eqb o.0 1 o.2) t.0, t.1, t.2)
+  pub lowered_in_entry : (a : EntryDownAnswer) (w : View) → Outcome a w → Claims a w
+  lowered_in_entry downs.More w o = let t = let_go o.0 w o.1 in (tt, record { called = subst (λ b. Called shape (acts.Drop k b ∷ []) 2 v0 w) (ne_eqb o.0 1 o.2) t.0; working = t.1; alone = t.2 })
+  lowered_in_entry downs.Last w o = let t = let_go o.0 w o.1 in (tt, record { called = subst (λ b. Called shape (acts.Drop k b ∷ []) 2 v0 w) (eq-eqb o.0 1 o.2) t.0; working = t.1; alone = t.2 })
   lowered_in_entry (downs.Again c) w o = missed c.seen c.found w o.0 o.1

@@ -42,9 +42,9 @@ use Rattle.arc_plan.specs.Attempts.{turned_at, exchanging, chosen, left_at}
 use Rattle.arc_side.specs.declared.up.EntryUpAnswer.{EntryUpAnswer}
 use Rattle.arc_side.specs.declared.up.EntryUpAnswer.TheVariants as ups
 use Rattle.arc_side.specs.Entries.{EntryRise, entry_up_row, entry_up_takes, entry_up_turned, entry_up_answer}
-use Rattle.arc_table.specs.Attempts.{IsRaisedInEntry}
+use Rattle.arc_table.specs.Attempts.{IsRaisedInEntry, entry_up_act, entry_up_steps}
+use Rattle.arc_table.specs.Calls.{GoesOn}
 use Rattle.arc_table.specs.Runs.{MayRun, Ran}
-use Rattle.arc_view_laws.specs.Strangers.{SeesNoStranger}
 use Rattle.arc_view_laws.specs.Having.{StandsAs}
 use Rattle.arc_view_laws.proofs.Counted.{told_alone}
 use Rattle.arc_view_laws.proofs.Growing.{acts_of, told_grew}
@@ -270,7 +270,7 @@ module _ (shape : HeapShape) (k e : ℕ) (v0 : View) (lt : e < shape.entries) (f
   has_upped a w ran = has_run entry_up_takes entry_up_turned entry_up_answer shape copy Is Outcome (λ p. left_at p.at) up_keeps (plan ats.Start) None v0 a w ran (ats.Start, refl, (refl, refl))
 
   abbrev Claims : EntryUpAnswer → View → Type 0
-  Claims a w = IsRaisedInEntry shape k e v0 w a × (w.working ≡ v0.working) × SeesNoStranger w
+  Claims a w = IsRaisedInEntry shape k e v0 w a × GoesOn shape (entry_up_act k v0 a) (entry_up_steps a) v0 w
 
   -- Up: one more hand of the pass, a strong one of the same object
   copied : (seen : ℕ) (w : View) → Tried seen seen w → Claims ups.Up w
@@ -294,25 +294,24 @@ module _ (shape : HeapShape) (k e : ℕ) (v0 : View) (lt : e < shape.entries) (f
       let g = grew_on [] (a ∷ []) 1 1 v0 v w grew (subst (λ b. Grew (acts_of b) 1 v w) act_is (told_grew shape copy st v seen w t.told)) in
       let w_is : w.number ≡ p = ap (λ (u : View). u.number) t.told.after in
       let came : spot (Hand w.number n) (heap_of w) ≡ Some (record { place = i; kind = kinds.Strong }) = (λ j. spot (Hand (w_is j) n) (heap_after (seen_is j))) ∙ (own_gains shape h (record { thread = p; act = a }) n legal refl ∙ hand) in (
-        (
-          record { grew = subst (λ m. Grew (acts.Copy (origins.Hand k) m ∷ []) 2 v0 w) next_is g; legal = t.told.legal; in_shape = t.told.in_shape },
-          subst (λ m. StandsAs v0 k w m) next_is
-              (stands_as shape k e v0 i o0 w n q.q hand0 here0 came (ap (λ l. slice_get (heap_after l).objects i) seen_is ∙ q.here) (q.slot (inl busy) ∙ (held.slot strong≢weak ∙ l.holding.slot)) (q.class ∙ (held.class ∙ l.holding.is_class))),
-        ),
-        ap (λ (u : View). u.working) t.told.after ∙ (ap (λ b. cond b v.working v.working) (eq-eqb seen seen refl) ∙ l.holding.working),
-        told_alone shape copy st v seen w t.told,
+        subst (λ m. StandsAs v0 k w m) next_is
+            (stands_as shape k e v0 i o0 w n q.q hand0 here0 came (ap (λ l. slice_get (heap_after l).objects i) seen_is ∙ q.here) (q.slot (inl busy) ∙ (held.slot strong≢weak ∙ l.holding.slot)) (q.class ∙ (held.class ∙ l.holding.is_class))),
+        record {
+          called = record { grew = subst (λ m. Grew (acts.Copy (origins.Hand k) m ∷ []) 2 v0 w) next_is g; legal = t.told.legal; in_shape = t.told.in_shape };
+          working = ap (λ (u : View). u.working) t.told.after ∙ (ap (λ b. cond b v.working v.working) (eq-eqb seen seen refl) ∙ l.holding.working);
+          alone = told_alone shape copy st v seen w t.told;
+        },
       )
 
   -- CountFull: the word that was read is the greatest
   refused : (w : View) → Looked shape.caps.wide w → Claims ups.CountFull w
   refused w l = (
-    (
-      record { grew = subst (λ b. Grew (acts_of (when b refusal)) 1 v0 w) (eq-eqb shape.caps.wide shape.caps.wide refl) l.grew; legal = l.told.legal; in_shape = l.told.in_shape },
-      its_entry shape k e v0 i o0 w l.holding,
-      record { mark = l.mark; before = []; trail = l.trail; loads = l.step; found = l.found },
-    ),
-    l.holding.working,
-    told_alone shape copy look v0 shape.caps.wide w l.told,
+    (its_entry shape k e v0 i o0 w l.holding, record { mark = l.mark; before = []; trail = l.trail; loads = l.step; found = l.found }),
+    record {
+      called = record { grew = subst (λ b. Grew (acts_of (when b refusal)) 1 v0 w) (eq-eqb shape.caps.wide shape.caps.wide refl) l.grew; legal = l.told.legal; in_shape = l.told.in_shape };
+      working = l.holding.working;
+      alone = told_alone shape copy look v0 shape.caps.wide w l.told;
+    },
   )
 
   -- Again: the exchange found another word than the load
@@ -328,7 +327,6 @@ module _ (shape : HeapShape) (k e : ℕ) (v0 : View) (lt : e < shape.entries) (f
       let works : w.working ≡ v.working = ap (λ (u : View). u.working) t.told.after ∙ ap (λ b. cond b v.working v.working) (ne_eqb found seen ne) in
       let g = holds_on shape k e v0 i o0 v t.told.between legal t.told.others l.holding w (ap (λ (u : View). u.number) t.told.after) works (ap heap_after seen_is) in (
         (
-          record { grew = grew_on [] [] 1 1 v0 v w (silent seen v l t.room) (subst (λ b. Grew (acts_of b) 1 v w) act_is (told_grew shape copy st v found w t.told)); legal = t.told.legal; in_shape = t.told.in_shape },
           its_entry shape k e v0 i o0 w g,
           record {
             first = l.mark;
@@ -343,11 +341,14 @@ module _ (shape : HeapShape) (k e : ℕ) (v0 : View) (lt : e < shape.entries) (f
             differ = λ same. ne (sym same);
           },
         ),
-        g.working,
-        told_alone shape copy st v found w t.told,
+        record {
+          called = record { grew = grew_on [] [] 1 1 v0 v w (silent seen v l t.room) (subst (λ b. Grew (acts_of b) 1 v w) act_is (told_grew shape copy st v found w t.told)); legal = t.told.legal; in_shape = t.told.in_shape };
+          working = g.working;
+          alone = told_alone shape copy st v found w t.told;
+        },
       )
 
-  pub raised_in_entry : (a : EntryUpAnswer) (w : View) → Outcome a w → IsRaisedInEntry shape k e v0 w a × (w.working ≡ v0.working) × SeesNoStranger w
+  pub raised_in_entry : (a : EntryUpAnswer) (w : View) → Outcome a w → Claims a w
   raised_in_entry ups.Up w o = copied o.0 w o.1
   raised_in_entry ups.Zero w o = absurd (o)
   raised_in_entry ups.CountFull w o = refused w o

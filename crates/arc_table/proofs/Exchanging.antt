@@ -53,7 +53,8 @@ use Rattle.arc_cells.specs.Swaps.{SwapAttempt, swap_row, swap_takes, swap_turned
 use Rattle.arc_table.specs.declared.tokens.Any.{Any}
 use Rattle.arc_table.specs.declared.tokens.Any.TheVariants as anys
 use Rattle.arc_table.specs.Causes.{ReadTwice}
-use Rattle.arc_table.specs.Cells.{hand_in, word_of, HoldsStrong, IsNamed, MayPut, hand_for, IsExchanged}
+use Rattle.arc_table.specs.Cells.{hand_in, word_of, HoldsStrong, IsNamed, MayPut, hand_for, IsExchanged, exchanged_act}
+use Rattle.arc_table.specs.Calls.{GoesOn}
 use Rattle.arc_table.specs.Runs.{MayRun, Ran}
 use Rattle.arc_view_laws.specs.Strangers.{SeesNoStranger}
 use Rattle.arc_view_laws.specs.Having.{IsStrongOf}
@@ -241,7 +242,7 @@ module _ (shape : HeapShape) (g : ℕ) (put : Option ℕ) (new : ℕ) (v0 : View
   may_exchange = may_run swap_takes swap_turned swap_answer shape intent Is Outcome (λ p. left_at p.at) swap_keeps (plan ats.Start) None v0 (ats.Start, refl, (refl, refl))
 
   -- Took: what the global referred to is the pass's new hand
-  taken : (seen : ℕ) (w : View) → Tried seen seen w → IsExchanged shape g put v0 w (answers.Took seen) × (w.working ≡ v0.working) × SeesNoStranger w
+  taken : (seen : ℕ) (w : View) → Tried seen seen w → IsExchanged shape g v0 w (answers.Took seen) × GoesOn shape (exchanged_act g put v0 (answers.Took seen)) 2 v0 w
   taken seen w t =
       let v = t.v in
       let l = t.l in
@@ -259,30 +260,30 @@ module _ (shape : HeapShape) (g : ℕ) (put : Option ℕ) (new : ℕ) (v0 : View
       let grew = grew_on [] (a ∷ []) 1 1 v0 v w l.called.grew (subst (λ b. Grew (acts_of b) 1 v w) act_is (told_grew shape intent st v seen w t.told)) in
       let w_is : w.number ≡ p = ap (λ (u : View). u.number) t.told.after in
       let says : Says shape (heap_after h) (places.Global g) seen = (t.told.read (places.Global g) tt within refl).says (λ busy. t.calm busy) in (
-        (
-          record { grew = subst (λ m. Grew (acts.Swap (cells.Global g) put (cond (seen == 0) None (Some m)) ∷ []) 2 v0 w) next_is grew; legal = t.told.legal; in_shape = t.told.in_shape },
-          λ some. ⊎_elim
-              (λ (z : (seen ≡ 0) × _). absurd (some z.0))
-              (λ (lead : LeadsTo (heap_after h) g seen).
-              let q = stays_after shape e h legal lead.place lead.object lead.here in
-              let slot = q.slot (inl (in-not_empty (holders.Global g) lead.object.strong lead.listed)) ∙ lead.in_slot in
-              let here : At (heap_of w) lead.place q.q = ap (λ k. slice_get (heap_after k).objects lead.place) seen_is ∙ q.here in
-              let brings : brings_hand a ≡ Some n = ap (λ b. cond b None (Some n)) (ne_eqb seen 0 some) in
-              let came : spot (Hand w.number n) (heap_of w) ≡ Some (record { place = lead.place; kind = kinds.Strong }) = (λ j. spot (Hand (w_is j) n) (heap_after (seen_is j))) ∙ (own_gains shape h e n legal brings ∙ lead.at) in
-              let fits : FitsCell (heap_after h) (Some (record { place = lead.place; kind = kinds.Strong })) (slice_get shape.globals g) = subst (λ m. FitsCell (heap_after h) m (slice_get shape.globals g)) lead.at (t.told.met_in_shape.globals g) in
-              let same : lead.object ≡ fits.0 = Some-inj (sym lead.here ∙ fits.2) in
-              let class_is : q.q.class ≡ fits.1.class = q.class ∙ (ap (λ (o : Object). o.class) same ∙ fits.4) in (
-                lead.slot,
-                lead.word,
-                (
-                  (each_at (IsWithin shape) (heap_of w).objects lead.place q.q t.told.in_shape.within here).0 lead.slot slot,
-                  (fits.1.class, subst (λ m. IsStrongOf w m lead.slot fits.1.class) next_is (lead.place, q.q, came, here, slot, class_is), (fits.1, fits.3, refl)),
-                ),
-              ))
-              (global_shows shape h g seen legal.1 strong says),
-        ),
-        ap (λ (u : View). u.working) t.told.after ∙ (ap (λ b. cond b v.working v.working) hits ∙ l.working),
-        told_alone shape intent st v seen w t.told,
+        λ some. ⊎_elim
+            (λ (z : (seen ≡ 0) × _). absurd (some z.0))
+            (λ (lead : LeadsTo (heap_after h) g seen).
+            let q = stays_after shape e h legal lead.place lead.object lead.here in
+            let slot = q.slot (inl (in-not_empty (holders.Global g) lead.object.strong lead.listed)) ∙ lead.in_slot in
+            let here : At (heap_of w) lead.place q.q = ap (λ k. slice_get (heap_after k).objects lead.place) seen_is ∙ q.here in
+            let brings : brings_hand a ≡ Some n = ap (λ b. cond b None (Some n)) (ne_eqb seen 0 some) in
+            let came : spot (Hand w.number n) (heap_of w) ≡ Some (record { place = lead.place; kind = kinds.Strong }) = (λ j. spot (Hand (w_is j) n) (heap_after (seen_is j))) ∙ (own_gains shape h e n legal brings ∙ lead.at) in
+            let fits : FitsCell (heap_after h) (Some (record { place = lead.place; kind = kinds.Strong })) (slice_get shape.globals g) = subst (λ m. FitsCell (heap_after h) m (slice_get shape.globals g)) lead.at (t.told.met_in_shape.globals g) in
+            let same : lead.object ≡ fits.0 = Some-inj (sym lead.here ∙ fits.2) in
+            let class_is : q.q.class ≡ fits.1.class = q.class ∙ (ap (λ (o : Object). o.class) same ∙ fits.4) in (
+              lead.slot,
+              lead.word,
+              (
+                (each_at (IsWithin shape) (heap_of w).objects lead.place q.q t.told.in_shape.within here).0 lead.slot slot,
+                (fits.1.class, subst (λ m. IsStrongOf w m lead.slot fits.1.class) next_is (lead.place, q.q, came, here, slot, class_is), (fits.1, fits.3, refl)),
+              ),
+            ))
+            (global_shows shape h g seen legal.1 strong says),
+        record {
+          called = record { grew = subst (λ m. Grew (acts.Swap (cells.Global g) put (cond (seen == 0) None (Some m)) ∷ []) 2 v0 w) next_is grew; legal = t.told.legal; in_shape = t.told.in_shape };
+          working = ap (λ (u : View). u.working) t.told.after ∙ (ap (λ b. cond b v.working v.working) hits ∙ l.working);
+          alone = told_alone shape intent st v seen w t.told;
+        },
       )
 
   -- an exchange that found another word
@@ -324,12 +325,12 @@ module _ (shape : HeapShape) (g : ℕ) (put : Option ℕ) (new : ℕ) (v0 : View
   }
 
   -- what each answer tells
-  exchanged : (a : SwapAnswer) (w : View) → Outcome a w → IsExchanged shape g put v0 w a × (w.working ≡ v0.working) × SeesNoStranger w
+  exchanged : (a : SwapAnswer) (w : View) → Outcome a w → IsExchanged shape g v0 w a × GoesOn shape (exchanged_act g put v0 a) 2 v0 w
   exchanged (answers.Took seen) w t = taken seen w t
-  exchanged answers.Busy w l = ((busy_called 1 w l, record { mark = l.mark; before = []; trail = l.trail; loads = l.step; found = l.found }), l.working, l.alone)
+  exchanged answers.Busy w l = (record { mark = l.mark; before = []; trail = l.trail; loads = l.step; found = l.found }, record { called = busy_called 1 w l; working = l.working; alone = l.alone })
   exchanged (answers.Again c) w (t, differ) =
       let m = missed c w t differ in
-      ((m.0, read_twice c w t differ), m.1, told_alone shape intent (swap c.seen) t.v c.found w t.told)
+      (read_twice c w t differ, record { called = m.0; working = m.1; alone = told_alone shape intent (swap c.seen) t.v c.found w t.told })
 
-  pub has_exchanged : (a : SwapAnswer) (w : View) → Ran swap_turned swap_answer shape intent (plan ats.Start) None v0 a w → IsExchanged shape g put v0 w a × (w.working ≡ v0.working) × SeesNoStranger w
+  pub has_exchanged : (a : SwapAnswer) (w : View) → Ran swap_turned swap_answer shape intent (plan ats.Start) None v0 a w → IsExchanged shape g v0 w a × GoesOn shape (exchanged_act g put v0 a) 2 v0 w
   has_exchanged a w ran = exchanged a w (has_run swap_takes swap_turned swap_answer shape intent Is Outcome (λ p. left_at p.at) swap_keeps (plan ats.Start) None v0 a w ran (ats.Start, refl, (refl, refl)))

@@ -1,5 +1,5 @@
 -- The plan that vacates a slot, on the shared heap.
-use Rattle.std.proofs.Common.{◌≡◌, ℕ, ◌<◌, false, cond, [], ◌∷◌, ◌++◌, Option, Some, None, refl, sym, ap, ◌∙◌, subst, arith, eq-eqb}
+use Rattle.std.proofs.Common.{◌≡◌, ℕ, ◌<◌, false, cond, ◌∷◌, ◌++◌, Option, Some, None, refl, sym, ap, ◌∙◌, subst, arith, eq-eqb}
 use Rattle.std.specs.Prelude.{slice_get, is_some}
 use Rattle.arc_model.specs.declared.event.Act.TheVariants as acts
 use Rattle.arc_model.specs.declared.event.Event.{Event}
@@ -28,7 +28,7 @@ use Rattle.arc_view.specs.Rule.{IsSized}
 use Rattle.arc_view.specs.Kinds.{act_of, event_list, stored_act, working_stored}
 use Rattle.arc_view.specs.Built.{IsAllowed}
 use Rattle.arc_view.specs.Steps.{Told}
-use Rattle.arc_view.specs.Calls.{Grew, Called}
+use Rattle.arc_view.specs.Calls.{Grew}
 use Rattle.arc_view.proofs.Held.{stays_after}
 use Rattle.arc_view.proofs.Strongs.{slot_found}
 use Rattle.arc_view.proofs.Owed.{OwedLater, owed_stays}
@@ -37,7 +37,7 @@ use Rattle.arc_plan.specs.declared.slots.Once.{Once}
 use Rattle.arc_plan.specs.declared.slots.Once.TheVariants as onces
 use Rattle.arc_plan.specs.Slots.{OneStep, one_turned, one_left, vacate_takes, vacate_answer}
 use Rattle.arc_table.specs.Runs.{MayRun, Ran}
-use Rattle.arc_view_laws.specs.Strangers.{SeesNoStranger}
+use Rattle.arc_table.specs.Calls.{GoesOn}
 use Rattle.arc_table.specs.Ends.{IsLeft}
 use Rattle.arc_view_laws.proofs.Counted.{told_alone}
 use Rattle.arc_view_laws.proofs.Entries.{none_stays, entry_kept}
@@ -56,7 +56,7 @@ module _ (shape : HeapShape) (s : ℕ) (m : Option ℕ) (v0 : View) (sized : IsS
   may_clear = ((Count s, refl, lt, (free, (s, i, o0, refl, refl, here0, slot0, duty0))), tt)
 
   abbrev Claim : View → Type 0
-  Claim w = Called shape (acts.Vacate s ∷ []) 1 v0 w × IsLeft v0 w s m × (w.working ≡ v0.working) × SeesNoStranger w
+  Claim w = IsLeft v0 w s m × GoesOn shape (Some (acts.Vacate s)) 1 v0 w
 
   module _ (found : ℕ) (w : View) (told : Told shape intents.Vacate clear v0 found w) where
     abbrev p : ℕ
@@ -138,10 +138,12 @@ module _ (shape : HeapShape) (s : ℕ) (m : Option ℕ) (v0 : View) (sized : IsS
 
     vacates : Claim w
     vacates = (
-      record { grew = subst (λ a. Grew (acts_of a) 1 v0 w) act_is (told_grew shape intents.Vacate clear v0 found w told); legal = told.legal; in_shape = told.in_shape },
       left,
-      ap (λ (u : View). u.working) told.after ∙ ap (λ (u : Place). working_stored (number (extent_of shape)) v0.working u 0 intents.Vacate) (place_at-number (extent_of shape) (Count s) lt),
-      told_alone shape intents.Vacate clear v0 found w told,
+      record {
+        called = record { grew = subst (λ a. Grew (acts_of a) 1 v0 w) act_is (told_grew shape intents.Vacate clear v0 found w told); legal = told.legal; in_shape = told.in_shape };
+        working = ap (λ (u : View). u.working) told.after ∙ ap (λ (u : Place). working_stored (number (extent_of shape)) v0.working u 0 intents.Vacate) (place_at-number (extent_of shape) (Count s) lt);
+        alone = told_alone shape intents.Vacate clear v0 found w told;
+      },
     )
 
   abbrev plan : Once → OneStep
@@ -197,5 +199,5 @@ module _ (shape : HeapShape) (s : ℕ) (m : Option ℕ) (v0 : View) (sized : IsS
   pub may_vacate : MayRun vacate_takes one_turned vacate_answer shape intents.Vacate (plan onces.Start) None v0
   may_vacate = may_run vacate_takes one_turned vacate_answer shape intents.Vacate Is (λ a. Claim) one_left vacate_keeps (plan onces.Start) None v0 (onces.Start, refl, (refl, refl))
 
-  pub has_vacated : (a : Unit {0}) (w : View) → Ran one_turned vacate_answer shape intents.Vacate (plan onces.Start) None v0 a w → Called shape (acts.Vacate s ∷ []) 1 v0 w × IsLeft v0 w s m × (w.working ≡ v0.working) × SeesNoStranger w
+  pub has_vacated : (a : Unit {0}) (w : View) → Ran one_turned vacate_answer shape intents.Vacate (plan onces.Start) None v0 a w → Claim w
   has_vacated a w ran = has_run vacate_takes one_turned vacate_answer shape intents.Vacate Is (λ a. Claim) one_left vacate_keeps (plan onces.Start) None v0 a w ran (onces.Start, refl, (refl, refl))

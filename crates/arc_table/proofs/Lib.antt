@@ -1,4 +1,7 @@
 pub mod Running
+pub mod Possessing
+pub mod Keeping
+pub mod Spared
 pub mod Invariant
 pub mod InEntry
 pub mod EntryUpping

@@ -51,7 +51,8 @@ use Rattle.arc_plan.specs.declared.slots.NewObjectAnswer.{NewObjectAnswer}
 use Rattle.arc_plan.specs.declared.slots.NewObjectAnswer.TheVariants.{Slot, NoSlot}
 use Rattle.arc_plan.specs.Slots.{Creation, creation_takes, creation_turned, creation_answer, creation_left, making_turned, making_left}
 use Rattle.arc_table.specs.Runs.{MayRun, Ran}
-use Rattle.arc_table.specs.Tokens.{IsCreated}
+use Rattle.arc_table.specs.Tokens.{IsCreated, created_act}
+use Rattle.arc_table.specs.Calls.{GoesOn}
 use Rattle.arc_view_laws.specs.Having.{IsStrongOf}
 use Rattle.arc_table.proofs.Invariant.{Keeps, may_run, has_run}
 use Rattle.arc_view_laws.proofs.Growing.{acts_of, told_grew, grew_none}
@@ -399,17 +400,23 @@ module _ (shape : HeapShape) (name : ObjectName) (v0 : View) (is_class : name.cl
   strong_of : (s : ℕ) (w : View) → w.number ≡ v0.number → Stands s w → IsStrongOf w k0 s name.class
   strong_of s w same t = (t.i, t.o, subst (λ p. spot (Hand p k0) (heap_of w) ≡ Some (record { place = t.i; kind = kinds.Strong })) (sym same) t.hand, t.here, t.slot, ap (λ (n : ObjectName). n.class) t.named)
 
-  created : (a : NewObjectAnswer) (w : View) → Outcome a w → IsCreated shape name.class v0 w a × (w.working ≡ v0.working) × SeesNoStranger w
+  created : (a : NewObjectAnswer) (w : View) → Outcome a w → IsCreated shape name.class v0 w a × GoesOn shape (created_act name.class v0 a) (shape.slots + 1) v0 w
   created (Slot s) w n = (
-    (record { grew = grew_most (look s ∷ []) (suc s + 1) (shape.slots + 1) v0 w (let lt = n.lt in omega (arith, lt)) n.grew; legal = n.sound.legal; in_shape = n.sound.in_shape }, n.lt, strong_of s w n.grew.number n.stands),
-    n.working,
-    n.sound.alone,
+    (n.lt, strong_of s w n.grew.number n.stands),
+    record {
+      called = record { grew = grew_most (look s ∷ []) (suc s + 1) (shape.slots + 1) v0 w (let lt = n.lt in omega (arith, lt)) n.grew; legal = n.sound.legal; in_shape = n.sound.in_shape };
+      working = n.working;
+      alone = n.sound.alone;
+    },
   )
   created NoSlot w f = (
-    (record { grew = grew_most (acts.Full ∷ []) shape.slots (shape.slots + 1) v0 w (omega arith) f.tried.grew; legal = f.sound.legal; in_shape = f.sound.in_shape }, (f.tried.marks, f.tried.trail, f.tried.long, f.tried.tries)),
-    f.tried.working,
-    f.sound.alone,
+    (f.tried.marks, f.tried.trail, f.tried.long, f.tried.tries),
+    record {
+      called = record { grew = grew_most (acts.Full ∷ []) shape.slots (shape.slots + 1) v0 w (omega arith) f.tried.grew; legal = f.sound.legal; in_shape = f.sound.in_shape };
+      working = f.tried.working;
+      alone = f.sound.alone;
+    },
   )
 
-  pub has_made : 1 ≤ shape.slots → (a : NewObjectAnswer) (w : View) → Ran creation_turned creation_answer shape (intents.New name.class) (plan makings.Start) None v0 a w → IsCreated shape name.class v0 w a × (w.working ≡ v0.working) × SeesNoStranger w
+  pub has_made : 1 ≤ shape.slots → (a : NewObjectAnswer) (w : View) → Ran creation_turned creation_answer shape (intents.New name.class) (plan makings.Start) None v0 a w → IsCreated shape name.class v0 w a × GoesOn shape (created_act name.class v0 a) (shape.slots + 1) v0 w
   has_made some a w ran = created a w (has_run creation_takes creation_turned creation_answer shape (intents.New name.class) Making_is Outcome creation_left (making_keeps some) (plan makings.Start) None v0 a w ran begun)

@@ -1,22 +1,17 @@
--- What retains and releases leave of a pass's numbers, and what they make of what it has.
-use Rattle.std.proofs.Common.{◌≡◌, ℕ, ◌+◌, Bool, true, false, cond, [], ◌∷◌, refl, sym, arith, ne_eqb}
+-- What calls leave of a pass's numbers.
+use Rattle.std.proofs.Common.{◌≡◌, ℕ, ◌+◌, Bool, true, false, cond, [], ◌∷◌, Option, None, Some, refl, arith}
 use Rattle.arc_model.specs.declared.event.Act.{Act}
-use Rattle.arc_model.specs.declared.event.Act.TheVariants as acts
-use Rattle.arc_model.specs.declared.event.Origin.TheVariants as origins
-use Rattle.arc_model.specs.declared.shape.Kind.TheVariants.{Strong}
 use Rattle.arc_model.specs.Shapes.{HeapShape}
-use Rattle.arc_model.specs.History.{next_hand}
 use Rattle.arc_view.specs.declared.view.View.{View}
 use Rattle.arc_view.specs.Rule.{is_new, news}
-use Rattle.arc_view.specs.Calls.{Grew, Called}
+use Rattle.arc_view.specs.Calls.{Grew}
+use Rattle.arc_view_laws.proofs.Counted.{news_none, news_one}
 use Rattle.arc_table.specs.declared.strong.Raised.{Raised}
 use Rattle.arc_table.specs.declared.strong.Raised.TheVariants as raised
 use Rattle.arc_table.specs.declared.strong.Lowered.{Lowered}
 use Rattle.arc_table.specs.declared.strong.Lowered.TheVariants as lowered
-use Rattle.arc_table.specs.Tokens.{IsRaised, IsLowered}
-use Rattle.arc_view_laws.specs.Having.{KeepsStrongBut}
-use Rattle.arc_view_laws.proofs.Counted.{news_none, news_one}
-use Rattle.arc_view_laws.proofs.Kept.{stands}
+use Rattle.arc_table.specs.Calls.{GoesOn}
+use Rattle.arc_table.specs.Tokens.{raised_act, lowered_act}
 
 -- the pass has made no object and split off no pass
 pub record SameNumbers (v w : View) : Type 0 where
@@ -24,27 +19,32 @@ pub record SameNumbers (v w : View) : Type 0 where
   pub made : news w.number w.seen ≡ news v.number v.seen
   pub splits : w.splits ≡ v.splits
 
-pub same_none : (n : ℕ) (v w : View) → Grew [] n v w → SameNumbers v w
+same_none : (n : ℕ) (v w : View) → Grew [] n v w → SameNumbers v w
 same_none n v w g = record { number = g.number; made = news_none n v w g; splits = g.splits }
 
-pub same_one : (a : Act) (n : ℕ) (v w : View) → is_new a ≡ false → Grew (a ∷ []) n v w → SameNumbers v w
+same_one : (a : Act) (n : ℕ) (v w : View) → is_new a ≡ false → Grew (a ∷ []) n v w → SameNumbers v w
 same_one a n v w old g = record { number = g.number; made = go (is_new a) old (news_one a n v w g); splits = g.splits }
   where
     go : (b : Bool) → b ≡ false → news w.number w.seen ≡ cond b 1 0 + news v.number v.seen → news w.number w.seen ≡ news v.number v.seen
     go true is e = absurd (cc)
     go false is e = omega (arith, e)
 
-pub raised_same : (shape : HeapShape) (k s : ℕ) (v w : View) (a : Raised) → IsRaised shape k s v w a → SameNumbers v w
-raised_same shape k s v w raised.Up c = same_one (acts.Copy (origins.Hand k) (next_hand v.number v.seen)) 3 v w refl c.0.grew
-raised_same shape k s v w raised.AtCap c = same_none 3 v w c.0.grew
-raised_same shape k s v w raised.CountFull c = same_one (acts.CountFull Strong (origins.Hand k)) 3 v w refl c.0.grew
-raised_same shape k s v w (raised.Again changed) c = same_none 3 v w c.0.grew
+abbrev pub makes_new : Option Act → Bool
+makes_new None = false
+makes_new (Some a) = is_new a
 
-pub lowered_same : (shape : HeapShape) (k s : ℕ) (v w : View) (a : Lowered) → IsLowered shape k s v w a → SameNumbers v w
-lowered_same shape k s v w lowered.More c = same_one (acts.Drop k false) 3 v w refl c.grew
-lowered_same shape k s v w lowered.Last c = same_one (acts.Drop k true) 3 v w refl c.grew
-lowered_same shape k s v w (lowered.Again changed) c = same_none 3 v w c.0.grew
+-- a call whose act makes no object
+pub same_call : (shape : HeapShape) (act : Option Act) (n : ℕ) (v w : View) → makes_new act ≡ false → GoesOn shape act n v w → SameNumbers v w
+same_call shape None n v w old g = same_none n v w g.called.grew
+same_call shape (Some a) n v w old g = same_one a n v w old g.called.grew
 
--- the drop of hand k leaves every other one
-pub keeps_but : (shape : HeapShape) (k n : ℕ) (last : Bool) (v w : View) → Called shape (acts.Drop k last ∷ []) n v w → KeepsStrongBut k v w
-keeps_but shape k n last v w c j other = stands shape (acts.Drop k last ∷ []) n v w j c (ne_eqb k j (λ e. other (sym e)), tt)
+pub raised_old : (k : ℕ) (v : View) (a : Raised) → makes_new (raised_act k v a) ≡ false
+raised_old k v raised.Up = refl
+raised_old k v raised.AtCap = refl
+raised_old k v raised.CountFull = refl
+raised_old k v (raised.Again c) = refl
+
+pub lowered_old : (k : ℕ) (a : Lowered) → makes_new (lowered_act k a) ≡ false
+lowered_old k lowered.More = refl
+lowered_old k lowered.Last = refl
+lowered_old k (lowered.Again c) = refl

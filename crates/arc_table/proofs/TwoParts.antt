@@ -1,10 +1,9 @@
 -- A call of two parts: the first makes no event, and what the second tells is what the call tells.
-use Rattle.std.proofs.Common.{ℕ, ◌+◌, ◌≤◌, List, [], ◌∷◌, ◌++◌, ap, ◌∙◌, sym, subst, arith, append_assoc}
+use Rattle.std.proofs.Common.{ℕ, ◌+◌, ◌≤◌, List, [], ◌∷◌, ◌++◌, Option, None, Some, ap, ◌∙◌, sym, subst, append_assoc}
 use Rattle.std.proofs.lemmas.List.{append-nil}
 use Rattle.arc_model.specs.declared.event.Act.{Act}
 use Rattle.arc_model.specs.declared.event.Act.TheVariants as acts
 use Rattle.arc_model.specs.declared.event.Origin.TheVariants as origins
-use Rattle.arc_model.specs.declared.shape.Kind.TheVariants.{Strong}
 use Rattle.arc_model.specs.Shapes.{HeapShape}
 use Rattle.arc_model.specs.History.{next_hand}
 use Rattle.arc_rule.specs.declared.step.Changed.{Changed}
@@ -16,7 +15,11 @@ use Rattle.arc_table.specs.declared.tokens.Strong.{Strong as Token}
 use Rattle.arc_table.specs.Causes.{ReadTwice, Loaded, LoadedFull, HasEntry, ChangedCount}
 use Rattle.arc_table.specs.Causes.ChangedCount.{in_entry}
 use Rattle.arc_table.specs.Runs.{Walked}
-use Rattle.arc_table.specs.Tokens.{hand_of, IsHeld}
+use Rattle.arc_table.specs.declared.heap.Part.{Part}
+use Rattle.arc_table.specs.declared.strong.Raised.TheVariants as raised
+use Rattle.arc_table.specs.Seats.{part_view}
+use Rattle.arc_table.specs.Calls.{act_list, works_after, GoesOn, IsCall}
+use Rattle.arc_table.specs.Tokens.{hand_of, IsHeld, raised_act}
 use Rattle.arc_view_laws.specs.Having.{StandsAs}
 use Rattle.arc_table.proofs.Making.{grew_on, grew_most, next_none}
 
@@ -53,26 +56,36 @@ read_on place c v u w first r = record {
   differ = r.differ;
 }
 
-module _ (shape : HeapShape) (k s e : ℕ) (v u w : View) (first : Called shape [] 1 v u) (walked : Walked v u) where
-  -- the second part copies the hand
-  pub copied_on : StandsAs v k u k → Called shape (acts.Copy (origins.Hand k) (next_hand u.number u.seen) ∷ []) 2 u w × StandsAs u k w (next_hand u.number u.seen)
-      → Called shape (acts.Copy (origins.Hand k) (next_hand v.number v.seen) ∷ []) 3 v w × StandsAs v k w (next_hand v.number v.seen)
-  copied_on kept c =
-      let same = next_none 1 v u first.grew in
-      subst (λ n. Called shape (acts.Copy (origins.Hand k) n ∷ []) 3 v w × StandsAs v k w n) same
-      (called_on shape (acts.Copy (origins.Hand k) (next_hand u.number u.seen) ∷ []) 1 2 v u w first c.0, λ t class h. c.1 t class (kept t class h))
+-- a call of fewer steps, and one of two parts of which the first makes no act
+pub goes_most : (shape : HeapShape) (act : Option Act) (m n : ℕ) (v w : View) → m ≤ n → GoesOn shape act m v w → GoesOn shape act n v w
+goes_most shape act m n v w le g = record { called = called_most shape (act_list act) m n v w le g.called; working = g.working; alone = g.alone }
 
+pub goes_two : (shape : HeapShape) (act : Option Act) (m n : ℕ) (v u w : View) → GoesOn shape None m v u → GoesOn shape act n u w → GoesOn shape act (m + n) v w
+goes_two shape act m n v u w first second = record {
+  called = called_on shape (act_list act) m n v u w first.called second.called;
+  working = second.working ∙ ap (works_after shape act) first.working;
+  alone = second.alone;
+}
+
+-- the same of a pass
+pub call_most : (shape : HeapShape) (act : Option Act) (m n : ℕ) (p q : Part) → m ≤ n → IsCall shape act m p q → IsCall shape act n p q
+call_most shape act m n p q le c = (c.0, goes_most shape act m n (part_view p) (part_view q) le c.1)
+
+pub call_two : (shape : HeapShape) (act : Option Act) (m n : ℕ) (p r q : Part) → IsCall shape None m p r → IsCall shape act n r q → IsCall shape act (m + n) p q
+call_two shape act m n p r q first second = (second.0 ∙ first.0, goes_two shape act m n (part_view p) (part_view r) (part_view q) first.1 second.1)
+
+-- the second part copies the hand
+pub copied_call : (shape : HeapShape) (k : ℕ) (p r q : Part) → IsCall shape None 1 p r → IsCall shape (raised_act k (part_view r) raised.Up) 2 r q → IsCall shape (raised_act k (part_view p) raised.Up) 3 p q
+copied_call shape k p r q first second = subst (λ n. IsCall shape (Some (acts.Copy (origins.Hand k) n)) 3 p q) (next_none 1 (part_view p) (part_view r) first.1.called.grew) (call_two shape (raised_act k (part_view r) raised.Up) 1 2 p r q first second)
+
+pub copied_stands : (k : ℕ) (n : ℕ) (v u w : View) → Grew [] n v u → StandsAs v k u k → StandsAs u k w (next_hand u.number u.seen) → StandsAs v k w (next_hand v.number v.seen)
+copied_stands k n v u w g kept stands = subst (StandsAs v k w) (next_none n v u g) (λ s class h. stands s class (kept s class h))
+
+module _ (shape : HeapShape) (k s e : ℕ) (v u w : View) (walked : Walked v u) where
   -- it finds the strong count of the entry at its greatest
-  pub full_on : Called shape (acts.CountFull Strong (origins.Hand k) ∷ []) 1 u w × HasEntry w k e × Loaded (number (extent_of shape) (places.Strong e)) shape.caps.wide u w
-      → Called shape (acts.CountFull Strong (origins.Hand k) ∷ []) 3 v w × LoadedFull shape k v w
-  full_on c =
-      let x = acts.CountFull Strong (origins.Hand k) ∷ [] in
-      (called_most shape x 2 3 v w (omega arith) (called_on shape x 1 1 v u w first c.0), record { entry = e; has = c.1; loaded = loaded_on (number (extent_of shape) (places.Strong e)) shape.caps.wide v u w walked c.2 })
+  pub full_on : HasEntry w k e × Loaded (number (extent_of shape) (places.Strong e)) shape.caps.wide u w → LoadedFull shape k v w
+  full_on c = record { entry = e; has = c.0; loaded = loaded_on (number (extent_of shape) (places.Strong e)) shape.caps.wide v u w walked c.1 }
 
   -- it finds that count changed
-  pub changed_on : (c : Changed) → Called shape [] 2 u w × HasEntry w k e × ReadTwice (number (extent_of shape) (places.Strong e)) c u w → Called shape [] 3 v w × ChangedCount shape k s c v w
-  changed_on c d = (called_on shape [] 1 2 v u w first d.0, in_entry e d.1 (read_on (number (extent_of shape) (places.Strong e)) c v u w walked d.2))
-
-  -- it drops the hand
-  pub dropped_on : (xs : List Act) → Called shape xs 2 u w → Called shape xs 3 v w
-  dropped_on xs c = called_on shape xs 1 2 v u w first c
+  pub changed_on : (c : Changed) → HasEntry w k e × ReadTwice (number (extent_of shape) (places.Strong e)) c u w → ChangedCount shape k s c v w
+  changed_on c d = in_entry e d.0 (read_on (number (extent_of shape) (places.Strong e)) c v u w walked d.1)

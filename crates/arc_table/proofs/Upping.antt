@@ -49,7 +49,8 @@ use Rattle.arc_model.proofs.Own.{own_gains}
 use Rattle.arc_view_laws.specs.Strangers.{SeesNoStranger}
 use Rattle.arc_view_laws.specs.Having.{IsStrongOf, StandsAs}
 use Rattle.arc_table.specs.Causes.{ReadTwice, LoadedAtCap, HasEntry}
-use Rattle.arc_table.specs.Attempts.{IsRaisedInline}
+use Rattle.arc_table.specs.Attempts.{IsRaisedInline, inline_up_act, up_steps}
+use Rattle.arc_table.specs.Calls.{GoesOn}
 use Rattle.arc_rule.specs.declared.step.Changed.{Changed}
 use Rattle.arc_view_laws.proofs.Counted.{told_alone}
 use Rattle.arc_view_laws.proofs.StrongWords.{ShowsStrong, counts, slow, shows_strong, is_count_word}
@@ -369,14 +370,14 @@ module _ (shape : HeapShape) (k s : ℕ) (v0 : View) (sized : IsSized shape) (lt
       )
 
   -- what each answer tells
-  pub raised_inline : (a : StrongUpAnswer) (w : View) → Outcome a w → IsRaisedInline shape k s v0 w a × (w.working ≡ v0.working) × SeesNoStranger w
-  raised_inline ups.Up w (seen, t) = let c = has_copied seen w t in ((c.called, stands_as v0 w k (next_hand v0.number v0.seen) s o0.class stood c.strong), c.working, c.alone)
+  pub raised_inline : (a : StrongUpAnswer) (w : View) → Outcome a w → IsRaisedInline shape k s v0 w a × GoesOn shape (inline_up_act k v0 a) (up_steps a) v0 w
+  raised_inline ups.Up w (seen, t) = let c = has_copied seen w t in (stands_as v0 w k (next_hand v0.number v0.seen) s o0.class stood c.strong, record { called = c.called; working = c.working; alone = c.alone })
   raised_inline ups.Dead w none = absurd (none)
-  raised_inline ups.AtCap w (x, c, l, word, lives, full) = ((look_called x w l, look_capped x c w l word lives full), l.holding.working, l.alone)
-  raised_inline (ups.Slow e) w (x, l, entry, within) = ((look_called x w l, look_stands x w l, look_has x e w l entry, within), l.holding.working, l.alone)
+  raised_inline ups.AtCap w (x, c, l, word, lives, full) = (look_capped x c w l word lives full, record { called = look_called x w l; working = l.holding.working; alone = l.alone })
+  raised_inline (ups.Slow e) w (x, l, entry, within) = ((look_stands x w l, look_has x e w l entry, within), record { called = look_called x w l; working = l.holding.working; alone = l.alone })
   raised_inline (ups.Again c) w (t, differ) =
       let missed = has_missed c w t differ in
-      ((missed.0, read_twice c w t differ), missed.1, told_alone shape copy (swap c.seen t.c) t.v c.found w t.told)
+      (read_twice c w t differ, record { called = missed.0; working = missed.1; alone = told_alone shape copy (swap c.seen t.c) t.v c.found w t.told })
 
 -- the same for a strong reference to an object in the slot
 pub may_raise : (shape : HeapShape) (k s : ℕ) (v : View) → IsSized shape → (s < shape.slots) × ((class : ℕ) × IsStrongOf v k s class) → v.working.owes ≡ None
@@ -385,5 +386,5 @@ may_raise shape k s v sized (lt, (class, (i, o, hand, here, slot, is))) free = m
 
 pub has_raised : (shape : HeapShape) (k s : ℕ) (v : View) → IsSized shape → (s < shape.slots) × ((class : ℕ) × IsStrongOf v k s class) → v.working.owes ≡ None → (a : StrongUpAnswer) (w : View)
     → Ran strong_up_turned strong_up_answer shape (intents.Copy (origins.Hand k)) (record { layout = extent_of shape; slot = s; cap = shape.caps.strong; at = ats.Start }) None v a w
-    → IsRaisedInline shape k s v w a × (w.working ≡ v.working) × SeesNoStranger w
+    → IsRaisedInline shape k s v w a × GoesOn shape (inline_up_act k v a) (up_steps a) v w
 has_raised shape k s v sized (lt, (class, (i, o, hand, here, slot, is))) free a w ran = raised_inline shape k s v sized lt free i o hand here slot a w (has_upped shape k s v sized lt free i o hand here slot a w ran)

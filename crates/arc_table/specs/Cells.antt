@@ -1,5 +1,5 @@
 -- What goes into a global and what comes out of it.
-use Rattle.std.specs.Prelude.{ℕ, ◌≡◌, ◌≢◌, ◌+◌, ◌<◌, ◌==◌, if◌then◌else◌, true, [], ◌∷◌, Option, None, Some, slice_get, ⊤}
+use Rattle.std.specs.Prelude.{ℕ, ◌≡◌, ◌≢◌, ◌+◌, ◌<◌, ◌==◌, if◌then◌else◌, true, Option, None, Some, slice_get, ⊤}
 use Rattle.arc_model.specs.declared.event.Act.{Act}
 use Rattle.arc_model.specs.declared.event.Act.TheVariants as acts
 use Rattle.arc_model.specs.declared.event.CellName.TheVariants as cells
@@ -11,7 +11,6 @@ use Rattle.arc_model.specs.History.{next_hand}
 use Rattle.arc_rule.specs.declared.layout.Place.TheVariants as places
 use Rattle.arc_rule.specs.Places.{extent_of, number}
 use Rattle.arc_view.specs.declared.view.View.{View}
-use Rattle.arc_view.specs.Calls.{Called}
 use Rattle.arc_cells.specs.declared.swap.SwapAnswer.{SwapAnswer}
 use Rattle.arc_cells.specs.declared.swap.SwapAnswer.TheVariants as answers
 use Rattle.arc_table.specs.declared.tokens.Any.{Any}
@@ -55,10 +54,16 @@ hand_for v word = if word == 0 then None else Some (next_hand v.number v.seen)
 
 -- What an attempt comes to. Took: what the word leads to is the pass's new hand. Busy: the word that was loaded is 1. Again: it has changed between
 -- two reads of this call.
-abbrev pub IsExchanged : HeapShape → ℕ → Option ℕ → View → View → SwapAnswer → Type 0
-IsExchanged shape g put v w (answers.Took word) = Called shape (acts.Swap (cells.Global g) put (hand_for v word) ∷ []) 2 v w × (word ≢ 0 → (s : ℕ) × (word ≡ s + 2) × IsOfGlobal shape g w (next_hand v.number v.seen) s)
-IsExchanged shape g put v w answers.Busy = Called shape [] 2 v w × Loaded (number (extent_of shape) (places.Global g)) 1 v w
-IsExchanged shape g put v w (answers.Again c) = Called shape [] 2 v w × ReadTwice (number (extent_of shape) (places.Global g)) c v w
+abbrev pub IsExchanged : HeapShape → ℕ → View → View → SwapAnswer → Type 0
+IsExchanged shape g v w (answers.Took word) = word ≢ 0 → (s : ℕ) × (word ≡ s + 2) × IsOfGlobal shape g w (next_hand v.number v.seen) s
+IsExchanged shape g v w answers.Busy = Loaded (number (extent_of shape) (places.Global g)) 1 v w
+IsExchanged shape g v w (answers.Again c) = ReadTwice (number (extent_of shape) (places.Global g)) c v w
+
+-- the act of the call
+abbrev pub exchanged_act : ℕ → Option ℕ → View → SwapAnswer → Option Act
+exchanged_act g put v (answers.Took word) = Some (acts.Swap (cells.Global g) put (hand_for v word))
+exchanged_act g put v answers.Busy = None
+exchanged_act g put v (answers.Again c) = None
 
 -- what a word leads to, with the last hand of the view
 abbrev pub IsTokenOf : ℕ → View → Any → Type 0
@@ -72,11 +77,10 @@ IsTaken shape g v w (anys.Strong t) = (hand_of t ≡ next_hand v.number v.seen) 
 
 -- The same with the tokens. Busy and Again give back what was to be put in.
 abbrev pub IsSwapped : HeapShape → ℕ → Any → View → View → Swapped → Type 0
-IsSwapped shape g put v w (swapped.Ok got) = Called shape (acts.Swap (cells.Global g) (hand_in put) (hand_in got) ∷ []) 2 v w × IsTaken shape g v w got
-IsSwapped shape g put v w (swapped.Busy back) = (back ≡ put) × Called shape [] 2 v w × Loaded (number (extent_of shape) (places.Global g)) 1 v w
-IsSwapped shape g put v w (swapped.Again back c) = (back ≡ put) × Called shape [] 2 v w × ReadTwice (number (extent_of shape) (places.Global g)) c v w
+IsSwapped shape g put v w (swapped.Ok got) = IsTaken shape g v w got
+IsSwapped shape g put v w (swapped.Busy back) = (back ≡ put) × Loaded (number (extent_of shape) (places.Global g)) 1 v w
+IsSwapped shape g put v w (swapped.Again back c) = (back ≡ put) × ReadTwice (number (extent_of shape) (places.Global g)) c v w
 
--- the act of the call
 abbrev pub swap_act : ℕ → Any → Swapped → Option Act
 swap_act g put (swapped.Ok got) = Some (acts.Swap (cells.Global g) (hand_in put) (hand_in got))
 swap_act g put (swapped.Busy back) = None
@@ -86,8 +90,3 @@ swap_act g put (swapped.Again back c) = None
 abbrev pub KeepsUnput : Any → View → View → Type 0
 KeepsUnput anys.Nil v w = KeepsStrong v w
 KeepsUnput (anys.Strong t) v w = KeepsStrongBut (hand_of t) v w
-
-abbrev pub KeepsOthers : Any → Swapped → View → View → Type 0
-KeepsOthers put (swapped.Ok got) v w = KeepsUnput put v w
-KeepsOthers put (swapped.Busy back) v w = KeepsStrong v w
-KeepsOthers put (swapped.Again back c) v w = KeepsStrong v w

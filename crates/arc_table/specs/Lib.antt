@@ -1,5 +1,7 @@
 pub mod Seats
 pub mod Runs
+pub mod Calls
+pub mod Possessions
 pub mod Causes
 pub mod Tokens
 pub mod Ends

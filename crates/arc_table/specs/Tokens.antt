@@ -1,5 +1,5 @@
 -- What tokens stand for, and what attempts answer.
-use Rattle.std.specs.Prelude.{ℕ, ◌≡◌, ◌+◌, ◌<◌, true, false, List, [], ◌∷◌, ◌++◌, Option, None, Some, length}
+use Rattle.std.specs.Prelude.{ℕ, ◌≡◌, ◌+◌, ◌<◌, true, false, List, ◌++◌, Option, None, Some, length, ⊤}
 use Rattle.arc_model.specs.declared.event.ObjectName.{ObjectName}
 use Rattle.arc_view.specs.Rule.{news}
 use Rattle.arc_model.specs.declared.event.Act.{Act}
@@ -14,8 +14,7 @@ use Rattle.arc_view.specs.declared.view.Mark.{Mark}
 use Rattle.arc_view.specs.declared.view.View.{View}
 use Rattle.arc_view.specs.Views.{made_in}
 use Rattle.arc_view.specs.Kinds.{searched}
-use Rattle.arc_view.specs.Calls.{Called}
-use Rattle.arc_view_laws.specs.Having.{last_hand, IsStrongOf, IsNewHand, StandsAs, KeepsStrong, KeepsStrongBut, IsDyingOf}
+use Rattle.arc_view_laws.specs.Having.{last_hand, IsStrongOf, IsNewHand, StandsAs, IsDyingOf}
 use Rattle.arc_plan.specs.declared.slots.NewObjectAnswer.{NewObjectAnswer}
 use Rattle.arc_plan.specs.declared.slots.NewObjectAnswer.TheVariants.{Slot, NoSlot}
 use Rattle.arc_table.specs.declared.tokens.Strong.{Strong as Token}
@@ -40,15 +39,24 @@ hand_of t = last_hand t.at.value.me.0
 abbrev pub FoundTaken : HeapShape → View → View → Type 0
 FoundTaken shape v w = (ms : List Mark) × (w.trail ≡ ms ++ v.trail) × (length ms ≡ shape.slots) × (searched (λ s. number (extent_of shape) (Count s)) 2 (made_in v.number v.seen) shape.slots ms ≡ true)
 
--- Slot: one object was made, and the pass's new hand is a strong one of it. NoSlot: each slot was found taken.
+-- Slot: the pass's new hand is a strong one of the object that was made there. NoSlot: each slot was found taken.
 abbrev pub IsCreated : HeapShape → ℕ → View → View → NewObjectAnswer → Type 0
-IsCreated shape class v w (Slot s) = Called shape (acts.New (next_hand v.number v.seen) class s ∷ []) (shape.slots + 1) v w × (s < shape.slots) × IsStrongOf w (next_hand v.number v.seen) s class
-IsCreated shape class v w NoSlot = Called shape (acts.Full ∷ []) (shape.slots + 1) v w × FoundTaken shape v w
+IsCreated shape class v w (Slot s) = (s < shape.slots) × IsStrongOf w (next_hand v.number v.seen) s class
+IsCreated shape class v w NoSlot = FoundTaken shape v w
 
--- Ok: one object was made, and the token is the pass's new hand, strong, of the object in its slot. NoSlot: each slot was found taken.
+-- the act of the call
+abbrev pub created_act : ℕ → View → NewObjectAnswer → Option Act
+created_act class v (Slot s) = Some (acts.New (next_hand v.number v.seen) class s)
+created_act class v NoSlot = Some acts.Full
+
+-- Ok: the token is the pass's new hand, a strong one of the new object in its slot. NoSlot: each slot was found taken.
 abbrev pub IsMade : HeapShape → ℕ → View → View → Made → Type 0
-IsMade shape class v w (made.Ok t) = Called shape (acts.New (hand_of t) class t.slot ∷ []) (shape.slots + 1) v w × (hand_of t ≡ next_hand v.number v.seen) × IsNewHand v (hand_of t) × (t.slot < shape.slots) × IsStrongOf w (hand_of t) t.slot class
-IsMade shape class v w made.NoSlot = Called shape (acts.Full ∷ []) (shape.slots + 1) v w × FoundTaken shape v w
+IsMade shape class v w (made.Ok t) = (hand_of t ≡ next_hand v.number v.seen) × IsNewHand v (hand_of t) × (t.slot < shape.slots) × IsStrongOf w (hand_of t) t.slot class
+IsMade shape class v w made.NoSlot = FoundTaken shape v w
+
+abbrev pub made_act : ℕ → Made → Option Act
+made_act class (made.Ok t) = Some (acts.New (hand_of t) class t.slot)
+made_act class made.NoSlot = Some acts.Full
 
 -- the name of the pass's next object, of any class
 abbrev pub IsNextName : View → ObjectName → Type 0
@@ -62,50 +70,51 @@ IsHeld shape v t = (t.slot < shape.slots) × ((class : ℕ) × IsStrongOf v (han
 abbrev pub IsOwed : HeapShape → View → Dying → Type 0
 IsOwed shape v d = (d.slot < shape.slots) × ((class : ℕ) × IsDyingOf v d.slot class)
 
--- One more strong reference, copied from hand k of an object in slot s. Up: the copy is the pass's new hand, and is what hand k was. AtCap, CountFull:
--- the count that was loaded in this call stands at its greatest. Again: the count has changed between two reads of this call.
+-- One more strong reference, copied from hand k of an object in slot s. Up: the pass's new hand is what hand k was. AtCap, CountFull: the count that was
+-- loaded in this call stands at its greatest. Again: the count has changed between two reads of this call.
 abbrev pub IsRaised : HeapShape → ℕ → ℕ → View → View → Raised → Type 0
-IsRaised shape k s v w raised.Up = Called shape (acts.Copy (origins.Hand k) (next_hand v.number v.seen) ∷ []) 3 v w × StandsAs v k w (next_hand v.number v.seen)
-IsRaised shape k s v w raised.AtCap = Called shape [] 3 v w × LoadedAtCap shape s v w
-IsRaised shape k s v w raised.CountFull = Called shape (acts.CountFull Strong (origins.Hand k) ∷ []) 3 v w × LoadedFull shape k v w
-IsRaised shape k s v w (raised.Again c) = Called shape [] 3 v w × ChangedCount shape k s c v w
+IsRaised shape k s v w raised.Up = StandsAs v k w (next_hand v.number v.seen)
+IsRaised shape k s v w raised.AtCap = LoadedAtCap shape s v w
+IsRaised shape k s v w raised.CountFull = LoadedFull shape k v w
+IsRaised shape k s v w (raised.Again c) = ChangedCount shape k s c v w
+
+abbrev pub raised_act : ℕ → View → Raised → Option Act
+raised_act k v raised.Up = Some (acts.Copy (origins.Hand k) (next_hand v.number v.seen))
+raised_act k v raised.AtCap = None
+raised_act k v raised.CountFull = Some (acts.CountFull Strong (origins.Hand k))
+raised_act k v (raised.Again c) = None
 
 -- The same with the token: Ok is the pass's new hand, in the same slot.
 abbrev pub IsUp : HeapShape → Token → View → View → Up Token → Type 0
-IsUp shape of v w (ups.Ok t) = Called shape (acts.Copy (origins.Hand (hand_of of)) (hand_of t) ∷ []) 3 v w × (hand_of t ≡ next_hand v.number v.seen) × IsNewHand v (hand_of t) × (t.slot ≡ of.slot) × StandsAs v (hand_of of) w (hand_of t)
-IsUp shape of v w (ups.Again c) = Called shape [] 3 v w × ChangedCount shape (hand_of of) of.slot c v w
-IsUp shape of v w ups.AtCap = Called shape [] 3 v w × LoadedAtCap shape of.slot v w
-IsUp shape of v w ups.CountFull = Called shape (acts.CountFull Strong (origins.Hand (hand_of of)) ∷ []) 3 v w × LoadedFull shape (hand_of of) v w
-
--- Hand k, of an object in slot s, is dropped. More: other strong references remain. Last: none, and the pass owes the deinit of what the hand was of.
--- Again: nothing is dropped, and the count has changed between two reads of this call.
-abbrev pub IsLowered : HeapShape → ℕ → ℕ → View → View → Lowered → Type 0
-IsLowered shape k s v w lowered.More = Called shape (acts.Drop k false ∷ []) 3 v w
-IsLowered shape k s v w lowered.Last = Called shape (acts.Drop k true ∷ []) 3 v w
-IsLowered shape k s v w (lowered.Again c) = Called shape [] 3 v w × ChangedCount shape k s c v w
-
--- The same with the tokens: Last gives the duty, Again gives the reference back.
-abbrev pub IsReleased : HeapShape → Token → View → View → Release → Type 0
-IsReleased shape held v w releases.More = Called shape (acts.Drop (hand_of held) false ∷ []) 3 v w
-IsReleased shape held v w (releases.Last d) = Called shape (acts.Drop (hand_of held) true ∷ []) 3 v w × (d.slot ≡ held.slot) × ((class : ℕ) → IsStrongOf v (hand_of held) held.slot class → IsDyingOf w d.slot class)
-IsReleased shape held v w (releases.Again t c) = (t ≡ held) × Called shape [] 3 v w × ChangedCount shape (hand_of held) held.slot c v w
-
--- the act of the call
-abbrev pub made_act : ℕ → Made → Option Act
-made_act class (made.Ok t) = Some (acts.New (hand_of t) class t.slot)
-made_act class made.NoSlot = Some acts.Full
+IsUp shape of v w (ups.Ok t) = (hand_of t ≡ next_hand v.number v.seen) × IsNewHand v (hand_of t) × (t.slot ≡ of.slot) × StandsAs v (hand_of of) w (hand_of t)
+IsUp shape of v w ups.AtCap = LoadedAtCap shape of.slot v w
+IsUp shape of v w ups.CountFull = LoadedFull shape (hand_of of) v w
+IsUp shape of v w (ups.Again c) = ChangedCount shape (hand_of of) of.slot c v w
 
 abbrev pub up_act : Token → Up Token → Option Act
 up_act of (ups.Ok t) = Some (acts.Copy (origins.Hand (hand_of of)) (hand_of t))
+up_act of ups.AtCap = None
 up_act of ups.CountFull = Some (acts.CountFull Strong (origins.Hand (hand_of of)))
-up_act of _ = None
+up_act of (ups.Again c) = None
+
+-- The drop of hand k, of an object in slot s. More: other strong references remain. Last: none. Again: the count has changed between two reads of this call.
+abbrev pub IsLowered : HeapShape → ℕ → ℕ → View → View → Lowered → Type 0
+IsLowered shape k s v w lowered.More = ⊤
+IsLowered shape k s v w lowered.Last = ⊤
+IsLowered shape k s v w (lowered.Again c) = ChangedCount shape k s c v w
+
+abbrev pub lowered_act : ℕ → Lowered → Option Act
+lowered_act k lowered.More = Some (acts.Drop k false)
+lowered_act k lowered.Last = Some (acts.Drop k true)
+lowered_act k (lowered.Again c) = None
+
+-- The same with the tokens: Last gives the duty to deinit what the hand was of, Again gives the reference back.
+abbrev pub IsReleased : HeapShape → Token → View → View → Release → Type 0
+IsReleased shape held v w releases.More = ⊤
+IsReleased shape held v w (releases.Last d) = (d.slot ≡ held.slot) × ((class : ℕ) → IsStrongOf v (hand_of held) held.slot class → IsDyingOf w d.slot class)
+IsReleased shape held v w (releases.Again t c) = (t ≡ held) × ChangedCount shape (hand_of held) held.slot c v w
 
 abbrev pub release_act : Token → Release → Option Act
 release_act held releases.More = Some (acts.Drop (hand_of held) false)
 release_act held (releases.Last d) = Some (acts.Drop (hand_of held) true)
 release_act held (releases.Again t c) = None
-
--- the hand that the call gave up
-abbrev pub KeepsRest : Token → Release → View → View → Type 0
-KeepsRest held (releases.Again t c) v w = KeepsStrong v w
-KeepsRest held _ v w = KeepsStrongBut (hand_of held) v w

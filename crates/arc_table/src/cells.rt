@@ -2,13 +2,10 @@
 ghost use Rattle.std.specs.Prelude.{◌≡◌, ◌≢◌, ◌+◌, ◌<◌, ◌^◌, ℕ};
 ghost use Rattle.arc_model.specs.declared.event.CellName.TheVariants.{Global};
 ghost use Rattle.arc_rule.specs.declared.step.Intent.TheVariants.{Swap as swap_intent};
-ghost use Rattle.arc_view.specs.Admission.{OwesNoName, HasNoAccess};
-ghost use Rattle.arc_view_laws.specs.Having.{KeepsFreed};
-ghost use Rattle.arc_table.specs.Cells.{hand_in, word_of, HoldsStrong, MayPut, IsExchanged, IsTokenOf, IsSwapped, swap_act, KeepsOthers};
-ghost use Rattle.arc_view_laws.specs.Hands.{Moves};
+ghost use Rattle.arc_table.specs.Calls.{IsFree, IsCall};
+ghost use Rattle.arc_table.specs.Cells.{hand_in, word_of, HoldsStrong, MayPut, IsExchanged, exchanged_act, IsTokenOf, IsSwapped, swap_act};
+ghost use Rattle.arc_table.specs.Possessions.{StillHas};
 ghost use Rattle.arc_table.specs.Seats.{heap_id, shape_of, part_id, part_view, pass_id, view_of};
-ghost use Rattle.arc_view_laws.specs.Strangers.{SeesNoStranger};
-ghost use Rattle.arc_view_laws.specs.Having.{KeepsDying};
 
 use crate::asks::Asks;
 use crate::heap::{Heap, Part, Pass};
@@ -56,12 +53,9 @@ impl Heap {
         requires asks { (J.intent ≡ swap_intent (Global global) (hand_in put.now)) × (J.shape ≡ shape_of self.now) }
         requires strong { HoldsStrong (shape_of self.now) global }
         requires put { MayPut (shape_of self.now) global (part_view part.old) put.now }
-        requires free { OwesNoName (part_view part.old) }
-        requires access { HasNoAccess (part_view part.old) }
-        ensures same { part_id part.new ≡ part_id part.old }
-        ensures exchanged { IsExchanged (shape_of self.now) global (hand_in put.now) (part_view part.old) (part_view part.new) result }
-        ensures working { (part_view part.new).working ≡ (part_view part.old).working }
-        ensures alone { SeesNoStranger (part_view part.new) }
+        requires free { IsFree (part_view part.old) }
+        ensures called { IsCall (shape_of self.now) (exchanged_act global (hand_in put.now) (part_view part.old) result) 2 part.old part.new }
+        ensures exchanged { IsExchanged (shape_of self.now) global (part_view part.old) (part_view part.new) result }
     {
         let place = self.layout.global_of(global);
         let plan = Swap::start(&self.layout, place, word_of(put));
@@ -78,15 +72,10 @@ impl Heap {
         requires own { pass_id pass.old ≡ heap_id self.now }
         requires strong { HoldsStrong (shape_of self.now) global }
         requires put { MayPut (shape_of self.now) global (view_of pass.old) put }
-        requires free { OwesNoName (view_of pass.old) }
-        requires access { HasNoAccess (view_of pass.old) }
-        ensures same { pass_id pass.new ≡ pass_id pass.old }
+        requires free { IsFree (view_of pass.old) }
+        ensures called { IsCall (shape_of self.now) (swap_act global put result) 2 pass.old.part pass.new.part }
         ensures swapped { IsSwapped (shape_of self.now) global put (view_of pass.old) (view_of pass.new) result }
-        ensures moves { Moves (swap_act global put result) (view_of pass.old) (view_of pass.new) }
-        ensures kept { KeepsOthers put result (view_of pass.old) (view_of pass.new) }
-        ensures dying { KeepsDying (view_of pass.old) (view_of pass.new) }
-        ensures freed { KeepsFreed (view_of pass.old) (view_of pass.new) }
-        ensures working { (view_of pass.new).working ≡ (view_of pass.old).working }
+        ensures has { StillHas (swap_act global put result) (view_of pass.old) (view_of pass.new) }
     {
         match self.exchange_global::<Brand>(&mut pass.part, global, &put) {
             SwapAnswer::Took(word) => {

@@ -3,14 +3,12 @@ ghost use Rattle.std.specs.Prelude.{◌≡◌, ◌<◌, Some};
 ghost use Rattle.arc_model.specs.declared.event.Act.TheVariants.{Vacate as vacate_act};
 ghost use Rattle.arc_rule.specs.declared.step.Intent.TheVariants.{Deinit as deinit_intent, Vacate as vacate_intent};
 ghost use Rattle.arc_view.specs.Admission.{OwesNoName};
-ghost use Rattle.arc_table.specs.Ends.{IsBareDying, IsBareDyingWith, HasNoField, IsFinishedInline, IsFinishedInEntry, IsEnded, IsFinished, IsFreed, IsVacatedSlot, IsVacated, KeepsDyingRest, finish_act, inline_works, entry_works, ended_works, finish_works};
-ghost use Rattle.arc_view_laws.specs.Having.{KeepsFreed, KeepsFreedBut};
-ghost use Rattle.arc_view_laws.specs.Hands.{Moves};
+ghost use Rattle.arc_table.specs.Calls.{IsCall};
+ghost use Rattle.arc_table.specs.Ends.{IsBareDying, IsBareDyingWith, HasNoField, IsFinishedInline, inline_finish_act, finish_steps, IsFinishedInEntry, entry_finish_act, IsEnded, ended_act, IsFinished, finish_act, IsFreed, IsLeft, IsVacated};
+ghost use Rattle.arc_table.specs.Possessions.{StillHas};
 ghost use Rattle.arc_table.specs.Runs.{Walked};
 ghost use Rattle.arc_table.specs.Seats.{heap_id, shape_of, part_id, part_view, pass_id, view_of};
-ghost use Rattle.arc_view_laws.specs.Strangers.{SeesNoStranger};
 ghost use Rattle.arc_table.specs.Tokens.{IsOwed};
-ghost use Rattle.arc_view_laws.specs.Having.{KeepsStrong, KeepsDying};
 
 use crate::asks::Asks;
 use crate::heap::{Heap, Part, Pass};
@@ -60,11 +58,9 @@ impl Heap {
         requires within { slot < (shape_of self.now).slots }
         requires dying { IsBareDying (shape_of self.now) (part_view part.old) slot }
         requires free { OwesNoName (part_view part.old) }
-        ensures same { part_id part.new ≡ part_id part.old }
+        ensures called { IsCall (shape_of self.now) (inline_finish_act slot result) (finish_steps result) part.old part.new }
         ensures walked { Walked (part_view part.old) (part_view part.new) }
         ensures finished { IsFinishedInline (shape_of self.now) slot (part_view part.old) (part_view part.new) result }
-        ensures working { (part_view part.new).working ≡ inline_works (shape_of self.now) slot result (part_view part.old).working }
-        ensures alone { SeesNoStranger (part_view part.new) }
     {
         let plan = UnownedDown::start(&self.layout, slot);
         self.run_as::<J, UnownedDown>(part, plan)
@@ -77,10 +73,8 @@ impl Heap {
         requires within { entry < (shape_of self.now).entries }
         requires dying { IsBareDyingWith (shape_of self.now) (part_view part.old) slot entry }
         requires free { OwesNoName (part_view part.old) }
-        ensures same { part_id part.new ≡ part_id part.old }
+        ensures called { IsCall (shape_of self.now) (entry_finish_act slot result) 2 part.old part.new }
         ensures finished { IsFinishedInEntry (shape_of self.now) slot entry (part_view part.old) (part_view part.new) result }
-        ensures working { (part_view part.new).working ≡ entry_works (shape_of self.now) slot result (part_view part.old).working }
-        ensures alone { SeesNoStranger (part_view part.new) }
     {
         let plan = EntryDown::start(&self.layout, entry, Kind::Unowned);
         self.run_as::<J, EntryDown>(part, plan)
@@ -92,10 +86,8 @@ impl Heap {
         requires within { slot < (shape_of self.now).slots }
         requires dying { IsBareDying (shape_of self.now) (part_view part.old) slot }
         requires free { OwesNoName (part_view part.old) }
-        ensures same { part_id part.new ≡ part_id part.old }
+        ensures called { IsCall (shape_of self.now) (ended_act slot result) 3 part.old part.new }
         ensures ended { IsEnded (shape_of self.now) slot (part_view part.old) (part_view part.new) result }
-        ensures working { (part_view part.new).working ≡ ended_works (shape_of self.now) slot result (part_view part.old).working }
-        ensures alone { SeesNoStranger (part_view part.new) }
     {
         match self.finish_inline::<J>(part, slot) {
             UnownedDownAnswer::More => Ended::More,
@@ -119,13 +111,9 @@ impl Heap {
         requires owed { IsOwed (shape_of self.now) (view_of pass.old) dying }
         requires bare { HasNoField (shape_of self.now) (view_of pass.old) dying.slot }
         requires free { OwesNoName (view_of pass.old) }
-        ensures same { pass_id pass.new ≡ pass_id pass.old }
+        ensures called { IsCall (shape_of self.now) (finish_act dying result) 3 pass.old.part pass.new.part }
         ensures finished { IsFinished (shape_of self.now) dying (view_of pass.old) (view_of pass.new) result }
-        ensures moves { Moves (finish_act dying result) (view_of pass.old) (view_of pass.new) }
-        ensures kept { KeepsStrong (view_of pass.old) (view_of pass.new) }
-        ensures dying { KeepsDyingRest dying result (view_of pass.old) (view_of pass.new) }
-        ensures freed { KeepsFreed (view_of pass.old) (view_of pass.new) }
-        ensures working { (view_of pass.new).working ≡ finish_works (shape_of self.now) dying result (view_of pass.old).working }
+        ensures has { StillHas (finish_act dying result) (view_of pass.old) (view_of pass.new) }
     {
         match self.end_deinit::<Brand>(&mut pass.part, dying.slot) {
             Ended::More => {
@@ -145,10 +133,8 @@ impl Heap {
         requires asks { (J.intent ≡ vacate_intent) × (J.shape ≡ shape_of self.now) }
         requires freed { IsFreed (shape_of self.now) (part_view part.old) freed.now }
         requires free { OwesNoName (part_view part.old) }
-        ensures same { part_id part.new ≡ part_id part.old }
-        ensures vacated { IsVacatedSlot (shape_of self.now) freed.now (part_view part.old) (part_view part.new) }
-        ensures working { (part_view part.new).working ≡ (part_view part.old).working }
-        ensures alone { SeesNoStranger (part_view part.new) }
+        ensures called { IsCall (shape_of self.now) (Some (vacate_act freed.now.slot)) 1 part.old part.new }
+        ensures left { IsLeft (part_view part.old) (part_view part.new) freed.now.slot freed.now.entry }
     {
         let plan = Vacate::start(&self.layout, freed.slot);
         self.run_as::<J, Vacate>(part, plan);
@@ -160,13 +146,9 @@ impl Heap {
         requires own { pass_id pass.old ≡ heap_id self.now }
         requires freed { IsFreed (shape_of self.now) (view_of pass.old) freed }
         requires free { OwesNoName (view_of pass.old) }
-        ensures same { pass_id pass.new ≡ pass_id pass.old }
-        ensures vacated { IsVacated (shape_of self.now) freed (view_of pass.old) (view_of pass.new) result }
-        ensures moves { Moves (Some (vacate_act freed.slot)) (view_of pass.old) (view_of pass.new) }
-        ensures kept { KeepsStrong (view_of pass.old) (view_of pass.new) }
-        ensures dying { KeepsDying (view_of pass.old) (view_of pass.new) }
-        ensures freed { KeepsFreedBut freed.slot (view_of pass.old) (view_of pass.new) }
-        ensures working { (view_of pass.new).working ≡ (view_of pass.old).working }
+        ensures called { IsCall (shape_of self.now) (Some (vacate_act freed.slot)) 1 pass.old.part pass.new.part }
+        ensures vacated { IsVacated freed (view_of pass.old) (view_of pass.new) result }
+        ensures has { StillHas (Some (vacate_act freed.slot)) (view_of pass.old) (view_of pass.new) }
     {
         self.vacate_slot::<Brand>(&mut pass.part, &freed);
         let Freed { slot: _, entry } = freed;

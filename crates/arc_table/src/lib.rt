@@ -13,8 +13,6 @@ mod steps;
 mod strong;
 #[cfg(test)]
 mod tests;
-#[cfg(test)]
-mod threads;
 mod tokens;
 
 pub use close::{Closed, LastPass};

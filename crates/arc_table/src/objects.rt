@@ -4,12 +4,10 @@ ghost use Rattle.arc_model.specs.declared.event.ObjectName.{ObjectName as Name};
 ghost use Rattle.arc_rule.specs.declared.step.Intent.TheVariants.{New};
 ghost use Rattle.arc_view.specs.Admission.{OwesNoName};
 ghost use Rattle.arc_view.specs.Rule.{news};
-ghost use Rattle.arc_view_laws.specs.Having.{KeepsFreed};
+ghost use Rattle.arc_table.specs.Calls.{IsCall};
+ghost use Rattle.arc_table.specs.Possessions.{StillHas};
 ghost use Rattle.arc_table.specs.Seats.{heap_id, shape_of, part_id, part_view, pass_id, view_of};
-ghost use Rattle.arc_view_laws.specs.Strangers.{SeesNoStranger};
-ghost use Rattle.arc_view_laws.specs.Hands.{Moves};
-ghost use Rattle.arc_table.specs.Tokens.{IsNextName, IsCreated, IsMade, made_act};
-ghost use Rattle.arc_view_laws.specs.Having.{KeepsStrong, KeepsDying};
+ghost use Rattle.arc_table.specs.Tokens.{IsNextName, IsCreated, created_act, IsMade, made_act};
 
 use crate::asks::Asks;
 use crate::heap::{Heap, Part, Pass};
@@ -28,10 +26,8 @@ impl Heap {
         requires room { news (part_view part.old).number (part_view part.old).seen < 100000 }
         requires free { OwesNoName (part_view part.old) }
         requires next { IsNextName (part_view part.old) name }
-        ensures same { part_id part.new ≡ part_id part.old }
+        ensures called { IsCall (shape_of self.now) (created_act name.class (part_view part.old) result) ((shape_of self.now).slots + 1) part.old part.new }
         ensures created { IsCreated (shape_of self.now) name.class (part_view part.old) (part_view part.new) result }
-        ensures working { (part_view part.new).working ≡ (part_view part.old).working }
-        ensures alone { SeesNoStranger (part_view part.new) }
     {
         let _sized = self.shape.slots();
         let plan = NewObject::start(&self.layout, name);
@@ -46,13 +42,9 @@ impl Heap {
         requires class { class < length (shape_of self.now).classes }
         requires room { news (view_of pass.old).number (view_of pass.old).seen < 100000 }
         requires free { OwesNoName (view_of pass.old) }
-        ensures same { pass_id pass.new ≡ pass_id pass.old }
+        ensures called { IsCall (shape_of self.now) (made_act class result) ((shape_of self.now).slots + 1) pass.old.part pass.new.part }
         ensures made { IsMade (shape_of self.now) class (view_of pass.old) (view_of pass.new) result }
-        ensures moves { Moves (made_act class result) (view_of pass.old) (view_of pass.new) }
-        ensures kept { KeepsStrong (view_of pass.old) (view_of pass.new) }
-        ensures dying { KeepsDying (view_of pass.old) (view_of pass.new) }
-        ensures freed { KeepsFreed (view_of pass.old) (view_of pass.new) }
-        ensures working { (view_of pass.new).working ≡ (view_of pass.old).working }
+        ensures has { StillHas (made_act class result) (view_of pass.old) (view_of pass.new) }
     {
         let name = ObjectName {
             class,

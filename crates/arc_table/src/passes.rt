@@ -1,14 +1,11 @@
 //! How passes are split off, noted, and taken in.
-ghost use Rattle.std.specs.Prelude.{◌≡◌, ◌<◌, [], None};
+ghost use Rattle.std.specs.Prelude.{◌≡◌, ◌<◌, None};
 ghost use Rattle.arc_view.specs.Admission.{OwesNoName};
 ghost use Rattle.arc_view.specs.Views.{StartsWith, spent_view};
 ghost use Rattle.arc_view.specs.Passes.{parted, newcomer, noted, glanced, met, joined, IsFirst, HoldsNothing};
-ghost use Rattle.arc_view.specs.Calls.{Grew, Called, Took};
-ghost use Rattle.arc_view_laws.specs.Having.{KeepsFreed};
+ghost use Rattle.arc_table.specs.Calls.{IsCall, HasTakenIn};
+ghost use Rattle.arc_table.specs.Possessions.{StillHas};
 ghost use Rattle.arc_table.specs.Seats.{heap_id, shape_of, part_id, part_view, pass_id, view_of, note_id, seen_of};
-ghost use Rattle.arc_view_laws.specs.Hands.{Moves};
-ghost use Rattle.arc_view_laws.specs.Strangers.{SeesNoStranger};
-ghost use Rattle.arc_view_laws.specs.Having.{KeepsStrong, KeepsDying};
 
 use crate::heap::{Heap, Note, Part, Pass};
 use arc_rule::Intent;
@@ -83,11 +80,8 @@ impl Heap {
     fn meet_part(&self, part: &mut Part, note: Note)
         requires own { (part_id part.old ≡ heap_id self.now) × (note_id note ≡ heap_id self.now) }
         requires free { OwesNoName (part_view part.old) }
-        ensures same { part_id part.new ≡ part_id part.old }
-        ensures called { Called (shape_of self.now) [] 2 (part_view part.old) (part_view part.new) }
+        ensures called { IsCall (shape_of self.now) None 2 part.old part.new }
         ensures met { StartsWith (part_view part.new).seen (seen_of note) }
-        ensures working { (part_view part.new).working ≡ (part_view part.old).working }
-        ensures alone { SeesNoStranger (part_view part.new) }
     {
         let Note { seat } = note;
         self.table.shared.join_seat::<Meets>(&mut part.seat, seat);
@@ -98,14 +92,9 @@ impl Heap {
     pub fn meet(&self, pass: &mut Pass, note: Note)
         requires own { (pass_id pass.old ≡ heap_id self.now) × (note_id note ≡ heap_id self.now) }
         requires free { OwesNoName (view_of pass.old) }
-        ensures same { pass_id pass.new ≡ pass_id pass.old }
-        ensures called { Called (shape_of self.now) [] 2 (view_of pass.old) (view_of pass.new) }
+        ensures called { IsCall (shape_of self.now) None 2 pass.old.part pass.new.part }
         ensures met { StartsWith (view_of pass.new).seen (seen_of note) }
-        ensures moves { Moves None (view_of pass.old) (view_of pass.new) }
-        ensures kept { KeepsStrong (view_of pass.old) (view_of pass.new) }
-        ensures dying { KeepsDying (view_of pass.old) (view_of pass.new) }
-        ensures freed { KeepsFreed (view_of pass.old) (view_of pass.new) }
-        ensures working { (view_of pass.new).working ≡ (view_of pass.old).working }
+        ensures has { StillHas None (view_of pass.old) (view_of pass.new) }
     {
         self.meet_part(&mut pass.part, note);
     }
@@ -115,10 +104,7 @@ impl Heap {
         requires first { IsFirst (part_view part.old) }
         requires free { OwesNoName (part_view part.old) }
         requires nothing { HoldsNothing (part_view taken) }
-        ensures same { part_id part.new ≡ part_id part.old }
-        ensures took { Took (shape_of self.now) (part_view part.old) (part_view taken) (part_view part.new) }
-        ensures working { (part_view part.new).working ≡ (part_view part.old).working }
-        ensures alone { SeesNoStranger (part_view part.new) }
+        ensures took { HasTakenIn (shape_of self.now) part.old taken part.new }
     {
         let Part { seat } = taken;
         self.table.shared.join_seat::<TakesIn>(&mut part.seat, seat);
@@ -131,13 +117,8 @@ impl Heap {
         requires first { IsFirst (view_of pass.old) }
         requires free { OwesNoName (view_of pass.old) }
         requires nothing { HoldsNothing (view_of taken) }
-        ensures same { pass_id pass.new ≡ pass_id pass.old }
-        ensures took { Took (shape_of self.now) (view_of pass.old) (view_of taken) (view_of pass.new) }
-        ensures moves { Moves None (view_of pass.old) (view_of pass.new) }
-        ensures kept { KeepsStrong (view_of pass.old) (view_of pass.new) }
-        ensures dying { KeepsDying (view_of pass.old) (view_of pass.new) }
-        ensures freed { KeepsFreed (view_of pass.old) (view_of pass.new) }
-        ensures working { (view_of pass.new).working ≡ (view_of pass.old).working }
+        ensures took { HasTakenIn (shape_of self.now) pass.old.part taken.part pass.new.part }
+        ensures has { StillHas None (view_of pass.old) (view_of pass.new) }
     {
         let Pass {
             part,

@@ -2,16 +2,14 @@
 ghost use Rattle.std.specs.Prelude.{◌≡◌, ◌<◌};
 ghost use Rattle.arc_model.specs.declared.event.Origin.TheVariants.{Hand};
 ghost use Rattle.arc_rule.specs.declared.step.Intent.TheVariants.{Copy as copy_intent, Drop as drop_intent};
-ghost use Rattle.arc_view.specs.Admission.{OwesNoName, HasNoAccess};
-ghost use Rattle.arc_view_laws.specs.Having.{KeepsFreed};
-ghost use Rattle.arc_table.specs.Attempts.{IsRaisedInline, IsRaisedInEntry, IsLoweredInline, IsLoweredInEntry};
+ghost use Rattle.arc_view.specs.Admission.{OwesNoName};
+ghost use Rattle.arc_table.specs.Attempts.{IsRaisedInline, inline_up_act, up_steps, IsRaisedInEntry, entry_up_act, entry_up_steps, IsLoweredInline, inline_down_act, down_steps, IsLoweredInEntry, entry_down_act};
+ghost use Rattle.arc_table.specs.Calls.{IsFree, IsCall};
 ghost use Rattle.arc_table.specs.Causes.{HasEntry};
-ghost use Rattle.arc_view_laws.specs.Hands.{Moves};
+ghost use Rattle.arc_table.specs.Possessions.{StillHas};
 ghost use Rattle.arc_table.specs.Runs.{Walked};
 ghost use Rattle.arc_table.specs.Seats.{heap_id, shape_of, part_id, part_view, pass_id, view_of};
-ghost use Rattle.arc_view_laws.specs.Strangers.{SeesNoStranger};
-ghost use Rattle.arc_table.specs.Tokens.{hand_of, IsHeld, IsRaised, IsUp, IsLowered, IsReleased, KeepsRest, up_act, release_act};
-ghost use Rattle.arc_view_laws.specs.Having.{KeepsStrong, KeepsDying};
+ghost use Rattle.arc_table.specs.Tokens.{hand_of, IsHeld, IsRaised, raised_act, IsUp, up_act, IsLowered, lowered_act, IsReleased, release_act};
 
 use crate::asks::Asks;
 use crate::heap::{Heap, Part, Pass};
@@ -47,11 +45,9 @@ impl Heap {
         requires asks { (J.intent ≡ copy_intent (Hand (hand_of of.now))) × (J.shape ≡ shape_of self.now) }
         requires held { IsHeld (shape_of self.now) (part_view part.old) of.now }
         requires free { OwesNoName (part_view part.old) }
-        ensures same { part_id part.new ≡ part_id part.old }
+        ensures called { IsCall (shape_of self.now) (inline_up_act (hand_of of.now) (part_view part.old) result) (up_steps result) part.old part.new }
         ensures walked { Walked (part_view part.old) (part_view part.new) }
         ensures raised { IsRaisedInline (shape_of self.now) (hand_of of.now) of.now.slot (part_view part.old) (part_view part.new) result }
-        ensures working { (part_view part.new).working ≡ (part_view part.old).working }
-        ensures alone { SeesNoStranger (part_view part.new) }
     {
         let plan = StrongUp::start(&self.layout, of.slot, self.shape.caps().strong());
         self.run_as::<J, StrongUp>(part, plan)
@@ -65,10 +61,8 @@ impl Heap {
         requires entry { HasEntry (part_view part.old) (hand_of of.now) entry }
         requires within { entry < (shape_of self.now).entries }
         requires free { OwesNoName (part_view part.old) }
-        ensures same { part_id part.new ≡ part_id part.old }
+        ensures called { IsCall (shape_of self.now) (entry_up_act (hand_of of.now) (part_view part.old) result) (entry_up_steps result) part.old part.new }
         ensures raised { IsRaisedInEntry (shape_of self.now) (hand_of of.now) entry (part_view part.old) (part_view part.new) result }
-        ensures working { (part_view part.new).working ≡ (part_view part.old).working }
-        ensures alone { SeesNoStranger (part_view part.new) }
     {
         let plan = EntryUp::start(&self.layout, entry, Kind::Strong, self.shape.caps().wide());
         self.run_as::<J, EntryUp>(part, plan)
@@ -79,10 +73,8 @@ impl Heap {
         requires asks { (J.intent ≡ copy_intent (Hand (hand_of of.now))) × (J.shape ≡ shape_of self.now) }
         requires held { IsHeld (shape_of self.now) (part_view part.old) of.now }
         requires free { OwesNoName (part_view part.old) }
-        ensures same { part_id part.new ≡ part_id part.old }
+        ensures called { IsCall (shape_of self.now) (raised_act (hand_of of.now) (part_view part.old) result) 3 part.old part.new }
         ensures raised { IsRaised (shape_of self.now) (hand_of of.now) of.now.slot (part_view part.old) (part_view part.new) result }
-        ensures working { (part_view part.new).working ≡ (part_view part.old).working }
-        ensures alone { SeesNoStranger (part_view part.new) }
     {
         match self.raise_inline::<J>(part, of) {
             StrongUpAnswer::Up => Raised::Up,
@@ -105,13 +97,9 @@ impl Heap {
         requires own { pass_id pass.old ≡ heap_id self.now }
         requires held { IsHeld (shape_of self.now) (view_of pass.old) of.now }
         requires free { OwesNoName (view_of pass.old) }
-        ensures same { pass_id pass.new ≡ pass_id pass.old }
+        ensures called { IsCall (shape_of self.now) (up_act of.now result) 3 pass.old.part pass.new.part }
         ensures up { IsUp (shape_of self.now) of.now (view_of pass.old) (view_of pass.new) result }
-        ensures moves { Moves (up_act of.now result) (view_of pass.old) (view_of pass.new) }
-        ensures kept { KeepsStrong (view_of pass.old) (view_of pass.new) }
-        ensures dying { KeepsDying (view_of pass.old) (view_of pass.new) }
-        ensures freed { KeepsFreed (view_of pass.old) (view_of pass.new) }
-        ensures working { (view_of pass.new).working ≡ (view_of pass.old).working }
+        ensures has { StillHas (up_act of.now result) (view_of pass.old) (view_of pass.new) }
     {
         match self.raise::<Brand>(&mut pass.part, of) {
             Raised::Up => {
@@ -129,13 +117,10 @@ impl Heap {
         requires own { part_id part.old ≡ heap_id self.now }
         requires asks { (J.intent ≡ drop_intent (hand_of held.now)) × (J.shape ≡ shape_of self.now) }
         requires held { IsHeld (shape_of self.now) (part_view part.old) held.now }
-        requires free { OwesNoName (part_view part.old) }
-        requires access { HasNoAccess (part_view part.old) }
-        ensures same { part_id part.new ≡ part_id part.old }
+        requires free { IsFree (part_view part.old) }
+        ensures called { IsCall (shape_of self.now) (inline_down_act (hand_of held.now) result) (down_steps result) part.old part.new }
         ensures walked { Walked (part_view part.old) (part_view part.new) }
         ensures lowered { IsLoweredInline (shape_of self.now) (hand_of held.now) held.now.slot (part_view part.old) (part_view part.new) result }
-        ensures working { (part_view part.new).working ≡ (part_view part.old).working }
-        ensures alone { SeesNoStranger (part_view part.new) }
     {
         let plan = StrongDown::start(&self.layout, held.slot);
         self.run_as::<J, StrongDown>(part, plan)
@@ -148,12 +133,9 @@ impl Heap {
         requires held { IsHeld (shape_of self.now) (part_view part.old) held.now }
         requires entry { HasEntry (part_view part.old) (hand_of held.now) entry }
         requires within { entry < (shape_of self.now).entries }
-        requires free { OwesNoName (part_view part.old) }
-        requires access { HasNoAccess (part_view part.old) }
-        ensures same { part_id part.new ≡ part_id part.old }
+        requires free { IsFree (part_view part.old) }
+        ensures called { IsCall (shape_of self.now) (entry_down_act (hand_of held.now) result) 2 part.old part.new }
         ensures lowered { IsLoweredInEntry (shape_of self.now) (hand_of held.now) entry (part_view part.old) (part_view part.new) result }
-        ensures working { (part_view part.new).working ≡ (part_view part.old).working }
-        ensures alone { SeesNoStranger (part_view part.new) }
     {
         let plan = EntryDown::start(&self.layout, entry, Kind::Strong);
         self.run_as::<J, EntryDown>(part, plan)
@@ -163,12 +145,9 @@ impl Heap {
         requires own { part_id part.old ≡ heap_id self.now }
         requires asks { (J.intent ≡ drop_intent (hand_of held.now)) × (J.shape ≡ shape_of self.now) }
         requires held { IsHeld (shape_of self.now) (part_view part.old) held.now }
-        requires free { OwesNoName (part_view part.old) }
-        requires access { HasNoAccess (part_view part.old) }
-        ensures same { part_id part.new ≡ part_id part.old }
+        requires free { IsFree (part_view part.old) }
+        ensures called { IsCall (shape_of self.now) (lowered_act (hand_of held.now) result) 3 part.old part.new }
         ensures lowered { IsLowered (shape_of self.now) (hand_of held.now) held.now.slot (part_view part.old) (part_view part.new) result }
-        ensures working { (part_view part.new).working ≡ (part_view part.old).working }
-        ensures alone { SeesNoStranger (part_view part.new) }
     {
         match self.lower_inline::<J>(part, held) {
             StrongDownAnswer::More => Lowered::More,
@@ -188,15 +167,10 @@ impl Heap {
     pub fn release(&self, pass: &mut Pass, held: Strong) -> Release
         requires own { pass_id pass.old ≡ heap_id self.now }
         requires held { IsHeld (shape_of self.now) (view_of pass.old) held }
-        requires free { OwesNoName (view_of pass.old) }
-        requires access { HasNoAccess (view_of pass.old) }
-        ensures same { pass_id pass.new ≡ pass_id pass.old }
+        requires free { IsFree (view_of pass.old) }
+        ensures called { IsCall (shape_of self.now) (release_act held result) 3 pass.old.part pass.new.part }
         ensures released { IsReleased (shape_of self.now) held (view_of pass.old) (view_of pass.new) result }
-        ensures moves { Moves (release_act held result) (view_of pass.old) (view_of pass.new) }
-        ensures kept { KeepsRest held result (view_of pass.old) (view_of pass.new) }
-        ensures dying { KeepsDying (view_of pass.old) (view_of pass.new) }
-        ensures freed { KeepsFreed (view_of pass.old) (view_of pass.new) }
-        ensures working { (view_of pass.new).working ≡ (view_of pass.old).working }
+        ensures has { StillHas (release_act held result) (view_of pass.old) (view_of pass.new) }
     {
         match self.lower::<Brand>(&mut pass.part, &held) {
             Lowered::More => {

@@ -39,7 +39,7 @@ fn passes_meet(rt: HostRuntime) {
 }
 
 /// Two slots, one entry, and one class without fields.
-pub(crate) fn classed_heap(alloc: Global) -> Option<(Heap, Pass)>
+fn classed_heap(alloc: Global) -> Option<(Heap, Pass)>
     ensures { IfSome result (λ r. (pass_id r.1 ≡ heap_id r.0) × (view_of r.1 ≡ first_view) × ((shape_of r.0).classes ≡ [] ∷ [])) }
 {
     let caps = Caps::new(5, 6, 7).ok()?;
@@ -50,19 +50,6 @@ pub(crate) fn classed_heap(alloc: Global) -> Option<(Heap, Pass)>
     classes.push(class).ok()?;
     let shape = Shape::new(2, 1, caps, classes, Vec::new(alloc)).ok()?;
     Heap::make(alloc, shape).ok()
-}
-
-/// With ample memory a heap is made, and an object in its first slot.
-#[test]
-fn first_object(rt: HostRuntime) {
-    let (heap, mut first) = classed_heap(rt.alloc()).expect(&rt, "a heap");
-    match heap.new_object(&mut first, 0) {
-        Made::Ok(token) => {
-            let Strong { slot, at: _ } = token;
-            assert_eq!(rt; slot, 0);
-        }
-        Made::NoSlot => panic!(rt; "each slot was found taken"),
-    }
 }
 
 /// The slot of a new object, whose reference is never given up.
@@ -82,15 +69,6 @@ fn fill(heap: &Heap, pass: &mut Pass) -> Option<u32>
         }
         Made::NoSlot => None,
     }
-}
-
-/// With ample memory a heap is made. Each slot is found free once, from the first to the last.
-#[test]
-fn slots_run_out(rt: HostRuntime) {
-    let (heap, mut first) = classed_heap(rt.alloc()).expect(&rt, "a heap");
-    assert_eq!(rt; fill(&heap, &mut first), Some(0));
-    assert_eq!(rt; fill(&heap, &mut first), Some(1));
-    assert_eq!(rt; fill(&heap, &mut first), None);
 }
 
 /// The reference to a new object.
@@ -138,16 +116,7 @@ fn object_dies(rt: HostRuntime) {
     assert_eq!(rt; was_last(heap.release(&mut first, token)), Some(true));
 }
 
-/// The words of a heap that is closed as it was made are all 0: one word and eleven a slot, four an entry.
-#[test]
-fn new_heap_closes_with_words_that_are_zero(rt: HostRuntime) {
-    let (heap, first) = small_heap(rt.alloc()).expect(&rt, "a heap");
-    let closed = heap.close(first);
-    assert_eq!(rt; closed.words.as_slice(), [0u64; 27].as_slice());
-    assert_eq!(rt; closed.shape.slots(), 2);
-}
-
-/// A heap of which a pass was split off is closed once the first pass took it in.
+/// A heap of which a pass was split off is closed once the first pass took it in: its words, one and eleven a slot, four an entry, are all 0.
 #[test]
 fn heap_closes_after_a_join(rt: HostRuntime) {
     let (heap, mut first) = small_heap(rt.alloc()).expect(&rt, "a heap");
@@ -155,6 +124,7 @@ fn heap_closes_after_a_join(rt: HostRuntime) {
     heap.join(&mut first, second);
     let closed = heap.close(first);
     assert_eq!(rt; closed.words.as_slice(), [0u64; 27].as_slice());
+    assert_eq!(rt; closed.shape.slots(), 2);
 }
 
 /// Two slots, one entry, one class without fields, and a global for strong references to its objects.

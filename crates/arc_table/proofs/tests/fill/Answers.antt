@@ -8,8 +8,8 @@ use Rattle.arc_table.proofs.tests.fill.Goals as goal
 pub returns-in-Ok-clause-few : goal.returns-in-Ok-clause-few
 returns-in-Ok-clause-few c =
     let t = c.in-Ok.token in
-    let n = news_one (New (hand_of t) 0 t.slot) ((shape_of c.args.heap.now).slots + 1) (view_of c.args.pass.now) (view_of c.new_object.new.pass) c.in-Ok.ensures.made.0.grew in omega (arith, n)
+    let n = news_one (New (hand_of t) 0 t.slot) ((shape_of c.args.heap.now).slots + 1) (view_of c.args.pass.now) (view_of c.new_object.new.pass) c.in-Ok.ensures.called.1.called.grew in omega (arith, n)
 
 pub returns-in-NoSlot-clause-few : goal.returns-in-NoSlot-clause-few
 returns-in-NoSlot-clause-few c =
-    let n = news_one Full ((shape_of c.args.heap.now).slots + 1) (view_of c.args.pass.now) (view_of c.new_object.new.pass) c.in-NoSlot.ensures.made.0.grew in omega (arith, n)
+    let n = news_one Full ((shape_of c.args.heap.now).slots + 1) (view_of c.args.pass.now) (view_of c.new_object.new.pass) c.in-NoSlot.ensures.called.1.called.grew in omega (arith, n)

@@ -1,6 +1,6 @@
-use Rattle.std.proofs.Common.{◌≡◌, ◌+◌, [], ◌∷◌, ap, subst, arith}
+use Rattle.std.proofs.Common.{◌≡◌, ◌+◌, [], ◌∷◌, Some, refl, ap, subst, arith}
 use Rattle.std.specs.Prelude.{slice_get, IfSome}
-use Rattle.arc_model.specs.declared.event.Act.TheVariants.{New}
+use Rattle.arc_model.specs.declared.event.Act.TheVariants.{New, Vacate}
 use Rattle.arc_table.specs.declared.tokens.Made.TheVariants as created
 use Rattle.arc_table.specs.declared.tokens.Release.TheVariants as releases
 use Rattle.arc_table.specs.declared.ends.Finish.TheVariants as finishes
@@ -8,11 +8,13 @@ use Rattle.arc_view.specs.Views.{first_view}
 use Rattle.arc_view.specs.Rule.{news}
 use Rattle.arc_view.specs.declared.view.View.{View}
 use Rattle.arc_table.specs.Seats.{heap_id, shape_of, pass_id, view_of}
-use Rattle.arc_table.specs.Tokens.{hand_of, IsMade, IsReleased}
-use Rattle.arc_table.specs.Ends.{IsFinished}
+use Rattle.arc_table.specs.Tokens.{hand_of, IsMade, made_act, IsReleased, release_act}
+use Rattle.arc_table.specs.Calls.{GoesOn}
+use Rattle.arc_table.specs.Ends.{IsFinished, finish_act}
 use Rattle.arc_view_laws.proofs.Counted.{news_one}
 use Rattle.arc_table.proofs.HeldTokens.{made_held}
-use Rattle.arc_table.proofs.EndTokens.{released_owed, no_field, released_same, finished_same, slot_same}
+use Rattle.arc_table.proofs.EndTokens.{released_owed, no_field, release_old, finish_old}
+use Rattle.arc_table.proofs.StrongCalls.{same_call}
 use Rattle.arc_table.proofs.tests.slot_is_free_again.Goals as goal
 
 pub release-requires-clause-held : goal.release-requires-clause-held
@@ -46,7 +48,7 @@ finish-requires-clause-bare g c =
     let made : IsMade shape 0 v u (created.Ok token) = subst (IsMade shape 0 v u) (subst (λ m. IfSome m (λ t. c.new_object.result ≡ created.Ok t)) c.expect-token.ensures c.made.ensures) c.new_object.ensures.made in
     let last : IsReleased shape token u w (releases.Last d) = subst (IsReleased shape token u w) (subst (λ m. IfSome m (λ t. c.release.result ≡ releases.Last t)) c.expect-dying.ensures c.left.ensures) c.release.ensures.released in
     let classes = (subst (λ m. IfSome m (λ r. (pass_id r.1 ≡ heap_id r.0) × (view_of r.1 ≡ first_view) × ((shape_of r.0).classes ≡ [] ∷ []))) c.expect-heap.ensures c.classed_heap.ensures).2 in
-    no_field shape w d.slot 0 last.0.legal (last.2 0 made.4) (ap (λ cs. slice_get cs 0) classes)
+    no_field shape w d.slot 0 c.release.ensures.called.1.called.legal (last.1 0 made.3) (ap (λ cs. slice_get cs 0) classes)
 
 pub vacate-requires-clause-freed : goal.vacate-requires-clause-freed
 vacate-requires-clause-freed g c =
@@ -56,7 +58,7 @@ vacate-requires-clause-freed g c =
     let d = c.expect-dying.result in
     let f = c.expect-freed.result in
     let done : IsFinished shape d w x (finishes.Last f) = subst (IsFinished shape d w x) (subst (λ m. IfSome m (λ t. c.finish.result ≡ finishes.Last t)) c.expect-freed.ensures c.freed.ensures) c.finish.ensures.finished in
-    done.2
+    done.1
 
 pub fill-requires-clause-room : goal.fill-requires-clause-room
 fill-requires-clause-room g c =
@@ -69,10 +71,9 @@ fill-requires-clause-room g c =
     let token = c.expect-token.result in
     let d = c.expect-dying.result in
     let first = (subst (λ m. IfSome m (λ r. (pass_id r.1 ≡ heap_id r.0) × (view_of r.1 ≡ first_view) × ((shape_of r.0).classes ≡ [] ∷ []))) c.expect-heap.ensures c.classed_heap.ensures).1 in
-    let made : IsMade shape 0 v u (created.Ok token) = subst (IsMade shape 0 v u) (subst (λ m. IfSome m (λ t. c.new_object.result ≡ created.Ok t)) c.expect-token.ensures c.made.ensures) c.new_object.ensures.made in
-    let last : IsReleased shape token u w (releases.Last d) = subst (IsReleased shape token u w) (subst (λ m. IfSome m (λ t. c.release.result ≡ releases.Last t)) c.expect-dying.ensures c.left.ensures) c.release.ensures.released in
     let none : news v.number v.seen ≡ 0 = ap (λ (z : View). news z.number z.seen) first in
-    let one = news_one (New (hand_of token) 0 token.slot) (shape.slots + 1) v u made.0.grew in
-    let same = (released_same shape token d u w last).made in
-    let still = (finished_same shape d c.finish.result w x c.finish.ensures.finished).made in
-    let end = (slot_same shape c.expect-freed.result c.vacate.result x y c.vacate.ensures.vacated).made in omega (arith, none, one, same, still, end)
+    let call : GoesOn shape (made_act 0 (created.Ok token)) (shape.slots + 1) v u = subst (λ r. GoesOn shape (made_act 0 r) (shape.slots + 1) v u) (subst (λ m. IfSome m (λ t. c.new_object.result ≡ created.Ok t)) c.expect-token.ensures c.made.ensures) c.new_object.ensures.called.1 in
+    let one = news_one (New (hand_of token) 0 token.slot) (shape.slots + 1) v u call.called.grew in
+    let same = (same_call shape (release_act token c.release.result) 3 u w (release_old token c.release.result) c.release.ensures.called.1).made in
+    let still = (same_call shape (finish_act d c.finish.result) 3 w x (finish_old d c.finish.result) c.finish.ensures.called.1).made in
+    let end = (same_call shape (Some (Vacate c.expect-freed.result.slot)) 1 x y refl c.vacate.ensures.called.1).made in omega (arith, none, one, same, still, end)

@@ -19,6 +19,18 @@ run_as-requires-clause-may g c =
     subst (λ (p : Intent × EntryFall). MayRun entry_down_takes entry_down_turned entry_down_answer shape p.0 p.1 None v) (λ j. (sym c.requires.asks.0 j, sym plan_is j))
     (may_finish_in_entry shape s v c.requires.free d.0 d.1 d.2 d.3 d.4 d.5 c.args.entry c.requires.within d.6)
 
+pub returns-clause-called : goal.returns-clause-called
+returns-clause-called g c =
+    let v = part_view c.args.part.now in
+    let s = c.args.slot in
+    let shape = shape_of c.args.self.now in
+    let d = c.requires.dying in
+    let plan_is : c.start-plan.result ≡ record { layout = extent_of shape; entry = c.args.entry; list = Unowned; at = Start } = c.start-plan.ensures ∙ (λ j. record { layout = c.args.self.now.laid j; entry = c.args.entry; list = Unowned; at = Start }) in (
+      c.run_as.ensures.same,
+      (has_finished_in_entry shape s v c.requires.free d.0 d.1 d.2 d.3 d.4 d.5 c.args.entry c.requires.within d.6 c.run_as.result (part_view c.run_as.new.part)
+          (subst (λ (p : Intent × EntryFall). Ran entry_down_turned entry_down_answer shape p.0 p.1 None v c.run_as.result (part_view c.run_as.new.part)) (λ j. (c.requires.asks.0 j, plan_is j)) c.run_as.ensures.ran)).1,
+    )
+
 pub returns-clause-finished : goal.returns-clause-finished
 returns-clause-finished g c =
     let v = part_view c.args.part.now in
@@ -28,23 +40,3 @@ returns-clause-finished g c =
     let plan_is : c.start-plan.result ≡ record { layout = extent_of shape; entry = c.args.entry; list = Unowned; at = Start } = c.start-plan.ensures ∙ (λ j. record { layout = c.args.self.now.laid j; entry = c.args.entry; list = Unowned; at = Start }) in
     (has_finished_in_entry shape s v c.requires.free d.0 d.1 d.2 d.3 d.4 d.5 c.args.entry c.requires.within d.6 c.run_as.result (part_view c.run_as.new.part)
     (subst (λ (p : Intent × EntryFall). Ran entry_down_turned entry_down_answer shape p.0 p.1 None v c.run_as.result (part_view c.run_as.new.part)) (λ j. (c.requires.asks.0 j, plan_is j)) c.run_as.ensures.ran)).0
-
-pub returns-clause-working : goal.returns-clause-working
-returns-clause-working g c =
-    let v = part_view c.args.part.now in
-    let s = c.args.slot in
-    let shape = shape_of c.args.self.now in
-    let d = c.requires.dying in
-    let plan_is : c.start-plan.result ≡ record { layout = extent_of shape; entry = c.args.entry; list = Unowned; at = Start } = c.start-plan.ensures ∙ (λ j. record { layout = c.args.self.now.laid j; entry = c.args.entry; list = Unowned; at = Start }) in
-    (has_finished_in_entry shape s v c.requires.free d.0 d.1 d.2 d.3 d.4 d.5 c.args.entry c.requires.within d.6 c.run_as.result (part_view c.run_as.new.part)
-    (subst (λ (p : Intent × EntryFall). Ran entry_down_turned entry_down_answer shape p.0 p.1 None v c.run_as.result (part_view c.run_as.new.part)) (λ j. (c.requires.asks.0 j, plan_is j)) c.run_as.ensures.ran)).1
-
-pub returns-clause-alone : goal.returns-clause-alone
-returns-clause-alone g c =
-    let v = part_view c.args.part.now in
-    let s = c.args.slot in
-    let shape = shape_of c.args.self.now in
-    let d = c.requires.dying in
-    let plan_is : c.start-plan.result ≡ record { layout = extent_of shape; entry = c.args.entry; list = Unowned; at = Start } = c.start-plan.ensures ∙ (λ j. record { layout = c.args.self.now.laid j; entry = c.args.entry; list = Unowned; at = Start }) in
-    (has_finished_in_entry shape s v c.requires.free d.0 d.1 d.2 d.3 d.4 d.5 c.args.entry c.requires.within d.6 c.run_as.result (part_view c.run_as.new.part)
-    (subst (λ (p : Intent × EntryFall). Ran entry_down_turned entry_down_answer shape p.0 p.1 None v c.run_as.result (part_view c.run_as.new.part)) (λ j. (c.requires.asks.0 j, plan_is j)) c.run_as.ensures.ran)).2

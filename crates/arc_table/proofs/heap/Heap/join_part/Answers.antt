@@ -1,4 +1,4 @@
-use Rattle.std.proofs.Common.{◌≡◌, sym, ap, ◌∙◌, subst, arith}
+use Rattle.std.proofs.Common.{sym, ap, ◌∙◌, subst, arith}
 use Rattle.atomic_table.specs.Table.{Me, Joins}
 use Rattle.arc_rule.specs.declared.step.Intent.TheVariants.{Look}
 use Rattle.arc_rule.specs.declared.step.Step.TheVariants.{Load}
@@ -7,7 +7,6 @@ use Rattle.arc_view.specs.Views.{spent_view}
 use Rattle.arc_view.specs.Rule.{IsKept}
 use Rattle.arc_view.specs.Steps.{Told}
 use Rattle.arc_view.specs.Passes.{joined}
-use Rattle.arc_view.specs.Calls.{Took}
 use Rattle.arc_view.proofs.Ends.{takes_in}
 use Rattle.arc_table.specs.Seats.{shape_of, part_view}
 use Rattle.arc_view_laws.proofs.Counted.{told_alone}
@@ -25,16 +24,12 @@ join_seat-requires c =
 pub load_for-requires-clause-kind : goal.load_for-requires-clause-kind
 load_for-requires-clause-kind c = look_allowed (shape_of c.args.self.now) c.join_seat.new.seat.me.0 (ap (λ (m : Me (Unit {0}) View). m.0.working.owes) c.join_seat.ensures.2 ∙ c.requires.free)
 
-all : (c : goal.After-load_for) → Took (shape_of c.args.self.now) (part_view c.args.part.now) (part_view c.args.taken) (part_view c.load_for.new.part) × ((part_view c.load_for.new.part).working ≡ (part_view c.args.part.now).working)
-all c = let v = part_view c.args.part.now in let u = c.args.taken.seat.me.0 in let w = part_view c.load_for.new.part in
-    joined_took (shape_of c.args.self.now) v u c.load_for.result w (subst (λ (a : View). Told (shape_of c.args.self.now) Look (Load 0) a c.load_for.result w) (ap (λ (m : Me (Unit {0}) View). m.0) c.join_seat.ensures.2) c.load_for.ensures.told)
-
-pub returns-clause-took : goal.returns-clause-took
-returns-clause-took c = (all c).0
-
-pub returns-clause-working : goal.returns-clause-working
-returns-clause-working c = (all c).1
-
-pub returns-clause-alone : goal.returns-clause-alone
-returns-clause-alone c = let v = part_view c.args.part.now in let u = c.args.taken.seat.me.0 in let w = part_view c.load_for.new.part in
-    told_alone (shape_of c.args.self.now) Look (Load 0) (joined v u) c.load_for.result w (subst (λ (a : View). Told (shape_of c.args.self.now) Look (Load 0) a c.load_for.result w) (ap (λ (m : Me (Unit {0}) View). m.0) c.join_seat.ensures.2) c.load_for.ensures.told)
+pub returns : goal.returns
+returns c =
+    let shape = shape_of c.args.self.now in
+    let v = part_view c.args.part.now in
+    let u = c.args.taken.seat.me.0 in
+    let w = part_view c.load_for.new.part in
+    let told = subst (λ (a : View). Told shape Look (Load 0) a c.load_for.result w) (ap (λ (m : Me (Unit {0}) View). m.0) c.join_seat.ensures.2) c.load_for.ensures.told in
+    let took = joined_took shape v u c.load_for.result w told in
+    record { took = record { same = c.load_for.ensures.same ∙ c.join_seat.ensures.0; took = took.0; working = took.1; alone = told_alone shape Look (Load 0) (joined v u) c.load_for.result w told } }

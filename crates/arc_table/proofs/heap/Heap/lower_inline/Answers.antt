@@ -16,7 +16,18 @@ run_as-requires-clause-may g c =
     let t = c.args.held.now in
     let shape = shape_of c.args.self.now in
     let plan_is : c.start-plan.result ≡ record { layout = extent_of shape; slot = t.slot; at = Start } = c.start-plan.ensures ∙ ap (λ l. record { layout = l; slot = t.slot; at = Start }) c.args.self.now.laid in
-    subst (λ (p : Intent × Attempt). MayRun strong_down_takes strong_down_turned strong_down_answer shape p.0 p.1 None v) (λ j. (sym c.requires.asks.0 j, sym plan_is j)) (may_lower shape (hand_of t) t.slot v c.args.self.now.sized c.requires.held c.requires.free c.requires.access)
+    subst (λ (p : Intent × Attempt). MayRun strong_down_takes strong_down_turned strong_down_answer shape p.0 p.1 None v) (λ j. (sym c.requires.asks.0 j, sym plan_is j)) (may_lower shape (hand_of t) t.slot v c.args.self.now.sized c.requires.held c.requires.free)
+
+pub returns-clause-called : goal.returns-clause-called
+returns-clause-called g c =
+    let v = part_view c.args.part.now in
+    let t = c.args.held.now in
+    let shape = shape_of c.args.self.now in
+    let plan_is : c.start-plan.result ≡ record { layout = extent_of shape; slot = t.slot; at = Start } = c.start-plan.ensures ∙ ap (λ l. record { layout = l; slot = t.slot; at = Start }) c.args.self.now.laid in (
+      c.run_as.ensures.same,
+      (has_lowered shape (hand_of t) t.slot v c.args.self.now.sized c.requires.held c.requires.free c.run_as.result (part_view c.run_as.new.part)
+          (subst (λ (p : Intent × Attempt). Ran strong_down_turned strong_down_answer shape p.0 p.1 None v c.run_as.result (part_view c.run_as.new.part)) (λ j. (c.requires.asks.0 j, plan_is j)) c.run_as.ensures.ran)).1,
+    )
 
 pub returns-clause-lowered : goal.returns-clause-lowered
 returns-clause-lowered g c =
@@ -24,23 +35,5 @@ returns-clause-lowered g c =
     let t = c.args.held.now in
     let shape = shape_of c.args.self.now in
     let plan_is : c.start-plan.result ≡ record { layout = extent_of shape; slot = t.slot; at = Start } = c.start-plan.ensures ∙ ap (λ l. record { layout = l; slot = t.slot; at = Start }) c.args.self.now.laid in
-    (has_lowered shape (hand_of t) t.slot v c.args.self.now.sized c.requires.held c.requires.free c.requires.access c.run_as.result (part_view c.run_as.new.part)
+    (has_lowered shape (hand_of t) t.slot v c.args.self.now.sized c.requires.held c.requires.free c.run_as.result (part_view c.run_as.new.part)
     (subst (λ (p : Intent × Attempt). Ran strong_down_turned strong_down_answer shape p.0 p.1 None v c.run_as.result (part_view c.run_as.new.part)) (λ j. (c.requires.asks.0 j, plan_is j)) c.run_as.ensures.ran)).0
-
-pub returns-clause-working : goal.returns-clause-working
-returns-clause-working g c =
-    let v = part_view c.args.part.now in
-    let t = c.args.held.now in
-    let shape = shape_of c.args.self.now in
-    let plan_is : c.start-plan.result ≡ record { layout = extent_of shape; slot = t.slot; at = Start } = c.start-plan.ensures ∙ ap (λ l. record { layout = l; slot = t.slot; at = Start }) c.args.self.now.laid in
-    (has_lowered shape (hand_of t) t.slot v c.args.self.now.sized c.requires.held c.requires.free c.requires.access c.run_as.result (part_view c.run_as.new.part)
-    (subst (λ (p : Intent × Attempt). Ran strong_down_turned strong_down_answer shape p.0 p.1 None v c.run_as.result (part_view c.run_as.new.part)) (λ j. (c.requires.asks.0 j, plan_is j)) c.run_as.ensures.ran)).1
-
-pub returns-clause-alone : goal.returns-clause-alone
-returns-clause-alone g c =
-    let v = part_view c.args.part.now in
-    let t = c.args.held.now in
-    let shape = shape_of c.args.self.now in
-    let plan_is : c.start-plan.result ≡ record { layout = extent_of shape; slot = t.slot; at = Start } = c.start-plan.ensures ∙ ap (λ l. record { layout = l; slot = t.slot; at = Start }) c.args.self.now.laid in
-    (has_lowered shape (hand_of t) t.slot v c.args.self.now.sized c.requires.held c.requires.free c.requires.access c.run_as.result (part_view c.run_as.new.part)
-    (subst (λ (p : Intent × Attempt). Ran strong_down_turned strong_down_answer shape p.0 p.1 None v c.run_as.result (part_view c.run_as.new.part)) (λ j. (c.requires.asks.0 j, plan_is j)) c.run_as.ensures.ran)).2

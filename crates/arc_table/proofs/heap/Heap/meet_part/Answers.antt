@@ -30,14 +30,14 @@ all c = let v = part_view c.args.part.now in let u = c.args.note.seat.me.0 in le
     met_called (shape_of c.args.self.now) v u c.load_for.result w (subst (λ (a : View). Told (shape_of c.args.self.now) Look (Load 0) a c.load_for.result w) (ap (λ (m : Me (Unit {0}) View). m.0) c.join_seat.ensures.2) c.load_for.ensures.told)
 
 pub returns-clause-called : goal.returns-clause-called
-returns-clause-called c = (all c).0
+returns-clause-called c = let v = part_view c.args.part.now in let u = c.args.note.seat.me.0 in let w = part_view c.load_for.new.part in (
+  c.load_for.ensures.same ∙ c.join_seat.ensures.0,
+  record {
+    called = (all c).0;
+    working = (all c).2;
+    alone = told_alone (shape_of c.args.self.now) Look (Load 0) (met v u) c.load_for.result w (subst (λ (a : View). Told (shape_of c.args.self.now) Look (Load 0) a c.load_for.result w) (ap (λ (m : Me (Unit {0}) View). m.0) c.join_seat.ensures.2) c.load_for.ensures.told);
+  },
+)
 
 pub returns-clause-met : goal.returns-clause-met
 returns-clause-met c = (all c).1
-
-pub returns-clause-working : goal.returns-clause-working
-returns-clause-working c = (all c).2
-
-pub returns-clause-alone : goal.returns-clause-alone
-returns-clause-alone c = let v = part_view c.args.part.now in let u = c.args.note.seat.me.0 in let w = part_view c.load_for.new.part in
-    told_alone (shape_of c.args.self.now) Look (Load 0) (met v u) c.load_for.result w (subst (λ (a : View). Told (shape_of c.args.self.now) Look (Load 0) a c.load_for.result w) (ap (λ (m : Me (Unit {0}) View). m.0) c.join_seat.ensures.2) c.load_for.ensures.told)

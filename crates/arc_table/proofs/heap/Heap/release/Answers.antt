@@ -1,61 +1,31 @@
-use Rattle.std.proofs.Common.{true, false, [], ◌∷◌, refl, ◌∙◌}
+use Rattle.std.proofs.Common.{true, false, None, Some, refl, ◌∙◌}
 use Rattle.arc_model.specs.declared.event.Act.TheVariants.{Drop}
 use Rattle.arc_table.specs.Seats.{shape_of, view_of, part_view}
-use Rattle.arc_table.specs.Tokens.{hand_of}
-use Rattle.arc_view_laws.proofs.Moving.{moved, moved_none}
-use Rattle.arc_view_laws.proofs.Kept.{keeps_strong}
-use Rattle.arc_view_laws.proofs.Deinits.{keeps_dying, dies}
-use Rattle.arc_table.proofs.StrongCalls.{lowered_same, keeps_but}
-use Rattle.arc_view_laws.proofs.Vacatings.{keeps_freed_by}
+use Rattle.arc_table.specs.Tokens.{hand_of, lowered_act}
+use Rattle.arc_view_laws.proofs.Deinits.{dies}
+use Rattle.arc_table.proofs.Possessing.{still_has}
+use Rattle.arc_table.proofs.StrongCalls.{same_call, lowered_old}
 use Rattle.arc_table.proofs.heap.Heap.release.Goals as goal
 
 pub invariant_of-pass : goal.invariant_of-pass
 invariant_of-pass c =
     let p = c.args.pass.now in
-    let same = lowered_same (shape_of c.args.self.now) (hand_of c.args.held) c.args.held.slot (view_of p) (part_view c.lower.new.part) c.lower.result c.lower.ensures.lowered in record {
+    let call = c.lower.ensures.called.1 in
+    let same = same_call (shape_of c.args.self.now) (lowered_act (hand_of c.args.held) c.lower.result) 3 (view_of p) (part_view c.lower.new.part) (lowered_old (hand_of c.args.held) c.lower.result) call in record {
       numbered = (same.number ∙ p.numbered.0, p.numbered.1);
       counted = same.made ∙ p.counted;
       parted = same.splits ∙ p.parted;
-      alone = c.lower.ensures.alone;
+      alone = call.alone;
     }
 
-pub returns-in-More-clause-moves : goal.returns-in-More-clause-moves
-returns-in-More-clause-moves c = moved (shape_of c.args.self.now) (Drop (hand_of c.args.held) false) 3 (view_of c.args.pass.now) (part_view c.lower.new.part) c.in-More.ensures.lowered
-
-pub returns-in-More-clause-kept : goal.returns-in-More-clause-kept
-returns-in-More-clause-kept c = keeps_but (shape_of c.args.self.now) (hand_of c.args.held) 3 false (view_of c.args.pass.now) (part_view c.lower.new.part) c.in-More.ensures.lowered
-
-pub returns-in-More-clause-dying : goal.returns-in-More-clause-dying
-returns-in-More-clause-dying c = keeps_dying (shape_of c.args.self.now) (Drop (hand_of c.args.held) false ∷ []) 3 (view_of c.args.pass.now) (part_view c.lower.new.part) c.in-More.ensures.lowered (refl, tt)
-
-pub returns-in-More-clause-freed : goal.returns-in-More-clause-freed
-returns-in-More-clause-freed c = keeps_freed_by (shape_of c.args.self.now) (Drop (hand_of c.args.held) false ∷ []) 3 (view_of c.args.pass.now) (part_view c.lower.new.part) c.args.self.now.sized c.in-More.ensures.lowered (refl, tt)
+pub returns-in-More-clause-has : goal.returns-in-More-clause-has
+returns-in-More-clause-has c = still_has (shape_of c.args.self.now) (Some (Drop (hand_of c.args.held) false)) 3 (view_of c.args.pass.now) (part_view c.lower.new.part) c.args.self.now.sized c.in-More.ensures.called.1.called
 
 pub returns-in-Last-clause-released : goal.returns-in-Last-clause-released
-returns-in-Last-clause-released c =
-    let drop = c.in-Last.ensures.lowered in
-    (drop, refl, λ class strong. dies (shape_of c.args.self.now) (hand_of c.args.held) 3 (view_of c.args.pass.now) (part_view c.lower.new.part) c.args.held.slot class drop strong)
+returns-in-Last-clause-released c = (refl, λ class strong. dies (shape_of c.args.self.now) (hand_of c.args.held) 3 (view_of c.args.pass.now) (part_view c.lower.new.part) c.args.held.slot class c.in-Last.ensures.called.1.called strong)
 
-pub returns-in-Last-clause-moves : goal.returns-in-Last-clause-moves
-returns-in-Last-clause-moves c = moved (shape_of c.args.self.now) (Drop (hand_of c.args.held) true) 3 (view_of c.args.pass.now) (part_view c.lower.new.part) c.in-Last.ensures.lowered
+pub returns-in-Last-clause-has : goal.returns-in-Last-clause-has
+returns-in-Last-clause-has c = still_has (shape_of c.args.self.now) (Some (Drop (hand_of c.args.held) true)) 3 (view_of c.args.pass.now) (part_view c.lower.new.part) c.args.self.now.sized c.in-Last.ensures.called.1.called
 
-pub returns-in-Last-clause-kept : goal.returns-in-Last-clause-kept
-returns-in-Last-clause-kept c = keeps_but (shape_of c.args.self.now) (hand_of c.args.held) 3 true (view_of c.args.pass.now) (part_view c.lower.new.part) c.in-Last.ensures.lowered
-
-pub returns-in-Last-clause-dying : goal.returns-in-Last-clause-dying
-returns-in-Last-clause-dying c = keeps_dying (shape_of c.args.self.now) (Drop (hand_of c.args.held) true ∷ []) 3 (view_of c.args.pass.now) (part_view c.lower.new.part) c.in-Last.ensures.lowered (refl, tt)
-
-pub returns-in-Last-clause-freed : goal.returns-in-Last-clause-freed
-returns-in-Last-clause-freed c = keeps_freed_by (shape_of c.args.self.now) (Drop (hand_of c.args.held) true ∷ []) 3 (view_of c.args.pass.now) (part_view c.lower.new.part) c.args.self.now.sized c.in-Last.ensures.lowered (refl, tt)
-
-pub returns-in-Again-clause-moves : goal.returns-in-Again-clause-moves
-returns-in-Again-clause-moves c = moved_none (shape_of c.args.self.now) 3 (view_of c.args.pass.now) (part_view c.lower.new.part) c.in-Again.ensures.lowered.0
-
-pub returns-in-Again-clause-kept : goal.returns-in-Again-clause-kept
-returns-in-Again-clause-kept c = keeps_strong (shape_of c.args.self.now) [] 3 (view_of c.args.pass.now) (part_view c.lower.new.part) c.in-Again.ensures.lowered.0 (λ k. tt)
-
-pub returns-in-Again-clause-dying : goal.returns-in-Again-clause-dying
-returns-in-Again-clause-dying c = keeps_dying (shape_of c.args.self.now) [] 3 (view_of c.args.pass.now) (part_view c.lower.new.part) c.in-Again.ensures.lowered.0 tt
-
-pub returns-in-Again-clause-freed : goal.returns-in-Again-clause-freed
-returns-in-Again-clause-freed c = keeps_freed_by (shape_of c.args.self.now) [] 3 (view_of c.args.pass.now) (part_view c.lower.new.part) c.args.self.now.sized c.in-Again.ensures.lowered.0 tt
+pub returns-in-Again-clause-has : goal.returns-in-Again-clause-has
+returns-in-Again-clause-has c = still_has (shape_of c.args.self.now) None 3 (view_of c.args.pass.now) (part_view c.lower.new.part) c.args.self.now.sized c.in-Again.ensures.called.1.called

@@ -18,20 +18,21 @@ run_as-requires-clause-may g c =
     subst (λ (p : Intent × OneStep). MayRun vacate_takes one_turned vacate_answer shape p.0 p.1 None v) (λ j. (sym c.requires.asks.0 j, sym plan_is j))
     (may_vacate shape f.slot f.entry v c.args.self.now.sized d.0 c.requires.free d.1.0 d.1.1 d.1.2 d.1.3 d.1.4 d.1.5)
 
-pub returns-clause-vacated : goal.returns-clause-vacated
-returns-clause-vacated g c =
+pub returns-clause-called : goal.returns-clause-called
+returns-clause-called g c =
     let v = part_view c.args.part.now in
     let f = c.args.freed.now in
     let shape = shape_of c.args.self.now in
     let d = c.requires.freed in
     let plan_is : c.start-plan.result ≡ record { layout = extent_of shape; slot = f.slot; at = Start } = c.start-plan.ensures ∙ ap (λ l. record { layout = l; slot = f.slot; at = Start }) c.args.self.now.laid in
-    let w = part_view c.run_as.new.part in
-    let all = has_vacated shape f.slot f.entry v c.args.self.now.sized d.0 c.requires.free d.1.0 d.1.1 d.1.2 d.1.3 d.1.4 d.1.5 tt w
-    (subst (λ (p : Intent × OneStep). Ran one_turned vacate_answer shape p.0 p.1 None v tt w) (λ j. (c.requires.asks.0 j, plan_is j)) c.run_as.ensures.ran) in
-    (all.0, all.1)
+    let w = part_view c.run_as.new.part in (
+      c.run_as.ensures.same,
+      (has_vacated shape f.slot f.entry v c.args.self.now.sized d.0 c.requires.free d.1.0 d.1.1 d.1.2 d.1.3 d.1.4 d.1.5 tt w
+          (subst (λ (p : Intent × OneStep). Ran one_turned vacate_answer shape p.0 p.1 None v tt w) (λ j. (c.requires.asks.0 j, plan_is j)) c.run_as.ensures.ran)).1,
+    )
 
-pub returns-clause-working : goal.returns-clause-working
-returns-clause-working g c =
+pub returns-clause-left : goal.returns-clause-left
+returns-clause-left g c =
     let v = part_view c.args.part.now in
     let f = c.args.freed.now in
     let shape = shape_of c.args.self.now in
@@ -39,15 +40,4 @@ returns-clause-working g c =
     let plan_is : c.start-plan.result ≡ record { layout = extent_of shape; slot = f.slot; at = Start } = c.start-plan.ensures ∙ ap (λ l. record { layout = l; slot = f.slot; at = Start }) c.args.self.now.laid in
     let w = part_view c.run_as.new.part in
     (has_vacated shape f.slot f.entry v c.args.self.now.sized d.0 c.requires.free d.1.0 d.1.1 d.1.2 d.1.3 d.1.4 d.1.5 tt w
-    (subst (λ (p : Intent × OneStep). Ran one_turned vacate_answer shape p.0 p.1 None v tt w) (λ j. (c.requires.asks.0 j, plan_is j)) c.run_as.ensures.ran)).2
-
-pub returns-clause-alone : goal.returns-clause-alone
-returns-clause-alone g c =
-    let v = part_view c.args.part.now in
-    let f = c.args.freed.now in
-    let shape = shape_of c.args.self.now in
-    let d = c.requires.freed in
-    let plan_is : c.start-plan.result ≡ record { layout = extent_of shape; slot = f.slot; at = Start } = c.start-plan.ensures ∙ ap (λ l. record { layout = l; slot = f.slot; at = Start }) c.args.self.now.laid in
-    let w = part_view c.run_as.new.part in
-    (has_vacated shape f.slot f.entry v c.args.self.now.sized d.0 c.requires.free d.1.0 d.1.1 d.1.2 d.1.3 d.1.4 d.1.5 tt w
-    (subst (λ (p : Intent × OneStep). Ran one_turned vacate_answer shape p.0 p.1 None v tt w) (λ j. (c.requires.asks.0 j, plan_is j)) c.run_as.ensures.ran)).3
+    (subst (λ (p : Intent × OneStep). Ran one_turned vacate_answer shape p.0 p.1 None v tt w) (λ j. (c.requires.asks.0 j, plan_is j)) c.run_as.ensures.ran)).0
