@@ -8,8 +8,8 @@ ghost use Rattle.arc_pairs.specs.Ready.{IsReady, IsPlain, IsOurs, IsOurDying};
 use arc_table::{Dying, Finish, Heap, Pass, Release, Strong, Up};
 use std::sync::Wait;
 
-/// One more reference, tried until no count changes in between.
-fn copied_again<R: Wait>(rt: &R, heap: &Heap, pass: &mut Pass, of: &Strong) -> Option<Strong>
+/// One more reference to the same object. `None` where a count stands at its greatest.
+pub fn copied<R: Wait>(rt: &R, heap: &Heap, pass: &mut Pass, of: &Strong) -> Option<Strong>
     requires ready { IsReady heap.now pass.old }
     requires held { IsOurs heap.now pass.old of.now }
     ensures ready { IsReady heap.now pass.new }
@@ -27,24 +27,8 @@ fn copied_again<R: Wait>(rt: &R, heap: &Heap, pass: &mut Pass, of: &Strong) -> O
     unreachable!()
 }
 
-/// One more reference to the same object. `None` where a count stands at its greatest. The first try is outside the loop, which costs more.
-pub fn copied<R: Wait>(rt: &R, heap: &Heap, pass: &mut Pass, of: &Strong) -> Option<Strong>
-    requires ready { IsReady heap.now pass.old }
-    requires held { IsOurs heap.now pass.old of.now }
-    ensures ready { IsReady heap.now pass.new }
-    ensures copy { IfSome result (λ t. IsOurs heap.now pass.new t) }
-    ensures other { IfSome result (λ t. hand_of t ≢ hand_of of.now) }
-    ensures kept { KeepsStrong (view_of pass.old) (view_of pass.new) }
-{
-    match heap.retain(pass, of) {
-        Up::Ok(more) => Some(more),
-        Up::AtCap | Up::CountFull => None,
-        Up::Again(_) => copied_again(rt, heap, pass, of),
-    }
-}
-
-/// One reference fewer, tried until no count changes in between.
-fn given_up_again<R: Wait>(rt: &R, heap: &Heap, pass: &mut Pass, held: Strong) -> Option<Dying>
+/// One reference fewer. The duty to end the object, where it was the last one.
+pub fn given_up<R: Wait>(rt: &R, heap: &Heap, pass: &mut Pass, held: Strong) -> Option<Dying>
     requires ready { IsReady heap.now pass.old }
     requires held { IsOurs heap.now pass.old held }
     ensures ready { IsReady heap.now pass.new }
@@ -60,21 +44,6 @@ fn given_up_again<R: Wait>(rt: &R, heap: &Heap, pass: &mut Pass, held: Strong) -
         }
     }
     unreachable!()
-}
-
-/// One reference fewer. The duty to end the object, where it was the last one. The first try is outside the loop.
-pub fn given_up<R: Wait>(rt: &R, heap: &Heap, pass: &mut Pass, held: Strong) -> Option<Dying>
-    requires ready { IsReady heap.now pass.old }
-    requires held { IsOurs heap.now pass.old held }
-    ensures ready { IsReady heap.now pass.new }
-    ensures dying { IfSome result (λ d. IsOurDying heap.now pass.new d) }
-    ensures kept { KeepsStrongBut (hand_of held) (view_of pass.old) (view_of pass.new) }
-{
-    match heap.release(pass, held) {
-        Release::More => None,
-        Release::Last(dying) => Some(dying),
-        Release::Again(back, _) => given_up_again(rt, heap, pass, back),
-    }
 }
 
 /// The end of an object without fields: of its deinit, and of its slot where no unowned reference is left.
