@@ -1,4 +1,5 @@
-# Two threads on one slot, step by step in turn: the second finds the pool full until the first has given its slot back.
+# Two threads on one slot, step by step in turn. Both see the slot's bit clear, and the first sets it; so the second looks again, and finds the
+# pool full until the first has given its slot back.
 arc 1
 slots 1
 entries 1
@@ -20,5 +21,5 @@ new b Node
 new b Node
 new b Node
 new b Node
-schedule 1 2 1 2 1 2 1 2 1 2 1 2 1 2 1 2 1 2 1 2 1 2
+schedule 1 2 1 2 1 2 1 2 1 2 1 2 1 2 1 2 1 2 1 2 1 2 1 2
 done

@@ -13,7 +13,7 @@ use Rattle.arc_schedule.proofs.Runs.{replays_are_schedule_runs}
 use Rattle.arc_command.specs.declared.command.Command.{Command}
 use Rattle.arc_command.specs.declared.command.Command.TheVariants as command
 use Rattle.arc.specs.Outputs.{IsOutput}
-use Rattle.arc.specs.Printed.{Prints, OfHistory, IsScheduledReplay, KeepsPhases, HasNoOtherThread, TellsEachDeinit, ClaimsNothing, LeavesNothing}
+use Rattle.arc.specs.Printed.{Prints, OfHistory, OfShape, IsScheduledReplay, KeepsPhases, HasNoOtherThread, TellsEachDeinit, ClaimsNothing, LeavesNothing}
 
 scheduled : (script : Script) (replay : Replay) → IsScript script → IsServed script → IsReplay script replay → IsScheduledReplay script replay
 scheduled script replay valid served r = rw (r.words, r.steps, r.events) (replays_are_schedule_runs script r.last valid served r.run)
@@ -39,17 +39,17 @@ module _ (c : Command) (left old new : Option (List ℕ)) where
   pub prints_no_other : (legal : Bool) (out : List ℕ) → c ≡ command.Replay → IsOutput c left legal out → Appends old new out → Prints HasNoOtherThread left old new
   prints_no_other = prints HasNoOtherThread (λ script replay valid served r. r.history.no_other)
 
-  pub prints_once : (legal : Bool) (out : List ℕ) → c ≡ command.Replay → IsOutput c left legal out → Appends old new out → Prints (OfHistory DeinitsOnce) left old new
-  prints_once = prints (OfHistory DeinitsOnce) (λ script replay valid served r. r.history.once)
+  pub prints_once : (legal : Bool) (out : List ℕ) → c ≡ command.Replay → IsOutput c left legal out → Appends old new out → Prints (OfShape DeinitsOnce) left old new
+  prints_once = prints (OfShape DeinitsOnce) (λ script replay valid served r. r.history.once)
 
   pub prints_deinits : (legal : Bool) (out : List ℕ) → c ≡ command.Replay → IsOutput c left legal out → Appends old new out → Prints TellsEachDeinit left old new
   prints_deinits = prints TellsEachDeinit (λ script replay valid served r. r.history.deinits)
 
-  pub prints_loads : (legal : Bool) (out : List ℕ) → c ≡ command.Replay → IsOutput c left legal out → Appends old new out → Prints (OfHistory LoadsComeBefore) left old new
-  prints_loads = prints (OfHistory LoadsComeBefore) (λ script replay valid served r. r.history.loads)
+  pub prints_loads : (legal : Bool) (out : List ℕ) → c ≡ command.Replay → IsOutput c left legal out → Appends old new out → Prints (OfShape LoadsComeBefore) left old new
+  prints_loads = prints (OfShape LoadsComeBefore) (λ script replay valid served r. r.history.loads)
 
-  pub prints_slots : (legal : Bool) (out : List ℕ) → c ≡ command.Replay → IsOutput c left legal out → Appends old new out → Prints (OfHistory SlotsAreVacated) left old new
-  prints_slots = prints (OfHistory SlotsAreVacated) (λ script replay valid served r. r.history.slots)
+  pub prints_slots : (legal : Bool) (out : List ℕ) → c ≡ command.Replay → IsOutput c left legal out → Appends old new out → Prints (OfShape SlotsAreVacated) left old new
+  prints_slots = prints (OfShape SlotsAreVacated) (λ script replay valid served r. r.history.slots)
 
   pub prints_entries : (legal : Bool) (out : List ℕ) → c ≡ command.Replay → IsOutput c left legal out → Appends old new out → Prints (OfHistory EntriesAreGivenBack) left old new
   prints_entries = prints (OfHistory EntriesAreGivenBack) (λ script replay valid served r. r.history.entries)

@@ -1,6 +1,6 @@
 -- What the report and the history text ask of lines, events and words, from what a replay says of them.
-use Rattle.std.proofs.Common.{◌≡◌, ℕ, true, List, length, ap, subst, ◌∙◌, arith, rules, tests}
-use Rattle.std.specs.Prelude.{All, ◌==◌}
+use Rattle.std.proofs.Common.{◌≡◌, ℕ, true, true≢false, List, length, ap, sym, subst, ◌∙◌}
+use Rattle.std.specs.Prelude.{All}
 use Rattle.std.specs.List.{AllByRecursion}
 use Rattle.std.proofs.lemmas.List.{length-map}
 use Rattle.std.proofs.lemmas.List.Elements.{recursion_from_All}
@@ -9,7 +9,8 @@ use Rattle.arc_model.specs.declared.event.Act.{Act}
 use Rattle.arc_model.specs.declared.event.Act.TheVariants as acts
 use Rattle.arc_bits.specs.Words.{unpacked}
 use Rattle.arc_rule.specs.Extents.{Extent}
-use Rattle.arc_rule.specs.declared.layout.Place.TheVariants as place
+use Rattle.arc_rule.specs.Places.{extent_of}
+use Rattle.arc_model.specs.Shapes.{HeapShape}
 use Rattle.arc_model.specs.declared.answer.Answer.{Answer}
 use Rattle.arc_model.specs.declared.answer.Answer.TheVariants as answers
 use Rattle.arc_script.specs.declared.answer.Line.{Line}
@@ -19,11 +20,11 @@ use Rattle.arc_ops.specs.declared.told.Stamped.{Stamped}
 use Rattle.arc_ops.specs.declared.told.ThreadLines.{ThreadLines}
 use Rattle.arc_plain.specs.declared.replay.Replay.{Replay}
 use Rattle.arc_replays.specs.Named.{AnswerFits, LineFits, ActFits}
-use Rattle.arc_replays.specs.Empty.{AreEmpty}
+use Rattle.arc_replays.specs.Left.{OnlyImmortals}
 use Rattle.arc_plain.specs.Replays.{IsReplay}
 use Rattle.arc_report.specs.Lines.{AnswerHasClass, LinesHaveClasses, ThreadsHaveClasses}
 use Rattle.arc_report.specs.Events.{ActIsNamed, EventIsNamed}
-use Rattle.arc_report.specs.Words.{word_at, is_taken, AreFinalWords, EntryIsThere, ObjectsHaveClasses}
+use Rattle.arc_report.specs.Words.{AreFinalWords, EntryIsThere, ObjectsHaveClasses}
 
 answer_named : (n : ℕ) (a : Answer) → AnswerFits n a → AnswerHasClass n a
 answer_named n (answers.New name) h = h
@@ -63,31 +64,28 @@ act_named n g (acts.Gone entry last) h = absurd h
 pub events_named : (classes globals : ℕ) (events : List Stamped) → All (λ (s : Stamped). ActFits classes s.event.act) events → AllByRecursion (EventIsNamed classes globals) events
 events_named n g events all = recursion_from_All (EventIsNamed n g) events (λ k d h. act_named n g _ (all k d h))
 
--- ---- words of a heap in which no object and no entry is left
+-- ---- words of a heap in which immortal objects alone are left
 
-free_is_there : (l : Extent) (w : ℕ) → w ≡ 0 → EntryIsThere l (unpacked w)
+one_is_there : (l : Extent) (w : ℕ) → w ≡ 1 → EntryIsThere l (unpacked w)
 unfolding unpacked
-free_is_there l w e = rw e tt
+one_is_there l w e = rw e tt
 
-none_taken : (l : Extent) (words : List ℕ) (s : ℕ) → word_at l words (place.Count s) ≡ 0 → is_taken l words s ≡ true → ⊥
-none_taken l words s e t = absurd (let z : (word_at l words (place.Count s) == 0) ≡ true = search (rules, tests) in cc)
-
-pub final_words : (l : Extent) (words : List ℕ) → AreEmpty l words → AreFinalWords l words
-final_words l words left = record {
+pub final_words : (shape : HeapShape) (words : List ℕ) → OnlyImmortals shape words → AreFinalWords (extent_of shape) words
+final_words shape words left = record {
   whole = left.whole;
-  names = λ s h t. absurd (none_taken l words s (left.counts s h) t);
-  entries = λ s h. free_is_there l _ (left.counts s h);
-  links = λ e h. rw (left.links e h) (omega arith);
+  names = λ s h t. (left.slots s h t).named;
+  entries = λ s h t. one_is_there (extent_of shape) _ (left.slots s h t).count;
+  links = λ e h t. absurd (true≢false (sym t ∙ left.entries e h));
 }
-
-pub no_classes : (n : ℕ) (l : Extent) (words : List ℕ) → AreEmpty l words → ObjectsHaveClasses n l words
-no_classes n l words left = λ s h t. absurd (none_taken l words s (left.counts s h) t)
 
 -- ---- of a replay
 
 -- a script has as many classes as its shape
 classes_count : (script : Script) → IsScript script → length script.shape.classes ≡ length script.classes
 classes_count script valid = ap length valid.heading.of_classes ∙ simp length-map
+
+pub classes_there : (script : Script) (words : List ℕ) → IsScript script → OnlyImmortals script.shape words → ObjectsHaveClasses (length script.classes) (extent_of script.shape) words
+classes_there script words valid left = subst (λ n. ObjectsHaveClasses n (extent_of script.shape) words) (classes_count script valid) (λ s h t. (left.slots s h t).class_there)
 
 pub threads_told : (script : Script) (r : Replay) → IsScript script → IsReplay script r → ThreadsHaveClasses (length script.classes) r.threads.items
 threads_told script r valid told =

@@ -1,9 +1,10 @@
 -- What is promised of the replay that `replay` prints.
 use Rattle.std.specs.Prelude.{◌≡◌, ℕ, List, Option, reverse}
 use Rattle.std.specs.Io.KnownBytes.{Appends}
+use Rattle.arc_model.specs.Shapes.{HeapShape}
 use Rattle.arc_model.specs.History.{History, heap_after}
 use Rattle.arc_script.specs.declared.script.Script.{Script}
-use Rattle.arc_quiet.specs.OneWay.{StrongFieldsLeadOneWay, AllDead}
+use Rattle.arc_quiet.specs.OneWay.{NoClassIsImmortal, StrongFieldsLeadOneWay, AllDead}
 use Rattle.arc_quiet.specs.Whole.{NoOtherThread}
 use Rattle.arc_programs_laws.specs.Claims.{NoEntryIsClaimed}
 use Rattle.arc_programs_laws.specs.Deinits.{emptied}
@@ -30,6 +31,10 @@ printed replay = history_of (reverse replay.events.items)
 abbrev pub OfHistory : (History → Type 0) → Script → Replay → Type 0
 OfHistory Holds script replay = Holds (printed replay)
 
+-- this holds of the history that was printed, in a heap of the script's shape
+abbrev pub OfShape : (HeapShape → History → Type 0) → Script → Replay → Type 0
+OfShape Holds script replay = Holds script.shape (printed replay)
+
 -- The steps are a schedule run of the script, with these numbers of events, and leave these words.
 abbrev pub IsScheduledReplay : Script → Replay → Type 0
 IsScheduledReplay script replay = IsScheduled script replay.words.items replay.steps (reverse replay.events.items)
@@ -50,6 +55,6 @@ TellsEachDeinit script replay = deinits_printed replay.threads.items replay.end.
 abbrev pub ClaimsNothing : History → Type 0
 ClaimsNothing h = NoEntryIsClaimed (heap_after h)
 
--- where strong fields lead one way, every object is dead in the end
+-- where no class is immortal and strong fields lead one way, every object is dead in the end
 abbrev pub LeavesNothing : Script → Replay → Type 0
-LeavesNothing script replay = StrongFieldsLeadOneWay script.shape → AllDead (heap_after (printed replay))
+LeavesNothing script replay = NoClassIsImmortal script.shape → StrongFieldsLeadOneWay script.shape → AllDead script.shape (heap_after (printed replay))

@@ -1,3 +1,5 @@
+//! The commands, each a call that tells which status it ends with.
+
 ghost use Rattle.std.specs.Prelude.{◌≡◌, ◌↔◌, ◌⊎◌, ◌+◌, Bool, List, ℕ, Some, None, true, false, IfOk, IsSomeAnd};
 ghost use Rattle.std.specs.String.{string_bytes};
 ghost use Rattle.std.specs.Io.KnownBytes.{Appends, IsAtEnd};
@@ -9,7 +11,7 @@ ghost use Rattle.arc_replays.specs.Promises.{DeinitsOnce, LoadsComeBefore, Slots
 ghost use Rattle.arc.specs.Statuses.{EndsWith, ended, usage_line, read_fault_line, too_long_line, memory_line, refused_text, Sends, IsOfInput, IsPastInput};
 ghost use Rattle.arc.specs.Outputs.{IsOutput, IsRefusal, IsValidInput, IsUnservedInput, legal_text};
 ghost use Rattle.arc.specs.Judged.{HadReplay};
-ghost use Rattle.arc.specs.Printed.{Prints, OfHistory, IsScheduledReplay, KeepsPhases, HasNoOtherThread, TellsEachDeinit, ClaimsNothing, LeavesNothing};
+ghost use Rattle.arc.specs.Printed.{Prints, OfHistory, OfShape, IsScheduledReplay, KeepsPhases, HasNoOtherThread, TellsEachDeinit, ClaimsNothing, LeavesNothing};
 
 use crate::output::{Fault, output_of};
 use crate::status::Status;
@@ -93,26 +95,27 @@ pub fn arc_plain_top<S: Source, K: Sink>(
     ensures no_other_thread { EndsWith result Status.Done → command_of words.now ≡ Some Command.Replay →
         Prints HasNoOtherThread (S.left source.old) (K.taken sink.old) (K.taken sink.new) }
 
-    // Each object is deinited once, as its last strong holder goes, and there are as many deinit lines as such events.
+    // Said of each object whose strong list becomes empty: it is deinited once, as its last strong holder goes. There are as many
+    // deinit lines as such events.
     ensures deinited_once { EndsWith result Status.Done → command_of words.now ≡ Some Command.Replay →
-        Prints (OfHistory DeinitsOnce) (S.left source.old) (K.taken sink.old) (K.taken sink.new) }
+        Prints (OfShape DeinitsOnce) (S.left source.old) (K.taken sink.old) (K.taken sink.new) }
     ensures deinits_told { EndsWith result Status.Done → command_of words.now ≡ Some Command.Replay →
         Prints TellsEachDeinit (S.left source.old) (K.taken sink.old) (K.taken sink.new) }
 
     // A load gives an object only before that.
     ensures loads_before { EndsWith result Status.Done → command_of words.now ≡ Some Command.Replay →
-        Prints (OfHistory LoadsComeBefore) (S.left source.old) (K.taken sink.old) (K.taken sink.new) }
+        Prints (OfShape LoadsComeBefore) (S.left source.old) (K.taken sink.old) (K.taken sink.new) }
 
     // No slot is given again while a strong or unowned holder remains, and no entry while a weak one does. No entry is claimed in the
     // end.
     ensures slots_vacated { EndsWith result Status.Done → command_of words.now ≡ Some Command.Replay →
-        Prints (OfHistory SlotsAreVacated) (S.left source.old) (K.taken sink.old) (K.taken sink.new) }
+        Prints (OfShape SlotsAreVacated) (S.left source.old) (K.taken sink.old) (K.taken sink.new) }
     ensures entries_given_back { EndsWith result Status.Done → command_of words.now ≡ Some Command.Replay →
         Prints (OfHistory EntriesAreGivenBack) (S.left source.old) (K.taken sink.old) (K.taken sink.new) }
     ensures none_claimed { EndsWith result Status.Done → command_of words.now ≡ Some Command.Replay →
         Prints (OfHistory ClaimsNothing) (S.left source.old) (K.taken sink.old) (K.taken sink.new) }
 
-    // Where strong fields lead one way, every object is dead in the end.
+    // Where no class is immortal and strong fields lead one way, every object is dead in the end.
     ensures leaves_nothing { EndsWith result Status.Done → command_of words.now ≡ Some Command.Replay →
         Prints LeavesNothing (S.left source.old) (K.taken sink.old) (K.taken sink.new) }
 

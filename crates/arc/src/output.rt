@@ -1,3 +1,5 @@
+//! What a command writes, put together from its parts.
+
 ghost use Rattle.std.specs.Prelude.{◌≡◌, ◌≢◌, ◌≤◌, true, false, Some, length, IfOk, IfErr, OnOk};
 ghost use Rattle.std.specs.Io.KnownBytes.{IsAtEnd};
 ghost use Rattle.arc_io.specs.Moved.{TookAtMost};

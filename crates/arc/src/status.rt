@@ -1,3 +1,5 @@
+//! The statuses, and the number of each as the program ends with it.
+
 ghost use Rattle.std.specs.Prelude.{◌≡◌};
 ghost use Rattle.arc.specs.Statuses.{number_of, EndsWith};
 

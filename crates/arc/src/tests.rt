@@ -1,3 +1,5 @@
+//! Tests of the commands, from bytes to bytes.
+
 use crate::calls::arc_plain_top;
 use crate::status::Status;
 use arc_command::Arg;
@@ -27,19 +29,19 @@ caps 1073741823 2147483647 4294967295
 class Node
 threads 1
 events
-1 1 new 1 Node 0
-4 1 copy 1 2
-6 1 drop 1 more
-8 1 drop 2 last
-13 1 finish 0 last
-14 1 vacate 0
+2 1 new 1 Node 0
+6 1 copy 1 2
+8 1 drop 1 more
+10 1 drop 2 last
+15 1 finish 0 last
+16 1 vacate 0
 done
 ";
 
-/// Both threads want the only slot. By the places thread 1 takes it, then thread 2 finds it taken, then thread 1 writes its name;
-/// what is left is made in the order of numbers.
+/// Both threads want the only slot. By the places thread 1 looks for it and takes it, then thread 2 finds it taken, then thread 1 writes
+/// the object's counts; what is left is made in the order of numbers.
 const TWO_THREADS: &[u8] =
-    b"arc 1\nslots 1\nentries 1\nclass Node\nthread 1\nvar a strong Node\nnew a Node\ndrop a\nthread 2\nvar b strong Node\nnew b Node\nschedule 1 2 1\ndone\n";
+    b"arc 1\nslots 1\nentries 1\nclass Node\nthread 1\nvar a strong Node\nnew a Node\ndrop a\nthread 2\nvar b strong Node\nnew b Node\nschedule 1 1 2 1\ndone\n";
 
 const TWO_THREADS_REPLAYED: &[u8] = b"report 1
 thread 1
@@ -57,11 +59,11 @@ caps 1073741823 2147483647 4294967295
 class Node
 threads 2
 events
-1 1 new 1 Node 0
-2 2 full
-5 1 drop 1 last
-10 1 finish 0 last
-11 1 vacate 0
+2 1 new 1 Node 0
+3 2 full
+7 1 drop 1 last
+12 1 finish 0 last
+13 1 vacate 0
 done
 ";
 

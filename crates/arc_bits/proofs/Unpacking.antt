@@ -4,7 +4,7 @@ use Rattle.std.proofs.lemmas.Bool.{cases_lt}
 use Rattle.std.proofs.lemmas.Nat.Bits.{bit_at_cat_low, bit_at_cat_high, bit_at_above, bit_at-trailing_zeros}
 use Rattle.std.specs.Int.{bit_at, w64, trailing_zeros}
 use Rattle.arc_bits.specs.declared.packing.Word.{Word}
-use Rattle.arc_bits.specs.declared.packing.Word.TheVariants.{Free, Counts, Slow}
+use Rattle.arc_bits.specs.declared.packing.Word.TheVariants.{Free, Counts, Slow, Immortal}
 use Rattle.arc_bits.specs.Words.{counts_of, packed, unpacked, IsPackable, IsWordOf, HasNoWord, flag}
 
 pub slow_is : (n : ℕ) → 2 ^ 63 ≤ n → n < 2 ^ 63 + 2 ^ 32 → IsWordOf (Slow (n - 2 ^ 63)) n
@@ -16,7 +16,7 @@ counts_are n some below even = search rules
 -- a slow word has no bit from 32 to 62
 pub slow_has_word : (n : ℕ) → 2 ^ 63 ≤ n → n < 2 ^ 63 + 2 ^ 32 → HasNoWord n → ⊥
 slow_has_word n above below = ⊎_elim
-    (λ (b : (bit_at n 63 ≡ 0) × (bit_at n 0 ≡ 1)). omega (arith, b.0))
+    (λ (b : (bit_at n 63 ≡ 0) × (bit_at n 0 ≡ 1) × (n ≢ 1)). omega (arith, b.0))
     (λ (b : (bit_at n 63 ≡ 1) × ((k : ℕ) × (32 ≤ k) × (k ≤ 62) × (bit_at n k ≡ 1))). no_bit b.1.0 b.1.1 b.1.2 b.1.3)
   where
     no_bit : (k : ℕ) → 32 ≤ k → k ≤ 62 → bit_at n k ≡ 1 → ⊥
@@ -67,6 +67,7 @@ unfolding unpacked
 unpacked-packed Free fits = refl
 unpacked-packed (Counts c) fits = counts_back c.strong_extra c.unowned c.deiniting fits.strong fits.unowned fits.some
 unpacked-packed (Slow e) fits = search rules
+unpacked-packed Immortal fits = refl
 
 -- a number's word packs to it
 unpacked_packs : (n : ℕ) → IfSome (unpacked n) (λ w. IsWordOf w n)

@@ -1,3 +1,5 @@
+//! The four moves of the counts in an inline word.
+
 ghost use Rattle.std.specs.Prelude.{◌≡◌, ◌≤◌, ◌↔◌, false, IsErr, IfOk};
 ghost use Rattle.arc_bits.specs.Words.{IsStrongCap, IsUnownedCap};
 ghost use Rattle.arc_bits.specs.Moves.{strong_more, strong_less, unowned_more, unowned_less};

@@ -1,3 +1,5 @@
+//! What an inline word says, and the number that it is packed as.
+
 ghost use Rattle.std.specs.Prelude.{◌≡◌, ◌↔◌, Some, IsNone, IfSome};
 ghost use Rattle.arc_bits.specs.declared.packing.Word.{Word};
 ghost use Rattle.arc_bits.specs.Words.{packed, unpacked, IsPackable, IsWordOf, HasNoWord};
@@ -22,7 +24,11 @@ pub enum Word {
     Counts(Inline),
     /// The side table entry, by its number, that has the object's counts. RefCount.h's UseSlowRC.
     Slow(u32),
+    /// The object is of an immortal class: its counts stand still, and it is never deinited. This project's own.
+    Immortal,
 }
+
+const IMMORTAL: u64 = 1;
 
 const UNOWNED_ONE: u64 = 1 << 1;
 
@@ -33,7 +39,7 @@ const STRONG_EXTRA_ONE: u64 = 1 << 33;
 const SLOW: u64 = 1 << 63;
 
 /// The word in 64 bits: bits 1 to 31 are the unowned count, bit 32 is deiniting, bits 33 to 62 are the strong extra count, and
-/// bit 63 says that the low 32 bits are an entry's number. A free slot's word is 0.
+/// bit 63 says that the low 32 bits are an entry's number. A free slot's word is 0, an immortal object's is 1.
 #[tactic(auto, unfolding(crate::specs::Words::unpacked))]
 pub fn pack(word: Word) -> u64
     requires { IsPackable word }
@@ -49,6 +55,7 @@ pub fn pack(word: Word) -> u64
                 + u64::from(counts.strong_extra) * STRONG_EXTRA_ONE
         }
         Word::Slow(entry) => SLOW + u64::from(entry),
+        Word::Immortal => IMMORTAL,
     }
 }
 
@@ -63,6 +70,9 @@ pub fn unpack(word: u64) -> Option<Word>
 {
     if word == 0 {
         return Some(Word::Free);
+    }
+    if word == IMMORTAL {
+        return Some(Word::Immortal);
     }
     if word >= SLOW {
         let entry = word - SLOW;
@@ -104,11 +114,13 @@ mod tests {
         assert_eq!(rt; pack_counts(0, 1, true), 0x0000_0001_0000_0002);
         assert_eq!(rt; pack_counts(0, 2, true), 0x0000_0001_0000_0004);
         assert_eq!(rt; pack(Word::Slow(0)), 0x8000_0000_0000_0000);
+        assert_eq!(rt; pack(Word::Immortal), 0x0000_0000_0000_0001);
     }
 
     #[test]
     fn numbers_are_unpacked(rt: HostRuntime) {
         assert_eq!(rt; unpack(0), Some(Word::Free));
+        assert_eq!(rt; unpack(1), Some(Word::Immortal));
         assert_eq!(rt; unpack(3), None);
         assert_eq!(rt; unpack(0x8000_0001_0000_0000), None);
         assert_eq!(rt; unpack(0x8000_0000_0000_0001), Some(Word::Slow(1)));

@@ -3,7 +3,7 @@ use Rattle.std.proofs.Common.{◌≡◌, ◌≢◌, ℕ, Option, Some, None, ref
 use Rattle.std.specs.Option.{unwrap_or}
 use Rattle.std.specs.Prelude.{⊤}
 use Rattle.arc_rule.specs.declared.step.Changed.{Changed}
-use Rattle.arc_rule.specs.Plans.{IsChange}
+use Rattle.arc_rule.specs.Plans.{IsChange, Tries}
 use Rattle.arc_plan.specs.declared.attempt.At.{At}
 use Rattle.arc_plan.specs.declared.attempt.At.TheVariants.{Exchanging}
 use Rattle.arc_plan.specs.Attempts.{takes_at, asked_at, rests_at}
@@ -20,8 +20,7 @@ pub is_change : (place seen new found : ℕ) (at : At) (last : Option ℕ) (c : 
 is_change place seen new found at last c is takes given differ e =
     subst (IsChange (asked_at place at) last (rests_at place at)) (some_change (record { seen = seen; found = found }) c e) (record {
       place = place;
-      new = new;
-      asked_is = ap (asked_at place) is;
+      tries = subst (λ (a : At). Tries (asked_at place a) place seen) (sym is) (refl, refl);
       read = ap (rests_at place) is;
       found = some_given last (subst (λ a. takes_at (λ w. ⊤) a last) is takes) ∙ ap Some (sym given);
       differ = λ same. differ (sym same);

@@ -4,8 +4,7 @@ use Rattle.std.specs.Option.{unwrap_or}
 use Rattle.arc_bits.specs.declared.packing.Word.{Word}
 use Rattle.arc_bits.specs.declared.packing.Word.TheVariants.{Slow}
 use Rattle.arc_bits.specs.Words.{unpacked}
-use Rattle.arc_model.specs.Shapes.{HeapShape}
-use Rattle.arc_model.specs.declared.shape.RefShape.{RefShape}
+use Rattle.arc_model.specs.Shapes.{HeapShape, ObjectClass}
 use Rattle.arc_model.specs.declared.event.Act.{Act}
 use Rattle.arc_model.specs.declared.event.Act.TheVariants as acts
 use Rattle.arc_rule.specs.Extents.{Extent}
@@ -32,7 +31,7 @@ use Rattle.arc_cells.specs.declared.cascade.CascadeNext.TheVariants as says
 
 -- the classes that are served so far
 abbrev pub HasNoFields : HeapShape → Type 0
-HasNoFields shape = All (λ (fields : List RefShape). fields ≡ []) shape.classes
+HasNoFields shape = All (λ (c : ObjectClass). c.fields ≡ []) shape.classes
 
 -- a cascade, as contracts see it
 pub record CascadeState : Type 0 where
@@ -115,7 +114,7 @@ finish_says c (nexts.Done (Again changed)) = finish_first c
 finish_says c (nexts.Done (InEntry e)) = says.Done
 
 -- What it says then: the store of the next word, the load of the isa word, the name, the load of the next word, the steps by which the
--- unowned references lose the holder that stands for the strong ones, and the store that vacates the slot.
+-- unowned references lose the holder that stands for the strong ones, and the step that vacates the slot.
 abbrev pub answer_at : CascadeState → Option ℕ → At → CascadeNext
 answer_at c last Start = of_deinit c.slot (Store (number c.layout (NextPlace c.slot)) 0)
 answer_at c last Entering = of_deinit c.slot (Load (number c.layout (Isa c.slot)))

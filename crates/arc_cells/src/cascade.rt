@@ -1,3 +1,5 @@
+//! The deinit of an object after its last strong reference, as far as objects without fields need it.
+
 ghost use Rattle.std.specs.Prelude.{◌≡◌};
 ghost use Rattle.arc_rule.specs.Places.{IsPlace, extent_of};
 ghost use Rattle.arc_rule.specs.declared.layout.Place.TheVariants.{Count};

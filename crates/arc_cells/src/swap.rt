@@ -1,3 +1,5 @@
+//! The exchange of a cell's word.
+
 ghost use Rattle.std.specs.Prelude.{◌≡◌};
 ghost use Rattle.arc_plan.specs.declared.attempt.At.TheVariants.{Start};
 ghost use Rattle.arc_plan.specs.Attempts.{asked_at, left_at, rests_at};

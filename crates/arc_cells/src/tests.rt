@@ -1,3 +1,5 @@
+//! Tests of the plans on cells.
+
 ghost use Rattle.std.specs.Prelude.{◌≡◌, IfSome};
 
 use crate::{Swap, SwapAnswer};
@@ -21,6 +23,7 @@ fn small_layout(alloc: Global) -> Option<Layout>
     classes
         .push(ClassShape {
             fields: Vec::new(alloc),
+            immortal: false,
         })
         .ok()?;
     let shape = Shape::new(1, 1, caps, classes, globals).ok()?;

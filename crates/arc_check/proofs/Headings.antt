@@ -31,9 +31,9 @@ line_bound caps (line ∷ lines) n last front e least h =
 
 -- ---- the heading
 
-pub record IsHeadingOf (text : List ℕ) (at : ℕ) (h : Heading) : Type 0 where
+pub record IsHeadingOf (version : ℕ) (text : List ℕ) (at : ℕ) (h : Heading) : Type 0 where
   pub end : HeadEnd
-  pub said : head_from true 2 2 (nothing behind.Version) (lines_of (drop at text)) ≡ Ok end
+  pub said : head_from true 2 2 (nothing version behind.Version) (lines_of (drop at text)) ≡ Ok end
   pub whole : h ≡ heading_at (length text - length (after_lines (end.line - 2) (drop at text))) end
 
 heading_then : (text : List ℕ) (at : ℕ) (r : Result HeadEnd Refusal) (h : Heading) → then_heading text at 2 r ≡ Ok h
@@ -41,37 +41,37 @@ heading_then : (text : List ℕ) (at : ℕ) (r : Result HeadEnd Refusal) (h : He
 heading_then text at (Ok e) h q = (e, refl, cc)
 heading_then text at (Err r) h q = absurd cc
 
-pub heading_is : (text : List ℕ) (at : ℕ) (h : Heading) → heading_of text at 2 true ≡ Ok h → IsHeadingOf text at h
-heading_is text at h q =
-    let t = heading_then text at (head_from true 2 2 (nothing behind.Version) (lines_of (drop at text))) h q in
+pub heading_is : (version : ℕ) (text : List ℕ) (at : ℕ) (h : Heading) → heading_of text at 2 version true ≡ Ok h → IsHeadingOf version text at h
+heading_is version text at h q =
+    let t = heading_then text at (head_from true 2 2 (nothing version behind.Version) (lines_of (drop at text))) h q in
     record { end = t.0; said = t.1; whole = t.2 }
 
 heading_refused : (text : List ℕ) (at : ℕ) (r : Result HeadEnd Refusal) (e : Refusal) → then_heading text at 2 r ≡ Err e → r ≡ Err e
 heading_refused text at (Ok h) e q = absurd cc
 heading_refused text at (Err r) e q = cc
 
-pub heading_isnt : (text : List ℕ) (at : ℕ) (e : Refusal) → heading_of text at 2 true ≡ Err e → head_from true 2 2 (nothing behind.Version) (lines_of (drop at text)) ≡ Err e
-heading_isnt text at e q = heading_refused text at (head_from true 2 2 (nothing behind.Version) (lines_of (drop at text))) e q
+pub heading_isnt : (version : ℕ) (text : List ℕ) (at : ℕ) (e : Refusal) → heading_of text at 2 version true ≡ Err e → head_from true 2 2 (nothing version behind.Version) (lines_of (drop at text)) ≡ Err e
+heading_isnt version text at e q = heading_refused text at (head_from true 2 2 (nothing version behind.Version) (lines_of (drop at text))) e q
 
-pub heading_rest : (text : List ℕ) (at : ℕ) (h : Heading) (i : IsHeadingOf text at h) → lines_of (drop h.end text) ≡ drop (i.end.line - 2) (lines_of (drop at text))
-heading_rest text at h i =
+pub heading_rest : (version : ℕ) (text : List ℕ) (at : ℕ) (h : Heading) (i : IsHeadingOf version text at h) → lines_of (drop h.end text) ≡ drop (i.end.line - 2) (lines_of (drop at text))
+heading_rest version text at h i =
     let n = i.end.line - 2 in
     ap (λ (k : ℕ). lines_of (drop k text)) (ap (λ (x : Heading). x.end) i.whole)
     ∙ (ap lines_of (behind_again n at text) ∙ lines_behind n (drop at text))
 
-pub heading_within : (text : List ℕ) (at : ℕ) (h : Heading) → IsHeadingOf text at h → h.end ≤ length text
-heading_within text at h i =
+pub heading_within : (version : ℕ) (text : List ℕ) (at : ℕ) (h : Heading) → IsHeadingOf version text at h → h.end ≤ length text
+heading_within version text at h i =
     let e : h.end ≡ length text - length (after_lines (i.end.line - 2) (drop at text)) = ap (λ (x : Heading). x.end) i.whole in
     omega arith
 
-pub heading_line : (text : List ℕ) (at : ℕ) (h : Heading) → IsHeadingOf text at h → h.line ≤ 2 + length (lines_of (drop at text))
-heading_line text at h i =
+pub heading_line : (version : ℕ) (text : List ℕ) (at : ℕ) (h : Heading) → IsHeadingOf version text at h → h.line ≤ 2 + length (lines_of (drop at text))
+heading_line version text at h i =
     let e : h.line ≡ i.end.line = ap (λ (x : Heading). x.line) i.whole in
-    let b = line_bound true (lines_of (drop at text)) 2 2 (nothing behind.Version) i.end (omega arith) i.said in
+    let b = line_bound true (lines_of (drop at text)) 2 2 (nothing version behind.Version) i.end (omega arith) i.said in
     omega arith
 
-pub heading_few : (text : List ℕ) (at : ℕ) (h : Heading) → IsHeadingOf text at h → (length h.classes ≡ length h.shape.classes) × (length h.globals ≡ length h.shape.globals)
-heading_few text at h i =
+pub heading_few : (version : ℕ) (text : List ℕ) (at : ℕ) (h : Heading) → IsHeadingOf version text at h → (length h.classes ≡ length h.shape.classes) × (length h.globals ≡ length h.shape.globals)
+heading_few version text at h i =
     let e : h ≡ heading_at (length text - length (after_lines (i.end.line - 2) (drop at text))) i.end = i.whole in
     let cs : length h.shape.classes ≡ length i.end.head.classes = ap (λ (x : Heading). length x.shape.classes) e ∙ length-map i.end.head.classes _ in
     let gs : length h.shape.globals ≡ length i.end.head.globals = ap (λ (x : Heading). length x.shape.globals) e ∙ length-map i.end.head.globals _ in

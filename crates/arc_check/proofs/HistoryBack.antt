@@ -1,19 +1,21 @@
 -- The canonical text of a history is read as that history.
-use Rattle.std.proofs.Common.{◌≡◌, ℕ, suc, ◌+◌, ◌-◌, ◌^◌, ◌<◌, ◌≤◌, Bool, true, false, eqb, List, [], ◌∷◌, ◌++◌, length, map, drop, Option, Some, None, Ok, refl, sym, ap, ◌∙◌, append_assoc, arith}
+use Rattle.std.proofs.Common.{◌≡◌, ℕ, suc, ◌+◌, ◌-◌, ◌^◌, ◌<◌, ◌≤◌, Bool, true, false, eqb, List, [], ◌∷◌, ◌++◌, length, map, drop, Option, Some, None, Ok, refl, sym, ap, ◌∙◌, append_assoc, inl, inr, arith, lit<}
 use Rattle.std.specs.Prelude.{codes, slice_index}
 use Rattle.std.specs.List.{AllByRecursion}
 use Rattle.std.specs.Fmt.{decimal}
 use Rattle.std.proofs.lemmas.List.{map-append, length-map, length-append}
+use Rattle.std.proofs.lemmas.Bool.{cases_eq}
+use Rattle.std.proofs.lemmas.Fmt.{decimal_digit}
 use Rattle.arc_text.specs.Words.{is_name}
 use Rattle.arc_text.specs.Lines.{lines_of}
-use Rattle.arc_model.specs.Shapes.{HeapShape}
+use Rattle.arc_model.specs.Shapes.{ObjectClass, HeapShape}
 use Rattle.arc_model.specs.declared.shape.RefShape.{RefShape}
 use Rattle.arc_script.specs.declared.script.ClassDecl.{ClassDecl}
 use Rattle.arc_script.specs.declared.script.VarDecl.{VarDecl}
 use Rattle.arc_script.specs.declared.keyword.Place.TheVariants as behind
-use Rattle.arc_script.specs.Valid.{name_at, class_names, var_names, var_refs, AreFields, AreClasses, IsHeading}
-use Rattle.arc_script.specs.Said.{HeadSaid}
-use Rattle.arc_script.specs.Group.{run_names}
+use Rattle.arc_script.specs.Valid.{name_at, class_names, var_names, var_refs, OfSecond, AreFields, AreClasses, IsHeading}
+use Rattle.arc_script.specs.Said.{Grouped, HeadSaid}
+use Rattle.arc_script.specs.Group.{run_group}
 use Rattle.arc_script.specs.Grammar.{nothing, shape_said}
 use Rattle.arc_script.specs.HeadingText.{head_from}
 use Rattle.arc_script.specs.Canonical.{numbers_line, class_line, decl_line, heading_lines}
@@ -24,16 +26,19 @@ use Rattle.arc_check.specs.declared.line.EventLine.{EventLine}
 use Rattle.arc_check.specs.declared.line.Opening.TheVariants as opening
 use Rattle.arc_check.specs.declared.line.Told.TheVariants as told
 use Rattle.arc_check.specs.Scopes.{Naming}
-use Rattle.arc_check.specs.EventTexts.{starts, behind_start, opening_form, opening_line, opened_from, told_form, told_line, events_from, with_shape, told_behind, behind_heading, from_start, history_of}
+use Rattle.arc_check.specs.EventTexts.{version_begun, behind_start, opening_form, opening_line, opened_from, told_form, told_line, events_from, with_shape, told_behind, behind_heading, from_start, history_of}
 use Rattle.arc_check.specs.WrittenHistory.{events_lines, later_lines, history_lines, written_history, numbered, first_line, EventFits}
 use Rattle.arc_check.proofs.ActsBack.{event_spelled, event_back}
 use Rattle.arc_check.proofs.HeadingBack.{ends_there, head_with, Stops, heading_back}
 
 -- ---- single lines
 
-starts_so : (lines : List (List ℕ)) → behind_start (body (codes "history" ∷ codes "1" ∷ []) ∷ lines) ≡ Some lines
-unfolding starts
-starts_so lines = refl
+starts_so : (version : ℕ) (lines : List (List ℕ)) → 1 ≤ version → version ≤ 2 → behind_start (body (numbers_line (codes "history") (version ∷ [])) ∷ lines) ≡ Some (record { version = version; lines = lines })
+unfolding version_begun
+starts_so version lines least most = elim (cases_eq version 1) [
+  | inl one ↦ rw (one, decimal_digit 1 (lit< tt)) refl
+  | inr other ↦ let two : version ≡ 2 = omega arith in rw (two, decimal_digit 2 (lit< tt)) refl
+]
 
 -- a line that isn't passed over
 opening_in : (threads : Option ℕ) (w : List ℕ) (ws : List (List ℕ)) → IsLine (w ∷ ws) → eqb (slice_index w 0) 35 ≡ false → opening_line threads (body (w ∷ ws)) ≡ opening_form threads w ws
@@ -71,7 +76,7 @@ globals_spelled : (classes : List ClassDecl) → AreClasses classes → (vs : Li
 globals_spelled classes are [] spelled of = tt
 globals_spelled classes are (v ∷ vs) spelled of = (decl_spelled (codes "global") (word_from_test (codes "global") refl) classes are v (spelled 0 (omega arith)) of.0, globals_spelled classes are vs (λ i h. spelled (suc i) (omega arith)) of.1)
 
-module _ (shape : HeapShape) (classes : List ClassDecl) (globals : List VarDecl) (h : IsHeading shape classes globals) (most : shape.caps.wide < 2 ^ 32) (threads : ℕ) (few : threads ≤ 64) where
+module _ (version : ℕ) (least_version : 1 ≤ version) (most_version : version ≤ 2) (shape : HeapShape) (classes : List ClassDecl) (globals : List VarDecl) (of_version : AllByRecursion (λ (c : ClassDecl). OfSecond version c.immortal) classes) (h : IsHeading shape classes globals) (most : shape.caps.wide < 2 ^ 32) (threads : ℕ) (few : threads ≤ 64) where
   abbrev scope : Naming
   scope = record { slots = shape.slots; entries = shape.entries; threads = threads; classes = classes; globals = globals }
 
@@ -120,14 +125,14 @@ module _ (shape : HeapShape) (classes : List ClassDecl) (globals : List VarDecl)
     abbrev count : ℕ
     count = length classes + length globals
 
-    cut : lines_of (written_history shape classes globals threads es) ≡ body (codes "history" ∷ codes "1" ∷ []) ∷ (heading_text ++ later_text)
+    cut : lines_of (written_history version shape classes globals threads es) ≡ body (numbers_line (codes "history") (version ∷ [])) ∷ (heading_text ++ later_text)
     cut =
-        lines_of_text (history_lines shape classes globals threads es) (
-          (word_from_test (codes "history") refl, (word_from_test (codes "1") refl, tt)),
+        lines_of_text (history_lines version shape classes globals threads es) (
+          numbers_spelled (codes "history") (version ∷ []) (word_from_test (codes "history") refl) (omega arith, tt),
           lines_append (heading_lines shape classes globals) (later_lines classes globals threads es) heading_spelled
               (numbers_spelled (codes "threads") (threads ∷ []) (word_from_test (codes "threads") refl) (omega arith, tt), ((word_from_test (codes "events") refl, tt), events_spelled es fit)),
         )
-        ∙ ap (λ (ls : List (List ℕ)). body (codes "history" ∷ codes "1" ∷ []) ∷ ls) (map-append body (heading_lines shape classes globals) (later_lines classes globals threads es))
+        ∙ ap (λ (ls : List (List ℕ)). body (numbers_line (codes "history") (version ∷ [])) ∷ ls) (map-append body (heading_lines shape classes globals) (later_lines classes globals threads es))
 
     long : length heading_text ≡ 3 + count
     long =
@@ -142,8 +147,8 @@ module _ (shape : HeapShape) (classes : List ClassDecl) (globals : List VarDecl)
     behind_it : drop (3 + count) (heading_text ++ later_text) ≡ later_text
     behind_it = ap (λ (n : ℕ). drop n (heading_text ++ later_text)) (sym long) ∙ drop_past heading_text later_text
 
-    no_class : run_names later_text ≡ []
-    no_class = run_step (codes "threads") (decimal threads ∷ []) (body (codes "events" ∷ []) ∷ events_text) (numbers_spelled (codes "threads") (threads ∷ []) (word_from_test (codes "threads") refl) (omega arith, tt))
+    no_class : run_group version later_text ≡ []
+    no_class = run_step version (codes "threads") (decimal threads ∷ []) (body (codes "events" ∷ []) ∷ events_text) (numbers_spelled (codes "threads") (threads ∷ []) (word_from_test (codes "threads") refl) (omega arith, tt))
 
     heading_lines_split : heading_text ++ later_text ≡ body (numbers_line (codes "slots") (shape.slots ∷ [])) ∷ body (numbers_line (codes "entries") (shape.entries ∷ []))
         ∷ body (numbers_line (codes "caps") (shape.caps.strong ∷ shape.caps.unowned ∷ shape.caps.wide ∷ []))
@@ -155,15 +160,15 @@ module _ (shape : HeapShape) (classes : List ClassDecl) (globals : List VarDecl)
         ap (λ (ls : List (List ℕ)). body (numbers_line (codes "slots") (shape.slots ∷ [])) ∷ body (numbers_line (codes "entries") (shape.entries ∷ []))
         ∷ body (numbers_line (codes "caps") (shape.caps.strong ∷ shape.caps.unowned ∷ shape.caps.wide ∷ [])) ∷ ls) split
 
-    head_back : (g : List (List ℕ)) × (head_from true 2 2 (nothing behind.Version) (heading_text ++ later_text) ≡ Ok (record { head = head_with shape classes globals h classes globals g; line = 5 + length classes + length globals }))
+    head_back : (g : List Grouped) × (head_from true 2 2 (nothing version behind.Version) (heading_text ++ later_text) ≡ Ok (record { head = head_with version shape classes globals h classes globals g; line = 5 + length classes + length globals }))
     head_back =
-        let stops : Stops shape classes globals h later_text = λ n front place. ends_there n front (codes "threads") (decimal threads ∷ []) (body (codes "events" ∷ []) ∷ events_text) (numbers_spelled (codes "threads") (threads ∷ []) (word_from_test (codes "threads") refl) (omega arith, tt)) refl refl place in
-        let b = heading_back shape classes globals h most later_text stops no_class in
-        (b.0, ap (head_from true 2 2 (nothing behind.Version)) heading_lines_split ∙ b.1)
+        let stops : Stops version shape classes globals h later_text = λ n front place. ends_there n front (codes "threads") (decimal threads ∷ []) (body (codes "events" ∷ []) ∷ events_text) (numbers_spelled (codes "threads") (threads ∷ []) (word_from_test (codes "threads") refl) (omega arith, tt)) refl refl place in
+        let b = heading_back version shape classes globals h of_version most later_text stops no_class in
+        (b.0, ap (head_from true 2 2 (nothing version behind.Version)) heading_lines_split ∙ b.1)
 
-    shape_back : (g : List (List ℕ)) → shape_said (head_with shape classes globals h classes globals g) ≡ shape
+    shape_back : (g : List Grouped) → shape_said (head_with version shape classes globals h classes globals g) ≡ shape
     shape_back g =
-        ap (λ (cs : List (List RefShape)). (let t : HeapShape = record { slots = shape.slots; entries = shape.entries; caps = shape.caps; classes = cs; globals = var_refs globals } in t)) (sym h.of_classes)
+        ap (λ (cs : List ObjectClass). (let t : HeapShape = record { slots = shape.slots; entries = shape.entries; caps = shape.caps; classes = cs; globals = var_refs globals } in t)) (sym h.of_classes)
         ∙ ap (λ (gs : List RefShape). (let t : HeapShape = record { slots = shape.slots; entries = shape.entries; caps = shape.caps; classes = shape.classes; globals = gs } in t)) (sym h.of_globals)
 
     opened_back : (n : ℕ) (head : HeadSaid) → opened_from n None later_text (told_behind head) ≡ told_behind head threads (n + 1 + 1) events_text
@@ -172,15 +177,15 @@ module _ (shape : HeapShape) (classes : List ClassDecl) (globals : List VarDecl)
         let begun = events_said threads in
         rw (said, begun) refl
 
-    pub history_back : history_of (written_history shape classes globals threads es) ≡ Ok (record { shape = shape; threads = threads; events = numbered (first_line classes globals) es })
+    pub history_back : history_of (written_history version shape classes globals threads es) ≡ Ok (record { shape = shape; threads = threads; events = numbered (first_line classes globals) es })
     history_back =
         let b = head_back in
-        let head = head_with shape classes globals h classes globals b.0 in
+        let head = head_with version shape classes globals h classes globals b.0 in
         let n = 5 + length classes + length globals in
         let less : n - 2 ≡ 3 + count = omega arith in
         let first : n + 1 + 1 ≡ first_line classes globals = omega arith in
         ap (λ (ls : List (List ℕ)). from_start (behind_start ls)) cut
-        ∙ (ap from_start (starts_so (heading_text ++ later_text))
+        ∙ (ap from_start (starts_so version (heading_text ++ later_text) least_version most_version)
         ∙ (ap (behind_heading (heading_text ++ later_text)) b.1
         ∙ (ap (λ (ls : List (List ℕ)). opened_from n None ls (told_behind head)) (ap (λ (k : ℕ). drop k (heading_text ++ later_text)) less ∙ behind_it)
         ∙ (opened_back n head

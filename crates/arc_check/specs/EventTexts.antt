@@ -1,6 +1,6 @@
 -- Which texts hold a history, and which line of another text is refused, with the least number of a fault of it. Lines are counted
--- from the line `history 1`, which is line 1.
-use Rattle.std.specs.Prelude.{ℕ, ◌+◌, ◌-◌, Bool, true, false, not, List, [], ◌∷◌, drop, ◌==◌, if◌then◌else◌, Option, Some, None, Result, Ok, Err, slice_index, bytes_eq, codes}
+-- from the first line of the history text, which is line 1.
+use Rattle.std.specs.Prelude.{ℕ, ◌+◌, ◌-◌, Bool, true, false, not, List, [], ◌∷◌, drop, ◌==◌, if◌then◌else◌, Option, Some, None, is_some, Result, Ok, Err, slice_index, bytes_eq, codes}
 use Rattle.std.specs.List.{list_all}
 use Rattle.std.specs.Char.{is_ascii_digit}
 use Rattle.arc_text.specs.Words.{is_plain, number_in, words_of}
@@ -23,18 +23,35 @@ use Rattle.arc_check.specs.EventForms.{event_line}
 
 -- ---- where the text begins
 
-abbrev pub is_start : List (List ℕ) → Bool
-is_start (first ∷ second ∷ []) = if bytes_eq first (codes "history") then bytes_eq second (codes "1") else false
-is_start words = false
+abbrev pub version_in : List ℕ → Option ℕ
+version_in w =
+    if bytes_eq w (codes "1") then Some 1 else
+    if bytes_eq w (codes "2") then Some 2 else None
 
--- the line's words are `history` and `1`
-unfoldable pub starts : List ℕ → Bool
-starts line = is_start (words_of line)
+abbrev pub version_said : List (List ℕ) → Option ℕ
+version_said (first ∷ second ∷ []) = if bytes_eq first (codes "history") then version_in second else None
+version_said words = None
 
--- the lines behind the first that begins a history text; what stands before it is passed over, whatever its bytes
-abbrev pub behind_start : List (List ℕ) → Option (List (List ℕ))
+-- the version of the history text that begins with this line, where its words are `history` and `1` or `2`
+unfoldable pub version_begun : List ℕ → Option ℕ
+version_begun line = version_said (words_of line)
+
+abbrev pub starts : List ℕ → Bool
+starts line = is_some (version_begun line)
+
+-- the version of a history text, and the lines behind its first
+pub record HistoryStart : Type 0 where
+  pub version : ℕ
+  pub lines : List (List ℕ)
+
+abbrev pub started_by : Option ℕ → List (List ℕ) → Option HistoryStart → Option HistoryStart
+started_by (Some version) lines later = Some (record { version = version; lines = lines })
+started_by None lines later = later
+
+-- the first line that begins a history text; what stands before it is passed over, whatever its bytes
+abbrev pub behind_start : List (List ℕ) → Option HistoryStart
 behind_start [] = None
-behind_start (line ∷ lines) = if starts line then Some lines else behind_start lines
+behind_start (line ∷ lines) = started_by (version_begun line) lines (behind_start lines)
 
 -- ---- behind the heading: `threads N`, and then `events`
 
@@ -148,10 +165,10 @@ abbrev pub behind_heading : List (List ℕ) → Result HeadEnd Refusal → Resul
 behind_heading lines (Ok e) = opened_from e.line None (drop (e.line - 2) lines) (told_behind e.head)
 behind_heading lines (Err refusal) = Err refusal
 
--- the lines behind `history 1`; the caps are always said
-abbrev pub from_start : Option (List (List ℕ)) → Result HistoryText Refusal
+-- the lines behind the first; the caps are always said
+abbrev pub from_start : Option HistoryStart → Result HistoryText Refusal
 from_start None = refused 1 why.FirstWord
-from_start (Some lines) = behind_heading lines (head_from true 2 2 (nothing behind.Version) lines)
+from_start (Some s) = behind_heading s.lines (head_from true 2 2 (nothing s.version behind.Version) s.lines)
 
 -- the history that the text holds, or the line that is refused
 abbrev pub history_of : List ℕ → Result HistoryText Refusal

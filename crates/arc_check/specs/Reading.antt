@@ -15,7 +15,7 @@ use Rattle.arc_check.specs.declared.text.Begun.{Begun}
 use Rattle.arc_check.specs.declared.text.Events.{Events}
 use Rattle.arc_check.specs.declared.text.Opened.{Opened}
 use Rattle.arc_check.specs.Scopes.{Naming}
-use Rattle.arc_check.specs.EventTexts.{HistoryText, opened_from, events_from, with_event, with_shape}
+use Rattle.arc_check.specs.EventTexts.{HistoryStart, HistoryText, opened_from, events_from, with_event, with_shape}
 
 -- the fault of a text whose line with this number has this one
 abbrev pub at_line : ℕ → LineFault → CheckFault
@@ -33,10 +33,10 @@ abbrev pub Refuses : {X : Type 0} → CheckFault → Result X Refusal → Type 0
 Refuses check.Memory said = Unit {0}
 Refuses (check.Refused line why) said = said ≡ Err (record { line = line; why = why })
 
--- where a history text begins, and what stands behind its first line
-abbrev pub BeginsAt : List ℕ → Option (List (List ℕ)) → Option Started → Type 0
+-- where a history text begins, its version, and what stands behind its first line
+abbrev pub BeginsAt : List ℕ → Option HistoryStart → Option Started → Type 0
 BeginsAt text behind None = behind ≡ None
-BeginsAt text behind (Some s) = (behind ≡ Some (lines_of (drop s.at s.text.now))) × (1 ≤ s.at) × (s.at ≤ length s.text.now) × (length s.text.now ≤ length text)
+BeginsAt text behind (Some s) = (behind ≡ Some (record { version = s.version; lines = lines_of (drop s.at s.text.now) })) × (1 ≤ s.at) × (s.at ≤ length s.text.now) × (length s.text.now ≤ length text)
 
 -- the lines were read up to `events`, whatever is to be read behind it
 abbrev pub Begins : ℕ → Option ℕ → List ℕ → List ℕ → Result Begun CheckFault → Type 0

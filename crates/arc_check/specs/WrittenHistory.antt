@@ -74,12 +74,12 @@ events_lines classes globals events = map (event_words classes globals) events +
 abbrev pub later_lines : List ClassDecl → List VarDecl → ℕ → List EventLine → List (List (List ℕ))
 later_lines classes globals threads events = numbers_line (codes "threads") (threads ∷ []) ∷ (codes "events" ∷ []) ∷ events_lines classes globals events
 
-abbrev pub history_lines : HeapShape → List ClassDecl → List VarDecl → ℕ → List EventLine → List (List (List ℕ))
-history_lines shape classes globals threads events =
-    (codes "history" ∷ codes "1" ∷ []) ∷ (heading_lines shape classes globals ++ later_lines classes globals threads events)
+abbrev pub history_lines : ℕ → HeapShape → List ClassDecl → List VarDecl → ℕ → List EventLine → List (List (List ℕ))
+history_lines version shape classes globals threads events =
+    numbers_line (codes "history") (version ∷ []) ∷ (heading_lines shape classes globals ++ later_lines classes globals threads events)
 
-abbrev pub written_history : HeapShape → List ClassDecl → List VarDecl → ℕ → List EventLine → List ℕ
-written_history shape classes globals threads events = text_of (history_lines shape classes globals threads events)
+abbrev pub written_history : ℕ → HeapShape → List ClassDecl → List VarDecl → ℕ → List EventLine → List ℕ
+written_history version shape classes globals threads events = text_of (history_lines version shape classes globals threads events)
 
 -- the events with the numbers of their lines, from this one on
 abbrev pub numbered : ℕ → List EventLine → List EventLine

@@ -1,7 +1,9 @@
+//! Where and why a history text is refused.
+
 use arc_script::Reason;
 use std::alloc::{AllocError, AllocFailed};
 
-/// Why a text could not be judged: its first line with a fault, counted from the line `history 1`, and the least number of a fault
+/// Why a text could not be judged: its first line with a fault, counted from the first line of the history text, and the least number of a fault
 /// that this line has, or no memory.
 #[derive(Clone, Copy, Debug, PartialEq, Eq)]
 pub enum CheckFault {

@@ -1,3 +1,5 @@
+//! The judge of a history text: it reads event after event and has the heap judge each.
+
 ghost use Rattle.std.specs.Prelude.{◌≡◌, ◌≤◌, ◌<◌, ℕ, length};
 ghost use Rattle.arc_model.specs.History.{History};
 ghost use Rattle.arc_heap_judge.specs.Stands.{StandsFor, IsInRange, thread_count};
@@ -12,7 +14,7 @@ use arc_model::{Event, Illegal, Memory};
 use std::alloc::Global;
 
 /// What is to be said of a history: its events are legal, so many, or the event on a line isn't legal, and why is the first of its
-/// needs that fails. Lines are counted from the line `history 1`.
+/// needs that fails. Lines are counted from the first line of the history text.
 #[derive(Clone, Copy, Debug, PartialEq, Eq)]
 pub enum Verdict {
     Legal { events: u32 },

@@ -1,7 +1,9 @@
+//! A line of an event: its number and the words behind it.
+
 ghost use Rattle.std.specs.Prelude.{◌≡◌, IfOk, map, slice_index};
 ghost use Rattle.std.specs.Char.{is_ascii_digit};
 ghost use Rattle.arc_check.specs.EventForms.{event_form, event_line};
-ghost use Rattle.arc_check.specs.EventTexts.{is_start, starts, threads_line, events_line, opening_form, opening_words, opening_line, done_line, told_form, told_words, told_line};
+ghost use Rattle.arc_check.specs.EventTexts.{version_in, version_said, version_begun, threads_line, events_line, opening_form, opening_words, opening_line, done_line, told_form, told_words, told_line};
 ghost use Rattle.arc_check.specs.Reading.{Gives};
 
 use crate::act::{act_of, fits};
@@ -14,7 +16,7 @@ use arc_script::Reason;
 use arc_text::{are_plain, is_comment, number_in, words_of};
 use std::alloc::{AllocError, Global};
 
-/// An event of a history text: the number of its line, counted from the line `history 1`, the number of its step, which nothing
+/// An event of a history text: the number of its line, counted from the text's first line, the number of its step, which nothing
 /// judges, and the event.
 #[derive(Clone, Copy, Debug, PartialEq, Eq)]
 pub struct EventLine {
@@ -45,22 +47,40 @@ pub enum Told {
     Done,
 }
 
-fn is_start(words: &[&[u8]]) -> bool
-    ensures { result ≡ is_start (map (λ w. w.now) words.now) }
+fn version_in(word: &[u8]) -> Option<u32>
+    ensures { result ≡ version_in word.now }
 {
-    match words {
-        [first, second] => *first == b"history".as_slice() && *second == b"1".as_slice(),
-        _ => false,
+    if word == b"1".as_slice() {
+        Some(1)
+    } else if word == b"2".as_slice() {
+        Some(2)
+    } else {
+        None
     }
 }
 
-/// Whether a history text begins with this line.
-#[tactic(auto, unfolding(crate::specs::EventTexts::starts))]
-pub fn starts(alloc: Global, line: &[u8]) -> Result<bool, AllocError>
-    ensures { IfOk result (λ b. b ≡ starts line.now) }
+fn version_said(words: &[&[u8]]) -> Option<u32>
+    ensures { result ≡ version_said (map (λ w. w.now) words.now) }
+{
+    match words {
+        [first, second] => {
+            if *first == b"history".as_slice() {
+                version_in(second)
+            } else {
+                None
+            }
+        }
+        _ => None,
+    }
+}
+
+/// The version of the history text that begins with this line.
+#[tactic(auto, unfolding(crate::specs::EventTexts::version_begun))]
+pub fn version_begun(alloc: Global, line: &[u8]) -> Result<Option<u32>, AllocError>
+    ensures { IfOk result (λ v. v ≡ version_begun line.now) }
 {
     let words = words_of(alloc, line)?;
-    Ok(is_start(&words))
+    Ok(version_said(&words))
 }
 
 fn threads_line(words: &[&[u8]]) -> Result<Opening, Reason>

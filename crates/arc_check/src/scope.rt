@@ -1,3 +1,5 @@
+//! What the words of an event may name: threads, classes, globals.
+
 use crate::names::{class_place, global_place};
 use arc_script::{ClassDecl, VarDecl};
 use arc_text::number_in;

@@ -1,3 +1,5 @@
+//! The lines of a history text, from its heading to its end.
+
 ghost use Rattle.std.specs.Prelude.{◌≡◌, ◌+◌, ◌*◌, ◌<◌, ◌≤◌, ◌^◌, None, length, IfOk, IfSome, OnSome};
 ghost use Rattle.arc_text.specs.Lines.{lines_of};
 ghost use Rattle.arc_check.specs.EventTexts.{behind_start, history_of};
@@ -5,7 +7,7 @@ ghost use Rattle.arc_check.specs.WrittenHistory.{EventFits};
 ghost use Rattle.arc_check.specs.Reading.{BeginsAt, Begins, left, NextIs, IsNamedBy, Opens};
 
 use crate::fault::CheckFault;
-use crate::line::{EventLine, Opening, Told, opening_line, starts, told_line};
+use crate::line::{EventLine, Opening, Told, opening_line, told_line, version_begun};
 use crate::scope::Scope;
 use arc_model::Shape;
 use arc_script::{Heading, ReadFault, Reason};
@@ -13,11 +15,12 @@ use arc_script_reader::read_heading;
 use arc_text::Lines;
 use std::alloc::{AllocError, Global};
 
-/// Where a history text begins: the text from its first line on, and the byte behind that line.
+/// Where a history text begins: the text from its first line on, the byte behind that line, and its version.
 #[derive(Clone, Copy, Debug)]
 pub struct Started<'a> {
     pub text: &'a [u8],
     pub at: usize,
+    pub version: u32,
 }
 
 /// The number of threads, and the number of the line behind `events`.
@@ -54,9 +57,9 @@ fn behind_start<'a>(alloc: Global, text: &'a [u8]) -> Result<Option<Started<'a>>
         let Some(line) = lines.next_line() else {
             return Ok(None);
         };
-        if starts(alloc, line)? {
+        if let Some(version) = version_begun(alloc, line)? {
             let at = text.len() - lines.rest().len();
-            return Ok(Some(Started { text, at }));
+            return Ok(Some(Started { text, at, version }));
         }
     }
 }
@@ -147,7 +150,7 @@ pub fn open_history<'a>(alloc: Global, text: &'a [u8]) -> Result<Opened<'a>, Che
             why: Reason::FirstWord.number(),
         });
     };
-    let heading = match read_heading(alloc, started.text, started.at, 2, 1, true) {
+    let heading = match read_heading(alloc, started.text, started.at, 2, started.version, true) {
         Ok(heading) => heading,
         Err(ReadFault::Refused { line, why }) => return Err(CheckFault::Refused { line, why }),
         Err(ReadFault::Memory) => return Err(CheckFault::Memory),

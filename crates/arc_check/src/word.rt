@@ -1,3 +1,5 @@
+//! The words of an event: hands, cells, outcomes.
+
 ghost use Rattle.std.specs.Prelude.{◌≡◌};
 ghost use Rattle.arc_check.specs.EventWords.{event_word_of};
 

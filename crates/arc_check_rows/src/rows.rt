@@ -45,7 +45,22 @@ pub static FAULTS: &[(&[u8], u32)] = &[
 /// Texts of which a line, of this number, is none that may stand there.
 pub static TEXTS: &[(&[u8], u32)] = &[
     (b"", 1),
-    (b"history 2\n", 1),
+    (b"history 3\n", 1),
+    (b"history 02\n", 1),
+    (b"history 1 2\n", 1),
+    (b"history 2\n", 2),
+    (
+        b"history 1\nslots 1\nentries 1\ncaps 1 2 3\nimmortal A\nthreads 0\nevents\ndone\n",
+        5,
+    ),
+    (
+        b"history 2\nslots 1\nentries 1\ncaps 1 2 3\nimmortal A\nglobal g strong A\nimmortal B\nthreads 0\nevents\ndone\n",
+        7,
+    ),
+    (
+        b"history 2\nslots 1\nentries 1\ncaps 1 2 3\nthreads 0\nifnil a\nevents\ndone\n",
+        6,
+    ),
     (b"history 1", 2),
     (b"report 1\n\xff\n history\t1 \n", 2),
     (b"history 1\nslots 1\nentries 1\nthreads 1\n", 4),
@@ -60,6 +75,22 @@ pub static TEXTS: &[(&[u8], u32)] = &[
     ),
 ];
 
+/// Texts of the second version of which a line, of this number, declares a weak reference to an immortal class.
+pub static WEAK_IMMORTAL: &[(&[u8], u32)] = &[
+    (
+        b"history 2\nslots 1\nentries 1\ncaps 1 2 3\nimmortal A\nclass B f:weak:A\nthreads 0\nevents\ndone\n",
+        6,
+    ),
+    (
+        b"history 2\nslots 1\nentries 1\ncaps 1 2 3\nclass B f:weak:A\nimmortal A\nthreads 0\nevents\ndone\n",
+        5,
+    ),
+    (
+        b"history 2\nslots 1\nentries 1\ncaps 1 2 3\nimmortal A\nglobal g weak A\nthreads 0\nevents\ndone\n",
+        6,
+    ),
+];
+
 /// Behind another text: the ninth line has an event, of a reference that the thread has not.
 pub const BEHIND_A_TEXT: &[u8] =
     b"end\nhistory 1\nslots 1\n\n#\nentries 1\ncaps 1 2 3\nthreads 1\nevents\n7 0 copy 0 1\ndone\n";
@@ -67,6 +98,10 @@ pub const BEHIND_A_TEXT: &[u8] =
 /// Two slots, two entries, a list of two at most, a class with a strong and a weak field, one without, and two globals.
 pub const HEADING: &[u8] =
     b"history 1\nslots 2\nentries 2\ncaps 0 1 2\nclass A f:strong:A g:weak:A\nclass B\nglobal s strong A\nglobal w weak A\nthreads 2\nevents\n";
+
+/// One slot, one entry, a list of one at most, and an immortal class.
+pub const IMMORTAL: &[u8] =
+    b"history 2\nslots 1\nentries 1\ncaps 0 1 1\nimmortal A\nthreads 1\nevents\n";
 
 /// Events behind that heading, of which the last isn't legal, for this reason: one for each need of each event.
 pub static NEEDS: &[(&[u8], Illegal)] = &[
@@ -257,6 +292,24 @@ pub static NEEDS: &[(&[u8], Illegal)] = &[
 
 /// Headings and events behind them, all legal, and how many there are.
 pub static HISTORIES: &[(&[u8], &[u8], u32)] = &[
+    // a class is immortal, behind a report
+    (
+        b"1 new Root#1.1\n2 new Node#1.2\n3 ok\n4 full\n6 ok\nend\nimmortal Root#1.1\nleak Node#1.2 live 0000000000000002\nobjects 2 deinits 0 leaks 1\nhistory 2\nslots 2\nentries 1\ncaps 1073741823 2147483647 4294967295\nimmortal Root kid:strong:Node\nclass Node\nthreads 1\nevents\n",
+        b"2 1 new 1 Root 0\n6 1 new 2 Node 1\n10 1 swap 0.0 2 nil\n11 1 full\n12 1 drop 1 more\n",
+        5,
+    ),
+    // no count of an immortal object is too great, and it lives on
+    (
+        IMMORTAL,
+        b"1 1 new 1 A 0\n2 1 copy 1 2\n3 1 unown 1 3\n4 1 drop 1 more\n5 1 drop 2 more\n6 1 load 3 4\n7 1 drop 4 more\n8 1 drop 3 more\n9 1 full\n",
+        9,
+    ),
+    // the second version, with a class that isn't immortal alone
+    (
+        b"history 2\nslots 1\nentries 1\ncaps 0 1 1\nclass A\nthreads 1\nevents\n",
+        b"1 1 new 1 A 0\n2 1 drop 1 last\n3 1 finish 0 last\n4 1 vacate 0\n",
+        4,
+    ),
     // a strong count moves to an entry at its cap
     (
         b"history 1\nslots 1\nentries 1\ncaps 1 10 10\nclass Node\nthreads 1\nevents\n",
@@ -309,6 +362,41 @@ pub static HISTORIES: &[(&[u8], &[u8], u32)] = &[
 
 /// Headings and events behind them, the line of the first that isn't legal, and why.
 pub static FIRST_ILLEGAL: &[(&[u8], &[u8], u32, Illegal)] = &[
+    // the last release of an immortal object
+    (
+        IMMORTAL,
+        b"1 1 new 1 A 0\n2 1 drop 1 last\n",
+        9,
+        Illegal::WrongAnswer,
+    ),
+    // an immortal object whose count is too great
+    (
+        IMMORTAL,
+        b"1 1 new 1 A 0\n2 1 countfull strong 1\n",
+        9,
+        Illegal::WrongAnswer,
+    ),
+    // an immortal object that gains an entry
+    (
+        IMMORTAL,
+        b"1 1 new 1 A 0\n2 1 claim 0\n3 1 side 0 0 strong\n",
+        10,
+        Illegal::NoSuchObject,
+    ),
+    // a weak reference to an immortal object
+    (
+        IMMORTAL,
+        b"1 1 new 1 A 0\n2 1 weak 1 2\n",
+        9,
+        Illegal::NoSuchObject,
+    ),
+    // an immortal object that isn't live
+    (
+        IMMORTAL,
+        b"1 1 new 1 A 0\n2 1 unown 1 2\n3 1 drop 1 more\n4 1 load 2 dead\n",
+        11,
+        Illegal::WrongAnswer,
+    ),
     // a weak load that gives a reference after the last release
     (
         b"history 1\nslots 1\nentries 1\ncaps 1073741823 2147483647 4294967295\nclass Node\nthreads 1\nevents\n",

@@ -1,5 +1,8 @@
+//! Tests of the judge: a text for each need of each event, and worked histories.
+
 use crate::rows::{
-    BEHIND_A_TEXT, FAULTS, FIRST_ILLEGAL, HEADING, HISTORIES, NEEDS, SMALL, TEXTS, WEAK_LOAD,
+    BEHIND_A_TEXT, FAULTS, FIRST_ILLEGAL, HEADING, HISTORIES, NEEDS, SMALL, TEXTS, WEAK_IMMORTAL,
+    WEAK_LOAD,
 };
 use arc_check::{CheckFault, Verdict, check};
 use arc_model::Illegal;
@@ -83,6 +86,18 @@ fn lines_are_refused_by_their_least_fault(rt: HostRuntime) -> Result<(), Fail> {
         let want = CheckFault::Refused {
             line: *line,
             why: 2,
+        };
+        assert_eq!(rt; judged(rt.alloc(), text, b"")?, Err(want));
+    }
+    Ok(())
+}
+
+#[test]
+fn an_immortal_class_has_no_weak_references(rt: HostRuntime) -> Result<(), Fail> {
+    for (text, line) in WEAK_IMMORTAL {
+        let want = CheckFault::Refused {
+            line: *line,
+            why: 13,
         };
         assert_eq!(rt; judged(rt.alloc(), text, b"")?, Err(want));
     }

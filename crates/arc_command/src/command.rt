@@ -1,3 +1,5 @@
+//! What the words of the command line ask for.
+
 ghost use Rattle.std.specs.Prelude.{◌≡◌, [], IfSome};
 ghost use Rattle.arc_command.specs.Commands.{command_of, one_word, script_asked, CountFits};
 ghost use Rattle.arc_command.specs.Lines.{as_read};

@@ -1,3 +1,5 @@
+//! Tests of command lines, with hosts that have no word or too many.
+
 use crate::{Command, HostLine, command_of, words_of};
 use std::env::FillError;
 use std::rt::Env;

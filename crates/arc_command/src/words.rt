@@ -1,3 +1,5 @@
+//! The words of the command line, as far as a command can need them.
+
 ghost use Rattle.std.specs.Prelude.{◌≡◌, ℕ, List, Option, None, drop, length, IfSome};
 ghost use Rattle.arc_command.specs.Commands.{command_of};
 ghost use Rattle.arc_command.specs.Lines.{Finds, word_read};

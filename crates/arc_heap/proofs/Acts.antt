@@ -51,17 +51,17 @@ came-one p q place hands within = elim (cases_eq p q) [
 ]
 
 -- the tables keep their rows
-pub reach_more-length : (wide p : ℕ) (k : Kind) (slot : Option ℕ) (reach : List (List ℕ)) → length (reach_more wide p k slot reach) ≡ length reach
-reach_more-length wide p Strong (Some s) reach = length-at_place p (at_place s (raised wide)) reach
-reach_more-length wide p Strong None reach = refl
-reach_more-length wide p Unowned slot reach = refl
-reach_more-length wide p Weak slot reach = refl
+pub reach_more-length : (p : ℕ) (k : Kind) (slot : Option ℕ) (reach : List (List ℕ)) → length (reach_more p k slot reach) ≡ length reach
+reach_more-length p Strong (Some s) reach = length-at_place p (at_place s (raised most)) reach
+reach_more-length p Strong None reach = refl
+reach_more-length p Unowned slot reach = refl
+reach_more-length p Weak slot reach = refl
 
-pub reach_more-rows : (wide p : ℕ) (k : Kind) (slot : Option ℕ) (reach : List (List ℕ)) (q : ℕ) → length (row_of q (reach_more wide p k slot reach)) ≡ length (row_of q reach)
-reach_more-rows wide p Strong (Some s) reach q = row-length p q (at_place s (raised wide)) reach (λ row. length-at_place s (raised wide) row)
-reach_more-rows wide p Strong None reach q = refl
-reach_more-rows wide p Unowned slot reach q = refl
-reach_more-rows wide p Weak slot reach q = refl
+pub reach_more-rows : (p : ℕ) (k : Kind) (slot : Option ℕ) (reach : List (List ℕ)) (q : ℕ) → length (row_of q (reach_more p k slot reach)) ≡ length (row_of q reach)
+reach_more-rows p Strong (Some s) reach q = row-length p q (at_place s (raised most)) reach (λ row. length-at_place s (raised most) row)
+reach_more-rows p Strong None reach q = refl
+reach_more-rows p Unowned slot reach q = refl
+reach_more-rows p Weak slot reach q = refl
 
 pub reach_less-length : (p : ℕ) (k : Kind) (slot : Option ℕ) (reach : List (List ℕ)) → length (reach_less p k slot reach) ≡ length reach
 reach_less-length p Strong (Some s) reach = length-at_place p (at_place s (λ n. n - 1)) reach
@@ -194,10 +194,10 @@ slot-range ix h st i o here s slot = go (owner_at s ix.slots) refl (sym (st.tell
     go (Some x) e h = let l = owner-within ix.slots s x e in let c = st.slots.count in omega arith
 
 -- a reference joins a list
-joined-count : (k : Kind) (y : Holder) (wide : ℕ) (c : Counted) (o : Object) → count_in k c < wide → IsCounted wide c o → IsCounted wide (with_one_more wide k c) (with_list k (with_last y) o)
-joined-count Strong y wide c o room l = record { id = l.id; class = l.class; slot = l.slot; entry = l.entry; owed = l.owed; strong = raised-up wide c.strong room ∙ ap (λ n. n + 1) l.strong ∙ sym (length-append o.strong (y ∷ [])); unowned = l.unowned; weak = l.weak; within = rw (raised-up wide c.strong room) (omega arith) }
-joined-count Unowned y wide c o room l = record { id = l.id; class = l.class; slot = l.slot; entry = l.entry; owed = l.owed; strong = l.strong; unowned = raised-up wide c.unowned room ∙ ap (λ n. n + 1) l.unowned ∙ sym (length-append o.unowned (y ∷ [])); weak = l.weak; within = l.within }
-joined-count Weak y wide c o room l = record { id = l.id; class = l.class; slot = l.slot; entry = l.entry; owed = l.owed; strong = l.strong; unowned = l.unowned; weak = raised-up wide c.weak room ∙ ap (λ n. n + 1) l.weak ∙ sym (length-append o.weak (y ∷ [])); within = l.within }
+joined-count : (k : Kind) (y : Holder) (c : Counted) (o : Object) → count_in k c < most → IsCounted c o → IsCounted (with_one_more k c) (with_list k (with_last y) o)
+joined-count Strong y c o room l = record { id = l.id; class = l.class; slot = l.slot; entry = l.entry; owed = l.owed; strong = raised-up most c.strong room ∙ ap (λ n. n + 1) l.strong ∙ sym (length-append o.strong (y ∷ [])); unowned = l.unowned; weak = l.weak; within = rw (raised-up most c.strong room) (omega arith) }
+joined-count Unowned y c o room l = record { id = l.id; class = l.class; slot = l.slot; entry = l.entry; owed = l.owed; strong = l.strong; unowned = raised-up most c.unowned room ∙ ap (λ n. n + 1) l.unowned ∙ sym (length-append o.unowned (y ∷ [])); weak = l.weak; within = l.within }
+joined-count Weak y c o room l = record { id = l.id; class = l.class; slot = l.slot; entry = l.entry; owed = l.owed; strong = l.strong; unowned = l.unowned; weak = raised-up most c.weak room ∙ ap (λ n. n + 1) l.weak ∙ sym (length-append o.weak (y ∷ [])); within = l.within }
 
 pub list-id : (k : Kind) (f : List Holder → List Holder) (o : Object) → (with_list k f o).id ≡ o.id
 list-id Strong f o = refl
@@ -219,25 +219,25 @@ joined-hands Strong p n r o = count-push r (Hand p n) o.strong
 joined-hands Unowned p n r o = let e : hands_of r o.strong ≡ hands_of r o.strong + 0 = omega arith in e
 joined-hands Weak p n r o = let e : hands_of r o.strong ≡ hands_of r o.strong + 0 = omega arith in e
 
-strong-room : (k : Kind) (p wide : ℕ) (c : Counted) (o : Object) → IsCounted wide c o → count_in k c < wide → same_kind k Strong ≡ true → hands_of p o.strong < most wide
-strong-room Strong p wide c o l room e = let a = hands-length p o.strong in let b = l.strong in omega arith
-strong-room Unowned p wide c o l room e = true≢false (sym e)
-strong-room Weak p wide c o l room e = true≢false (sym e)
+strong-room : (k : Kind) (p : ℕ) (c : Counted) (o : Object) → IsCounted c o → count_in k c < most → same_kind k Strong ≡ true → hands_of p o.strong < most
+strong-room Strong p c o l room e = let a = hands-length p o.strong in let b = l.strong in omega arith
+strong-room Unowned p c o l room e = true≢false (sym e)
+strong-room Weak p c o l room e = true≢false (sym e)
 
-pub steps_join : (ix : Index) (h : History) (p n : ℕ) (act : Act) (k : Kind) (z : Holder) (w : Held) (o : Object) → p < length ix.marks → StandsFor ix h → IsLegal ix.shape (record { thread = p; act = act } ∷ h) → LikeHeld z ix (heap_after h) w o → count_in k w.counted < ix.shape.caps.wide →
+pub steps_join : (ix : Index) (h : History) (p n : ℕ) (act : Act) (k : Kind) (z : Holder) (w : Held) (o : Object) → p < length ix.marks → StandsFor ix h → IsLegal ix.shape (record { thread = p; act = act } ∷ h) → LikeHeld z ix (heap_after h) w o → count_in k w.counted < most →
     brings_hand act ≡ Some n → brings act ≡ true → ((m : ℕ) → ends_hand m act ≡ false) → n ≡ next_of ix p → ((x : Holder) → cell_next p act x (heap_after h) ≡ spot x (heap_after h)) →
     spot_of (Some (record { object = w.place.object; kind = k })) ≡ brought (heap_after h) p act →
     (effect p act (heap_after h)).objects ≡ placed w.place.object (with_list k (with_last (Hand p n)) o) (heap_after h).objects → (effect p act (heap_after h)).claims ≡ (heap_after h).claims →
     Steps ix (joins p k (Some w) ix) p act (heap_after h) (effect p act (heap_after h))
 steps_join ix h p n act k z w o within st legal like room some comes ends next still from objs claims =
-    build ix h p act st (pushed p (Some (record { object = w.place.object; kind = k })) ix.hands) ix.cells (reach_more (most ix.shape.caps.wide) p k w.counted.slot ix.reach) (placed w.place.object (with_one_more ix.shape.caps.wide k w.counted) ix.objects) ix.slots ix.entries (effect p act (heap_after h))
-    (tells-lists ix (heap_after h) st.tells w.place.object w.counted (with_one_more ix.shape.caps.wide k w.counted) o q like.like (joined-count k (Hand p n) ix.shape.caps.wide w.counted o room like.like.alike)
+    build ix h p act st (pushed p (Some (record { object = w.place.object; kind = k })) ix.hands) ix.cells (reach_more p k w.counted.slot ix.reach) (placed w.place.object (with_one_more k w.counted) ix.objects) ix.slots ix.entries (effect p act (heap_after h))
+    (tells-lists ix (heap_after h) st.tells w.place.object w.counted (with_one_more k w.counted) o q like.like (joined-count k (Hand p n) w.counted o room like.like.alike)
     (list-id k (with_last (Hand p n)) o) (list-slot k (with_last (Hand p n)) o) (list-entry k (with_last (Hand p n)) o)
-    (pushed p (Some (record { object = w.place.object; kind = k })) ix.hands) ix.cells (reach_more (most ix.shape.caps.wide) p k w.counted.slot ix.reach) (effect p act (heap_after h)) objs claims reach.0 reach.1)
+    (pushed p (Some (record { object = w.place.object; kind = k })) ix.hands) ix.cells (reach_more p k w.counted.slot ix.reach) (effect p act (heap_after h)) objs claims reach.0 reach.1)
     (hands-push ix p act (heap_after h) n (Some (record { object = w.place.object; kind = k })) hands some ends next from)
     (cells-kept ix h p act st legal still (λ s. ap (λ os. id_of (Rattle.std.specs.Prelude.find (in_the_slot s) os)) objs ∙ ids-placed s (heap_after h).objects w.place.object o q like.like.in_heap (list-id k (with_last (Hand p n)) o) (list-slot k (with_last (Hand p n)) o)))
     (length-at_place p (λ row. row ++ Some (record { object = w.place.object; kind = k }) ∷ []) ix.hands)
-    (reach_more-length (most ix.shape.caps.wide) p k w.counted.slot ix.reach) (λ r. reach_more-rows (most ix.shape.caps.wide) p k w.counted.slot ix.reach r) refl (λ s. refl)
+    (reach_more-length p k w.counted.slot ix.reach) (λ r. reach_more-rows p k w.counted.slot ix.reach r) refl (λ s. refl)
     (λ r l. came-one p r (Some (record { object = w.place.object; kind = k })) ix.hands hands ∙ ap (λ b. length (row_of r ix.hands) + cond (eqb p r && b) 1 0) (sym comes))
     (no-steps ix.slots) (no-steps ix.entries)
   where
@@ -247,5 +247,5 @@ steps_join ix h p n act k z w o within st legal like room some comes ends next s
     hands : p < length ix.hands
     hands = let e = st.sized.hands in omega arith
 
-    reach : Reaches ix ix.slots (placed w.place.object (with_list k (with_last (Hand p n)) o) (heap_after h).objects) (reach_more (most ix.shape.caps.wide) p k w.counted.slot ix.reach) × Idles ix ix.slots (reach_more (most ix.shape.caps.wide) p k w.counted.slot ix.reach)
-    reach = reach-more-ok ix (heap_after h) st.tells st.sized p k w.place.object w.counted o (with_list k (with_last (Hand p n)) o) like.like within (slot-range ix h st w.place.object o like.like.in_heap) (λ r. joined-hands k p n r o) (strong-room k p ix.shape.caps.wide w.counted o like.like.alike room)
+    reach : Reaches ix ix.slots (placed w.place.object (with_list k (with_last (Hand p n)) o) (heap_after h).objects) (reach_more p k w.counted.slot ix.reach) × Idles ix ix.slots (reach_more p k w.counted.slot ix.reach)
+    reach = reach-more-ok ix (heap_after h) st.tells st.sized p k w.place.object w.counted o (with_list k (with_last (Hand p n)) o) like.like within (slot-range ix h st w.place.object o like.like.in_heap) (λ r. joined-hands k p n r o) (strong-room k p w.counted o like.like.alike room)

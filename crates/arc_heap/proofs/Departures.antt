@@ -89,13 +89,13 @@ released-claims ix heap t p i e o here was u = claimants-end u p e heap.claims �
     now = taken-here ix.entries e (Claim p) (owner-within ix.entries e (ObjectOwner i) owner)
 
 -- a list without a holder
-left-count : (p : ℕ) (last : Bool) (k : Kind) (y : Holder) (wide : ℕ) (c : Counted) (o : Object) → is_in y (list_of k o) ≡ true → IsCounted wide c o → IsCounted wide (with_one_less p k last c) (ended_if last p k (with_list k (without y) o))
-left-count p true Strong y wide c o inside l = record { id = l.id; class = l.class; slot = l.slot; entry = l.entry; owed = refl; strong = let n = length-without y o.strong inside in let m = l.strong in omega arith; unowned = l.unowned; weak = l.weak; within = let m = l.within in omega arith }
-left-count p false Strong y wide c o inside l = record { id = l.id; class = l.class; slot = l.slot; entry = l.entry; owed = l.owed; strong = let n = length-without y o.strong inside in let m = l.strong in omega arith; unowned = l.unowned; weak = l.weak; within = let m = l.within in omega arith }
-left-count p true Unowned y wide c o inside l = record { id = l.id; class = l.class; slot = l.slot; entry = l.entry; owed = refl; strong = l.strong; unowned = let n = length-without y o.unowned inside in let m = l.unowned in omega arith; weak = l.weak; within = l.within }
-left-count p false Unowned y wide c o inside l = record { id = l.id; class = l.class; slot = l.slot; entry = l.entry; owed = l.owed; strong = l.strong; unowned = let n = length-without y o.unowned inside in let m = l.unowned in omega arith; weak = l.weak; within = l.within }
-left-count p true Weak y wide c o inside l = record { id = l.id; class = l.class; slot = l.slot; entry = refl; owed = l.owed; strong = l.strong; unowned = l.unowned; weak = let n = length-without y o.weak inside in let m = l.weak in omega arith; within = l.within }
-left-count p false Weak y wide c o inside l = record { id = l.id; class = l.class; slot = l.slot; entry = l.entry; owed = l.owed; strong = l.strong; unowned = l.unowned; weak = let n = length-without y o.weak inside in let m = l.weak in omega arith; within = l.within }
+left-count : (p : ℕ) (last : Bool) (k : Kind) (y : Holder) (c : Counted) (o : Object) → is_in y (list_of k o) ≡ true → IsCounted c o → IsCounted (with_one_less p k last c) (ended_if last p k (with_list k (without y) o))
+left-count p true Strong y c o inside l = record { id = l.id; class = l.class; slot = l.slot; entry = l.entry; owed = refl; strong = let n = length-without y o.strong inside in let m = l.strong in omega arith; unowned = l.unowned; weak = l.weak; within = let m = l.within in omega arith }
+left-count p false Strong y c o inside l = record { id = l.id; class = l.class; slot = l.slot; entry = l.entry; owed = l.owed; strong = let n = length-without y o.strong inside in let m = l.strong in omega arith; unowned = l.unowned; weak = l.weak; within = let m = l.within in omega arith }
+left-count p true Unowned y c o inside l = record { id = l.id; class = l.class; slot = l.slot; entry = l.entry; owed = refl; strong = l.strong; unowned = let n = length-without y o.unowned inside in let m = l.unowned in omega arith; weak = l.weak; within = l.within }
+left-count p false Unowned y c o inside l = record { id = l.id; class = l.class; slot = l.slot; entry = l.entry; owed = l.owed; strong = l.strong; unowned = let n = length-without y o.unowned inside in let m = l.unowned in omega arith; weak = l.weak; within = l.within }
+left-count p true Weak y c o inside l = record { id = l.id; class = l.class; slot = l.slot; entry = refl; owed = l.owed; strong = l.strong; unowned = l.unowned; weak = let n = length-without y o.weak inside in let m = l.weak in omega arith; within = l.within }
+left-count p false Weak y c o inside l = record { id = l.id; class = l.class; slot = l.slot; entry = l.entry; owed = l.owed; strong = l.strong; unowned = l.unowned; weak = let n = length-without y o.weak inside in let m = l.weak in omega arith; within = l.within }
 
 ended-id : (last : Bool) (p : ℕ) (k : Kind) (o : Object) → (ended_if last p k o).id ≡ o.id
 ended-id true p Strong o = refl
@@ -176,7 +176,7 @@ pub steps_drop : (ix : Index) (h : History) (p n : ℕ) (last : Bool) (w : Held)
 steps_drop ix h p n last w o within st legal like =
     subst (λ (new : Index). Steps ix new p (acts.Drop n last) (heap_after h) (effect p (acts.Drop n last) (heap_after h))) (sym (index_is last w.place.kind w.counted.entry))
     (build ix h p (acts.Drop n last) st hands ix.cells reach objects ix.slots entries (effect p (acts.Drop n last) (heap_after h))
-    (tells-changed ix (heap_after h) st.tells i w.counted c o q like.like (left-count p last k z ix.shape.caps.wide w.counted o like.inside like.like.alike) id hands ix.cells reach ix.slots entries (effect p (acts.Drop n last) (heap_after h)) objs
+    (tells-changed ix (heap_after h) st.tells i w.counted c o q like.like (left-count p last k z w.counted o like.inside like.like.alike) id hands ix.cells reach ix.slots entries (effect p (acts.Drop n last) (heap_after h)) objs
     (λ s j. slot-kept (heap_after h).objects i o q like.like.in_heap slot s j ∙ st.tells.slots s j) entry.entries_ok (λ u. ap (claimants u) claims ∙ entry.claims_ok u) st.tells.unclaimed reached.0 reached.1)
     (hands-put ix p (acts.Drop n last) (heap_after h) n (let e = st.sized.hands in omega arith) refl (λ m. refl))
     (cells-kept ix h p (acts.Drop n last) st legal (λ x. refl) (λ s. ap (λ os. id_of (find (in_the_slot s) os)) objs ∙ ids-placed s (heap_after h).objects i o q like.like.in_heap id slot))
@@ -244,21 +244,21 @@ pub duty-of : (p : ℕ) (duty : Rattle.arc_model.specs.Heaps.Duty) (o : Object) 
 duty-of p duty o h = (and_parts (is_by p o.owed) (is_duty duty o.owed) h).1
 
 -- a deinit ends
-finished-count : (p : ℕ) (last : Bool) (wide : ℕ) (c : Counted) (o : Object) → is_in Strongs o.unowned ≡ true → IsCounted wide c o → IsCounted wide (without_strongs p last c) (finished p last o)
-finished-count p true wide c o inside l = record { id = l.id; class = l.class; slot = l.slot; entry = l.entry; owed = refl; strong = l.strong; unowned = let n = length-without Strongs o.unowned inside in let m = l.unowned in omega arith; weak = l.weak; within = l.within }
-finished-count p false wide c o inside l = record { id = l.id; class = l.class; slot = l.slot; entry = l.entry; owed = refl; strong = l.strong; unowned = let n = length-without Strongs o.unowned inside in let m = l.unowned in omega arith; weak = l.weak; within = l.within }
+finished-count : (p : ℕ) (last : Bool) (c : Counted) (o : Object) → is_in Strongs o.unowned ≡ true → IsCounted c o → IsCounted (without_strongs p last c) (finished p last o)
+finished-count p true c o inside l = record { id = l.id; class = l.class; slot = l.slot; entry = l.entry; owed = refl; strong = l.strong; unowned = let n = length-without Strongs o.unowned inside in let m = l.unowned in omega arith; weak = l.weak; within = l.within }
+finished-count p false c o inside l = record { id = l.id; class = l.class; slot = l.slot; entry = l.entry; owed = refl; strong = l.strong; unowned = let n = length-without Strongs o.unowned inside in let m = l.unowned in omega arith; weak = l.weak; within = l.within }
 
 finished-same : (p : ℕ) (last : Bool) (o : Object) → ((finished p last o).id ≡ o.id) × ((finished p last o).slot ≡ o.slot) × ((finished p last o).entry ≡ o.entry) × ((finished p last o).strong ≡ o.strong)
 finished-same p true o = (refl, refl, refl, refl)
 finished-same p false o = (refl, refl, refl, refl)
 
-pub whole-at : (ix : Index) (h : History) → StandsFor ix h → (i : ℕ) (o : Object) → slice_get (heap_after h).objects i ≡ Some o → IsWhole o
+pub whole-at : (ix : Index) (h : History) → StandsFor ix h → (i : ℕ) (o : Object) → slice_get (heap_after h).objects i ≡ Some o → IsWhole ix.shape o
 whole-at ix h st i o here = (well_formed ix.shape h st.legal).whole i o here
 
 pub steps_finish : (ix : Index) (h : History) (p s : ℕ) (last : Bool) → StandsFor ix h → IsLegal ix.shape (record { thread = p; act = acts.Finish s last } ∷ h) → (i : ℕ) (d : FoundAt ix (heap_after h) (in_the_slot s) i) → owes_to p Deinit d.object ≡ true → Steps ix (finishes p last (Some (record { object = i; counted = d.counted })) ix) p (acts.Finish s last) (heap_after h) (effect p (acts.Finish s last) (heap_after h))
 steps_finish ix h p s last st legal i d owes =
     build ix h p (acts.Finish s last) st ix.hands ix.cells ix.reach (placed i (without_strongs p last d.counted) ix.objects) ix.slots ix.entries (effect p (acts.Finish s last) (heap_after h))
-    (tells-changed ix (heap_after h) st.tells i d.counted (without_strongs p last d.counted) o q d.like (finished-count p last ix.shape.caps.wide d.counted o inside d.like.alike) same.0 ix.hands ix.cells ix.reach ix.slots ix.entries (effect p (acts.Finish s last) (heap_after h)) objs
+    (tells-changed ix (heap_after h) st.tells i d.counted (without_strongs p last d.counted) o q d.like (finished-count p last d.counted o inside d.like.alike) same.0 ix.hands ix.cells ix.reach ix.slots ix.entries (effect p (acts.Finish s last) (heap_after h)) objs
     (λ u j. slot-kept (heap_after h).objects i o q d.like.in_heap same.1 u j ∙ st.tells.slots u j) (λ e j. entry-kept (heap_after h).objects i o q d.like.in_heap same.2 e j ∙ st.tells.entries e j) st.tells.claims st.tells.unclaimed
     (reach-still ix (heap_after h) st.tells i o q d.like.in_heap (λ r. ap (hands_of r) same.3)) st.tells.idle)
     (hands-none ix p (acts.Finish s last) (heap_after h) refl (λ m. refl))
@@ -299,7 +299,7 @@ steps_side ix h p s e why st legal i d none mine =
     q : Object
     q = record d.object { entry = Some e }
 
-    l : IsCounted ix.shape.caps.wide d.counted d.object
+    l : IsCounted d.counted d.object
     l = d.like.alike
 
     is : changed e (ObjectOwner i) ix.entries ≡ taken e (ObjectOwner i) ix.entries
@@ -330,9 +330,9 @@ steps_side ix h p s e why st legal i d none mine =
     ]
 
 -- the weak reference on behalf of the unowned ones is taken off
-gone-count : (p : ℕ) (last : Bool) (wide : ℕ) (c : Counted) (o : Object) → is_in Unowneds o.weak ≡ true → IsCounted wide c o → IsCounted wide (without_unowneds last c) (gone p last o)
-gone-count p true wide c o inside l = record { id = l.id; class = l.class; slot = l.slot; entry = refl; owed = refl; strong = l.strong; unowned = l.unowned; weak = let n = length-without Unowneds o.weak inside in let m = l.weak in omega arith; within = l.within }
-gone-count p false wide c o inside l = record { id = l.id; class = l.class; slot = l.slot; entry = l.entry; owed = refl; strong = l.strong; unowned = l.unowned; weak = let n = length-without Unowneds o.weak inside in let m = l.weak in omega arith; within = l.within }
+gone-count : (p : ℕ) (last : Bool) (c : Counted) (o : Object) → is_in Unowneds o.weak ≡ true → IsCounted c o → IsCounted (without_unowneds last c) (gone p last o)
+gone-count p true c o inside l = record { id = l.id; class = l.class; slot = l.slot; entry = refl; owed = refl; strong = l.strong; unowned = l.unowned; weak = let n = length-without Unowneds o.weak inside in let m = l.weak in omega arith; within = l.within }
+gone-count p false c o inside l = record { id = l.id; class = l.class; slot = l.slot; entry = l.entry; owed = refl; strong = l.strong; unowned = l.unowned; weak = let n = length-without Unowneds o.weak inside in let m = l.weak in omega arith; within = l.within }
 
 gone-same : (p : ℕ) (last : Bool) (o : Object) → ((gone p last o).id ≡ o.id) × ((gone p last o).slot ≡ o.slot) × ((gone p last o).strong ≡ o.strong)
 gone-same p true o = (refl, refl, refl)
@@ -354,7 +354,7 @@ pub steps_gone : (ix : Index) (h : History) (p e : ℕ) (last : Bool) → Stands
 steps_gone ix h p e last st legal i d owes =
     subst (λ (new : Index). Steps ix new p (acts.Gone e last) (heap_after h) (effect p (acts.Gone e last) (heap_after h))) (sym (index_is last))
     (build ix h p (acts.Gone e last) st ix.hands ix.cells ix.reach (placed i (without_unowneds last d.counted) ix.objects) ix.slots (entries_gone last p e ix.entries) (effect p (acts.Gone e last) (heap_after h))
-    (tells-changed ix (heap_after h) st.tells i d.counted (without_unowneds last d.counted) d.object q d.like (gone-count p last ix.shape.caps.wide d.counted d.object inside d.like.alike) same.0 ix.hands ix.cells ix.reach ix.slots (entries_gone last p e ix.entries) (effect p (acts.Gone e last) (heap_after h)) (objs last)
+    (tells-changed ix (heap_after h) st.tells i d.counted (without_unowneds last d.counted) d.object q d.like (gone-count p last d.counted d.object inside d.like.alike) same.0 ix.hands ix.cells ix.reach ix.slots (entries_gone last p e ix.entries) (effect p (acts.Gone e last) (heap_after h)) (objs last)
     (λ u j. slot-kept (heap_after h).objects i d.object q d.like.in_heap same.1 u j ∙ st.tells.slots u j) entry.entries_ok (λ u. ap (claimants u) (claims last) ∙ entry.claims_ok u) st.tells.unclaimed
     (reach-still ix (heap_after h) st.tells i d.object q d.like.in_heap (λ r. ap (hands_of r) same.2)) st.tells.idle)
     (hands-none ix p (acts.Gone e last) (heap_after h) refl (λ m. refl))

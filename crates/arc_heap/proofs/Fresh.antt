@@ -4,8 +4,7 @@ use Rattle.std.specs.Prelude.{slice_get, slice_index_or, All}
 use Rattle.std.proofs.lemmas.Bool.{lt-leb}
 use Rattle.std.proofs.lemmas.Option.{slice_get_within, slice_get_cases}
 use Rattle.arc_model.specs.declared.event.CellName.TheVariants as cells
-use Rattle.arc_model.specs.declared.shape.RefShape.{RefShape}
-use Rattle.arc_model.specs.Shapes.{HeapShape}
+use Rattle.arc_model.specs.Shapes.{HeapShape, ObjectClass}
 use Rattle.arc_model.specs.Heaps.{Heap}
 use Rattle.arc_model.specs.Holders.{is_slot_taken, is_entry_taken}
 use Rattle.arc_model.specs.Ranges.{FieldsFit}
@@ -45,10 +44,14 @@ get_or-end [] i d h = refl
 get_or-end (x ∷ xs) zero d h = absurd (omega arith)
 get_or-end (x ∷ xs) (suc i) d h = get_or-end xs i d (omega arith)
 
-few-fields : (classes : List (List RefShape)) → All (λ (fields : List RefShape). length fields ≤ 8) classes → (class : ℕ) → length (slice_index_or classes class []) ≤ 8
+-- what stands for a class past the last one
+abbrev no_class : ObjectClass
+no_class = record { fields = []; immortal = false }
+
+few-fields : (classes : List ObjectClass) → All (λ (c : ObjectClass). length c.fields ≤ 8) classes → (class : ℕ) → length (slice_index_or classes class no_class).fields ≤ 8
 few-fields classes a class = elim (slice_get_cases classes class).1 [
-  | inl h ↦ a class [] h.1
-  | inr h ↦ let e : length (get_or classes class []) ≡ 0 = ap length (get_or-end classes class [] (omega (arith, h.0))) in omega arith
+  | inl h ↦ a class no_class h.1
+  | inr h ↦ let e : length (get_or classes class no_class).fields ≡ 0 = ap (λ (c : ObjectClass). length c.fields) (get_or-end classes class no_class (omega (arith, h.0))) in omega arith
 ]
 
 pub fresh : (shape : HeapShape) (threads : ℕ) (hands table : List (List (Option Place))) (reach : List (List ℕ)) (marks : List Mark) (slots entries : Freed) →

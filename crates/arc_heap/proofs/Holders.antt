@@ -61,5 +61,5 @@ length-renamed x y (z ∷ zs) = go (same_holder x z) (length-renamed x y zs)
     go true ih = refl
     go false ih = ap suc ih
 
-pub raised-up : (wide n : ℕ) → n < wide → raised wide n ≡ n + 1
-raised-up wide n h = ap (λ b. cond b (n + 1) n) (lt-ltb n wide h)
+pub raised-up : (greatest n : ℕ) → n < greatest → raised greatest n ≡ n + 1
+raised-up greatest n h = ap (λ b. cond b (n + 1) n) (lt-ltb n greatest h)

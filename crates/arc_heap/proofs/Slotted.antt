@@ -11,11 +11,10 @@ use Rattle.arc_model.specs.declared.event.ObjectId.{ObjectId}
 use Rattle.arc_model.specs.declared.shape.Kind.TheVariants.{Strong}
 use Rattle.arc_model.specs.Shapes.{HeapShape}
 use Rattle.arc_model.specs.Heaps.{Holder, Hand, Field, Unowneds, Deinit, Vacating, Object, Heap}
-use Rattle.arc_model.specs.Holders.{is_in, is_empty, is_live, without, in_slot as in_the_slot, has_entry, at_slot, is_number, is_duty, owes_to, made_by}
-use Rattle.arc_model.specs.Cells.{cell, id_of}
+use Rattle.arc_model.specs.Holders.{is_in, is_empty, without, in_slot as in_the_slot, has_entry, at_slot, is_number, is_duty, owes_to, made_by}
+use Rattle.arc_model.specs.Cells.{cell, id_of, strong_holders}
 use Rattle.arc_model.specs.Effects.{effect, owing_none, vacated, left_slot, made}
-use Rattle.arc_model.specs.Laws.{strong_in}
-use Rattle.arc_model.specs.Lookup.{spot}
+use Rattle.arc_model.specs.Lookup.{spot, list_in}
 use Rattle.arc_model.specs.WellFormed.{held, total, named_times, keeps_fields, HasField, IsWellFormed}
 use Rattle.arc_model.specs.History.{History, heap_after, next_hand, IsLegal}
 use Rattle.arc_model.proofs.CellSpots.{cells_after}
@@ -24,7 +23,7 @@ use Rattle.arc_model.proofs.Fields.{names-once, one-name}
 use Rattle.arc_model.proofs.Others.{spot-held}
 use Rattle.arc_model.proofs.Stages.{vacating-facts, duty-apart}
 use Rattle.arc_model.proofs.Tally.{tally-in, id-refl}
-use Rattle.arc_model.proofs.Basics.{empty-is}
+use Rattle.arc_model.proofs.Basics.{none-strong}
 use Rattle.arc_heap_index.specs.declared.counted.Counted.{Counted}
 use Rattle.arc_heap_index.specs.declared.mark.Mark.{Mark}
 use Rattle.arc_heap_index.specs.declared.slots.Owner.TheVariants.{Object as ObjectOwner}
@@ -49,7 +48,7 @@ none-is None h = refl
 none-is (Some x) h = absurd (h refl)
 
 -- a field of no object that keeps fields is nil
-no-spot : (shape : HeapShape) (next : ℕ → ℕ) (heap : Heap) → IsWellFormed shape next heap → (id : ObjectId) (f : ℕ) → ((i : ℕ) (o : Object) → slice_get heap.objects i ≡ Some o → o.id ≡ id → keeps_fields o ≡ true → ⊥) → spot (Field id f) heap ≡ None
+no-spot : (shape : HeapShape) (next : ℕ → ℕ) (heap : Heap) → IsWellFormed shape next heap → (id : ObjectId) (f : ℕ) → ((i : ℕ) (o : Object) → slice_get heap.objects i ≡ Some o → o.id ≡ id → keeps_fields shape o ≡ true → ⊥) → spot (Field id f) heap ≡ None
 no-spot shape next heap wf id f none = none-is (spot (Field id f) heap) (λ some. let has = wf.owned id f (spot-held (Field id f) heap some) in none has.place has.object has.here has.named has.passing)
 
 pub named-counts : (id : ObjectId) (os : List Object) (i : ℕ) (o : Object) → slice_get os i ≡ Some o → o.id ≡ id → 1 ≤ total (named_times id) os
@@ -82,9 +81,9 @@ find-last u (x ∷ xs) o none a = go (in_the_slot u x) none (find-last u xs o)
     go false e ih = ih e a
 
 -- the object leaves its slot
-vacated-count : (p : ℕ) (wide : ℕ) (entry : Option ℕ) (c : Counted) (o : Object) → is_in Unowneds o.weak ≡ true → c.entry ≡ entry → IsCounted wide c o → IsCounted wide (vacated_by p entry c) (left_slot p entry (owing_none (record o { slot = None })))
-vacated-count p wide None c o inside e l = record { id = l.id; class = l.class; slot = refl; entry = l.entry; owed = refl; strong = l.strong; unowned = l.unowned; weak = let n = length-without Unowneds o.weak inside in let m = l.weak in omega arith; within = l.within }
-vacated-count p wide (Some n) c o inside e l = record { id = l.id; class = l.class; slot = refl; entry = l.entry; owed = refl; strong = l.strong; unowned = l.unowned; weak = l.weak; within = l.within }
+vacated-count : (p : ℕ) (entry : Option ℕ) (c : Counted) (o : Object) → is_in Unowneds o.weak ≡ true → c.entry ≡ entry → IsCounted c o → IsCounted (vacated_by p entry c) (left_slot p entry (owing_none (record o { slot = None })))
+vacated-count p None c o inside e l = record { id = l.id; class = l.class; slot = refl; entry = l.entry; owed = refl; strong = l.strong; unowned = l.unowned; weak = let n = length-without Unowneds o.weak inside in let m = l.weak in omega arith; within = l.within }
+vacated-count p (Some n) c o inside e l = record { id = l.id; class = l.class; slot = refl; entry = l.entry; owed = refl; strong = l.strong; unowned = l.unowned; weak = l.weak; within = l.within }
 
 vacated-same : (p : ℕ) (entry : Option ℕ) (o : Object) → ((left_slot p entry (owing_none (record o { slot = None }))).id ≡ o.id) × ((left_slot p entry (owing_none (record o { slot = None }))).slot ≡ None) × ((left_slot p entry (owing_none (record o { slot = None }))).entry ≡ o.entry) × ((left_slot p entry (owing_none (record o { slot = None }))).strong ≡ o.strong)
 vacated-same p None o = (refl, refl, refl, refl)
@@ -110,12 +109,12 @@ steps_vacate ix h p s st legal i d owes =
     same : ((left_slot p d.object.entry (owing_none (record d.object { slot = None }))).id ≡ d.object.id) × ((left_slot p d.object.entry (owing_none (record d.object { slot = None }))).slot ≡ None) × ((left_slot p d.object.entry (owing_none (record d.object { slot = None }))).entry ≡ d.object.entry) × ((left_slot p d.object.entry (owing_none (record d.object { slot = None }))).strong ≡ d.object.strong)
     same = vacated-same p d.object.entry d.object
 
-    facts : Rattle.arc_model.proofs.Stages.VacatingFacts d.object
+    facts : Rattle.arc_model.proofs.Stages.VacatingFacts ix.shape d.object
     facts = vacating-facts d.object (whole-at ix h st i d.object d.like.in_heap) (duty-of p Vacating d.object owes)
 
-    now : IsCounted ix.shape.caps.wide (without_slot p d.counted) (left_slot p d.object.entry (owing_none (record d.object { slot = None })))
-    now = subst (λ m. IsCounted ix.shape.caps.wide (vacated_by p m d.counted) (left_slot p d.object.entry (owing_none (record d.object { slot = None })))) (sym d.like.alike.entry)
-        (vacated-count p ix.shape.caps.wide d.object.entry d.counted d.object (let f = facts.unowneds in tally-in Unowneds d.object.weak (omega arith)) d.like.alike.entry d.like.alike)
+    now : IsCounted (without_slot p d.counted) (left_slot p d.object.entry (owing_none (record d.object { slot = None })))
+    now = subst (λ m. IsCounted (vacated_by p m d.counted) (left_slot p d.object.entry (owing_none (record d.object { slot = None })))) (sym d.like.alike.entry)
+        (vacated-count p d.object.entry d.counted d.object (let f = facts.unowneds in tally-in Unowneds d.object.weak (omega arith)) d.like.alike.entry d.like.alike)
 
     slot : d.object.slot ≡ Some s
     slot = go d.object.slot d.only.passing
@@ -157,14 +156,14 @@ steps_vacate ix h p s st legal i d owes =
       | inr ne ↦ ap claimant (freed-other ix.slots s u (ObjectOwner i) owner ne) ∙ st.tells.unclaimed u
     ]
 
-    reach : (r u j : ℕ) → r < length ix.marks → u < ix.shape.slots → is_object j (owner_at u (freed s ix.slots)) ≡ true → Rattle.arc_heap_index.specs.Counting.tally_at r u ix.reach ≡ hands_of r (strong_in (slice_get (placed i (left_slot p d.object.entry (owing_none (record d.object { slot = None }))) (heap_after h).objects) j))
+    reach : (r u j : ℕ) → r < length ix.marks → u < ix.shape.slots → is_object j (owner_at u (freed s ix.slots)) ≡ true → Rattle.arc_heap_index.specs.Counting.tally_at r u ix.reach ≡ hands_of r (list_in Strong (slice_get (placed i (left_slot p d.object.entry (owing_none (record d.object { slot = None }))) (heap_after h).objects) j))
     reach r u j l m own = elim (cases_eq s u) [
       | inl at ↦ true≢false (sym own ∙ ap (λ v. is_object j (owner_at v (freed s ix.slots))) (sym at) ∙ ap (is_object j) empty)
       | inr ne ↦
           let before : is_object j (owner_at u ix.slots) ≡ true = ap (is_object j) (sym (freed-other ix.slots s u (ObjectOwner i) owner ne)) ∙ own in
           st.tells.reach r u j l m before ∙ elim (cases_eq i j) [
             | inl here ↦ absurd (ne (same-slot (sym slot ∙ slot-owner ix (heap_after h) st.tells i d.object u d.like.in_heap (rw (← here) at before))))
-            | inr other ↦ ap (λ w. hands_of r (strong_in w)) (sym (placed-other (heap_after h).objects i j q other))
+            | inr other ↦ ap (λ w. hands_of r (list_in Strong w)) (sym (placed-other (heap_after h).objects i j q other))
           ]
     ]
       where
@@ -173,12 +172,12 @@ steps_vacate ix h p s st legal i d owes =
 
     idle : (r u : ℕ) → r < length ix.marks → u < ix.shape.slots → owner_at u (freed s ix.slots) ≡ None → Rattle.arc_heap_index.specs.Counting.tally_at r u ix.reach ≡ 0
     idle r u l m free = elim (cases_eq s u) [
-      | inl at ↦ rw (← at) (st.tells.reach r s i l (rw (← at) at m) (ap (is_object i) owner ∙ eq-eqb i i refl) ∙ ap (λ w. hands_of r (strong_in w)) d.like.in_heap ∙ ap (hands_of r) (empty-is d.object.strong facts.strong))
+      | inl at ↦ rw (← at) (st.tells.reach r s i l (rw (← at) at m) (ap (is_object i) owner ∙ eq-eqb i i refl) ∙ ap (λ w. hands_of r (list_in Strong w)) d.like.in_heap ∙ ap (hands_of r) (none-strong ix.shape d.object facts.strong).0)
       | inr ne ↦ st.tells.idle r u l m (sym (freed-other ix.slots s u (ObjectOwner i) owner ne) ∙ free)
     ]
 
-    keeps-none : (r : Object) → r ≡ d.object → keeps_fields r ≡ true → ⊥
-    keeps-none r e k = go (is_empty d.object.strong) (is_duty Deinit d.object.owed) refl facts.strong (ap keeps_fields (sym e) ∙ k)
+    keeps-none : (r : Object) → r ≡ d.object → keeps_fields ix.shape r ≡ true → ⊥
+    keeps-none r e k = go (is_empty (strong_holders ix.shape d.object)) (is_duty Deinit d.object.owed) refl facts.strong (ap (keeps_fields ix.shape) (sym e) ∙ k)
       where
         go : (a b : Bool) → is_duty Deinit d.object.owed ≡ b → a ≡ true → (Rattle.std.specs.Prelude.not a || b) ≡ true → ⊥
         go true true f g k = true≢false (sym (duty-apart Deinit Vacating d.object.owed f (duty-of p Vacating d.object owes)))
@@ -202,11 +201,11 @@ steps_vacate ix h p s st legal i d owes =
     ]
 
 -- an object is made
-pub same_length : (wide : ℕ) (xs : List Counted) (os : List Object) → ((j : ℕ) → AreCounted wide (slice_get xs j) (slice_get os j)) → length xs ≡ length os
-same_length wide [] [] h = refl
-same_length wide [] (o ∷ os) h = absurd (h zero)
-same_length wide (x ∷ xs) [] h = absurd (h zero)
-same_length wide (x ∷ xs) (o ∷ os) h = ap suc (same_length wide xs os (λ j. h (suc j)))
+pub same_length : (xs : List Counted) (os : List Object) → ((j : ℕ) → AreCounted (slice_get xs j) (slice_get os j)) → length xs ≡ length os
+same_length [] [] h = refl
+same_length [] (o ∷ os) h = absurd (h zero)
+same_length (x ∷ xs) [] h = absurd (h zero)
+same_length (x ∷ xs) (o ∷ os) h = ap suc (same_length xs os (λ j. h (suc j)))
 
 made-end : (p : ℕ) (os : List Object) (o : Object) → made_by p (os ++ o ∷ []) ≡ made_by p os + cond (eqb o.id.thread p) 1 0
 made-end p [] o = sum_by-cons (λ (x : Object). cond {A = ℕ} (eqb x.id.thread p) 1 0) o [] ∙ (let e : cond {A = ℕ} (eqb o.id.thread p) 1 0 + 0 ≡ 0 + cond {A = ℕ} (eqb o.id.thread p) 1 0 = omega arith in e)
@@ -222,7 +221,7 @@ pub steps_new : (ix : Index) (h : History) (p k c s : ℕ) → p < length ix.mar
 steps_new ix h p k c s within range st legal next free = record {
   tells = record {
     counted = λ j. elim (cases_eq (length (heap_after h).objects) j) [
-      | inl at ↦ rw (← at, slice_get-append-last (heap_after h).objects o) (subst (λ n. AreCounted ix.shape.caps.wide (slice_get (ix.objects ++ d ∷ []) n) (Some o)) len (rw (slice_get-append-last ix.objects d) counted))
+      | inl at ↦ rw (← at, slice_get-append-last (heap_after h).objects o) (subst (λ n. AreCounted (slice_get (ix.objects ++ d ∷ []) n) (Some o)) len (rw (slice_get-append-last ix.objects d) counted))
       | inr ne ↦ rw (past_end (heap_after h).objects o j ne, past_end ix.objects d j (λ e. ne (sym len ∙ e))) (st.tells.counted j)
     ];
     slots = slots;
@@ -247,8 +246,8 @@ steps_new ix h p k c s within range st legal next free = record {
   shape = refl;
   sized = record {
     hands = length-at_place p (λ row. row ++ Some (record { object = length ix.objects; kind = Strong }) ∷ []) ix.hands ∙ st.sized.hands ∙ sym many;
-    reach = length-at_place p (at_place s (raised (most ix.shape.caps.wide))) ix.reach ∙ st.sized.reach ∙ sym many;
-    reach_rows = λ r l. row-length p r (at_place s (raised (most ix.shape.caps.wide))) ix.reach (λ row. length-at_place s (raised (most ix.shape.caps.wide)) row) ∙ st.sized.reach_rows r (rw many at l);
+    reach = length-at_place p (at_place s (raised most)) ix.reach ∙ st.sized.reach ∙ sym many;
+    reach_rows = λ r l. row-length p r (at_place s (raised most)) ix.reach (λ row. length-at_place s (raised most) row) ∙ st.sized.reach_rows r (rw many at l);
     cells = st.sized.cells;
     fields = st.sized.fields;
     globals = st.sized.globals;
@@ -286,7 +285,7 @@ steps_new ix h p k c s within range st legal next free = record {
     d = counted_new p (raised k (mark_of ix p).made) c s
 
     len : length ix.objects ≡ length (heap_after h).objects
-    len = same_length ix.shape.caps.wide ix.objects (heap_after h).objects st.tells.counted
+    len = same_length ix.objects (heap_after h).objects st.tells.counted
 
     below : (mark_of ix p).made < k
     below = let f = st.fewer p within in omega arith
@@ -294,7 +293,7 @@ steps_new ix h p k c s within range st legal next free = record {
     number : raised k (mark_of ix p).made ≡ made_by p (heap_after h).objects + 1
     number = raised-up k (mark_of ix p).made below ∙ ap (λ n. n + 1) (st.tells.made p within)
 
-    counted : IsCounted ix.shape.caps.wide (counted_new p (raised k (mark_of ix p).made) c s) (made p k c s (heap_after h).objects)
+    counted : IsCounted (counted_new p (raised k (mark_of ix p).made) c s) (made p k c s (heap_after h).objects)
     counted = record { id = ap (λ n. record { thread = p; number = n }) number; class = refl; slot = refl; entry = refl; owed = refl; strong = refl; unowned = refl; weak = refl; within = omega arith }
 
     now : owner_at s (taken s (ObjectOwner (length ix.objects)) ix.slots) ≡ Some (ObjectOwner (length ix.objects))
@@ -333,30 +332,30 @@ steps_new ix h p k c s within range st legal next free = record {
     columns : s < length (row_of p ix.reach)
     columns = let e = st.sized.reach_rows p within in omega arith
 
-    away : (r u : ℕ) → (s ≡ u → ⊥) → Rattle.arc_heap_index.specs.Counting.tally_at r u (tally_raised (most ix.shape.caps.wide) p s ix.reach) ≡ Rattle.arc_heap_index.specs.Counting.tally_at r u ix.reach
+    away : (r u : ℕ) → (s ≡ u → ⊥) → Rattle.arc_heap_index.specs.Counting.tally_at r u (tally_raised p s ix.reach) ≡ Rattle.arc_heap_index.specs.Counting.tally_at r u ix.reach
     away r u ne = elim (cases_eq p r) [
-      | inl same ↦ rw (← same) (tally-other p s u (raised (most ix.shape.caps.wide)) ix.reach rows ne)
-      | inr apart ↦ tally-row p r s u (raised (most ix.shape.caps.wide)) ix.reach apart
+      | inl same ↦ rw (← same) (tally-other p s u (raised most) ix.reach rows ne)
+      | inr apart ↦ tally-row p r s u (raised most) ix.reach apart
     ]
 
-    first : (r : ℕ) → r < length ix.marks → Rattle.arc_heap_index.specs.Counting.tally_at r s (tally_raised (most ix.shape.caps.wide) p s ix.reach) ≡ cond (eqb p r) 1 0
+    first : (r : ℕ) → r < length ix.marks → Rattle.arc_heap_index.specs.Counting.tally_at r s (tally_raised p s ix.reach) ≡ cond (eqb p r) 1 0
     first r l = elim (cases_eq p r) [
-      | inl same ↦ rw (← same) (tally-same p s (raised (most ix.shape.caps.wide)) ix.reach rows columns ∙ ap (raised (most ix.shape.caps.wide)) (st.tells.idle p s within range free) ∙ raised-up (most ix.shape.caps.wide) 0 (omega arith) ∙ sym (ap (λ b. cond {A = ℕ} b 1 0) (eq-eqb p p refl)))
-      | inr apart ↦ tally-row p r s s (raised (most ix.shape.caps.wide)) ix.reach apart ∙ st.tells.idle r s l range free ∙ sym (ap (λ b. cond {A = ℕ} b 1 0) (ne_eqb p r apart))
+      | inl same ↦ rw (← same) (tally-same p s (raised most) ix.reach rows columns ∙ ap (raised most) (st.tells.idle p s within range free) ∙ raised-up most 0 (omega arith) ∙ sym (ap (λ b. cond {A = ℕ} b 1 0) (eq-eqb p p refl)))
+      | inr apart ↦ tally-row p r s s (raised most) ix.reach apart ∙ st.tells.idle r s l range free ∙ sym (ap (λ b. cond {A = ℕ} b 1 0) (ne_eqb p r apart))
     ]
 
     last-owner : (j : ℕ) → is_object j (Some (ObjectOwner (length ix.objects))) ≡ true → length (heap_after h).objects ≡ j
     last-owner j e = sym len ∙ eqb-true (length ix.objects) j e
 
-    reach : (r u j : ℕ) → r < length ix.marks → u < ix.shape.slots → is_object j (owner_at u (taken s (ObjectOwner (length ix.objects)) ix.slots)) ≡ true → Rattle.arc_heap_index.specs.Counting.tally_at r u (tally_raised (most ix.shape.caps.wide) p s ix.reach) ≡ hands_of r (strong_in (slice_get ((heap_after h).objects ++ made p k c s (heap_after h).objects ∷ []) j))
+    reach : (r u j : ℕ) → r < length ix.marks → u < ix.shape.slots → is_object j (owner_at u (taken s (ObjectOwner (length ix.objects)) ix.slots)) ≡ true → Rattle.arc_heap_index.specs.Counting.tally_at r u (tally_raised p s ix.reach) ≡ hands_of r (list_in Strong (slice_get ((heap_after h).objects ++ made p k c s (heap_after h).objects ∷ []) j))
     reach r u j l m own = elim (cases_eq s u) [
-      | inl same ↦ rw (← same) (first r l ∙ sym (ap (λ w. hands_of r (strong_in w)) (there j (last-owner j (sym (ap (is_object j) now) ∙ rw (← same) at own))) ∙ one-hand p r k))
+      | inl same ↦ rw (← same) (first r l ∙ sym (ap (λ w. hands_of r (list_in Strong w)) (there j (last-owner j (sym (ap (is_object j) now) ∙ rw (← same) at own))) ∙ one-hand p r k))
       | inr ne ↦
           let before : is_object j (owner_at u ix.slots) ≡ true = ap (is_object j) (sym (taken-other ix.slots s u (ObjectOwner (length ix.objects)) ne)) ∙ own in
-          away r u ne ∙ st.tells.reach r u j l m before ∙ ap (λ w. hands_of r (strong_in w)) (sym (past_end (heap_after h).objects o j (λ at. true≢false (sym before ∙ sym (st.tells.slots u j) ∙ ap (is_so (in_the_slot u)) (absent j at)))))
+          away r u ne ∙ st.tells.reach r u j l m before ∙ ap (λ w. hands_of r (list_in Strong w)) (sym (past_end (heap_after h).objects o j (λ at. true≢false (sym before ∙ sym (st.tells.slots u j) ∙ ap (is_so (in_the_slot u)) (absent j at)))))
     ]
 
-    idle : (r u : ℕ) → r < length ix.marks → u < ix.shape.slots → owner_at u (taken s (ObjectOwner (length ix.objects)) ix.slots) ≡ None → Rattle.arc_heap_index.specs.Counting.tally_at r u (tally_raised (most ix.shape.caps.wide) p s ix.reach) ≡ 0
+    idle : (r u : ℕ) → r < length ix.marks → u < ix.shape.slots → owner_at u (taken s (ObjectOwner (length ix.objects)) ix.slots) ≡ None → Rattle.arc_heap_index.specs.Counting.tally_at r u (tally_raised p s ix.reach) ≡ 0
     idle r u l m none = elim (cases_eq s u) [
       | inl same ↦ let n : None ≡ Some (ObjectOwner (length ix.objects)) = sym none ∙ ap (λ v. owner_at v (taken s (ObjectOwner (length ix.objects)) ix.slots)) (sym same) ∙ now in absurd (cc)
       | inr ne ↦ away r u ne ∙ st.tells.idle r u l m (sym (taken-other ix.slots s u (ObjectOwner (length ix.objects)) ne) ∙ none)

@@ -11,7 +11,7 @@ use Rattle.arc_model.specs.Effects.{effect, becomes}
 use Rattle.arc_model.specs.History.{History, heap_after, brings}
 use Rattle.arc_model.proofs.Courses.{hand-cell}
 use Rattle.arc_heap_index.specs.declared.counted.Place.{Place}
-use Rattle.arc_heap_index.specs.Counting.{placed, row_of, place_at, put_at, pushed, most}
+use Rattle.arc_heap_index.specs.Counting.{placed, row_of, place_at, put_at, pushed}
 use Rattle.arc_heap_judge.specs.Index.{Index, hand_at, cell_at, hold, next_of}
 use Rattle.arc_heap.specs.Moving.{reach_more, reach_less, hand_comes, hand_goes, cell_becomes, goes_in, comes_out, swapped}
 use Rattle.arc_heap_judge.specs.Stands.{spot_of, Tells, IsSized}
@@ -51,11 +51,11 @@ swap_out ix h p act c k w =
     let x = cell (heap_after h) c in
     let within = in-hands ix h p act c None (Some k) w in
     subst (λ (new : Index). Steps ix new p act (heap_after h) (effect p act (heap_after h))) (ap (λ v. cell_becomes c None (comes_out p (Some k) v ix)) (sym (hold-is ix (heap_after h) x (cell_at ix c) d)))
-    (swap_build ix h p act c None (Some k) w (pushed p (Some d.at) ix.hands) (reach_more (most ix.shape.caps.wide) p d.at.kind d.counted.slot ix.reach)
-    (subst (λ heap. Tells (swapped_to ix c None (pushed p (Some d.at) ix.hands) (reach_more (most ix.shape.caps.wide) p d.at.kind d.counted.slot ix.reach)) heap) (sym w.eff)
+    (swap_build ix h p act c None (Some k) w (pushed p (Some d.at) ix.hands) (reach_more p d.at.kind d.counted.slot ix.reach)
+    (subst (λ heap. Tells (swapped_to ix c None (pushed p (Some d.at) ix.hands) (reach_more p d.at.kind d.counted.slot ix.reach)) heap) (sym w.eff)
     (tells-comes ix (heap_after h) w.stands.tells w.stands.sized p k x (record { place = d.at.object; kind = d.at.kind }) d.counted w.within (slots-within ix h p act c None (Some k) w) (no-hand-cell (heap_after h) c) d.spot_is d.in_index (pushed p (Some d.at) ix.hands) (cells_put ix c None)))
     (hands-push ix p act (heap_after h) k (Some d.at) within w.brings_is w.ends_is (w.comes k refl) (sym (w.brought_is ∙ d.spot_is)))
-    (length-at_place p (λ row. row ++ Some d.at ∷ []) ix.hands) (reach_more-length (most ix.shape.caps.wide) p d.at.kind d.counted.slot ix.reach) (λ q. reach_more-rows (most ix.shape.caps.wide) p d.at.kind d.counted.slot ix.reach q)
+    (length-at_place p (λ row. row ++ Some d.at ∷ []) ix.hands) (reach_more-length p d.at.kind d.counted.slot ix.reach) (λ q. reach_more-rows p d.at.kind d.counted.slot ix.reach q)
     (λ q l. came-one p q (Some d.at) ix.hands within ∙ came-brings p q (length (row_of q ix.hands)) act true w.brings_one))
 
 swap_in : (ix : Index) (h : History) (p : ℕ) (act : Act) (c : CellName) (n : ℕ) → Swaps ix h p act c (Some n) None → Steps ix (swapped p c (Some n) None ix) p act (heap_after h) (effect p act (heap_after h))
@@ -78,8 +78,8 @@ swap_both ix h p act c n k w =
     (tells-goes mid (becomes x (Hand p k) (heap_after h)) first sized p n x (record { place = b.at.object; kind = b.at.kind }) b.counted w.within (slot-within mid (becomes x (Hand p k) (heap_after h)) first w.stands.slots.count) (no-hand-cell (heap_after h) c) (renamed-spot (Hand p n) x (Hand p k) (heap_after h) (hand-cell p n (heap_after h) c) (other-hand n k apart) ∙ b.spot_is) b.in_index hands (cells_put ix c (hand_at ix p n))))
     hands_ok
     (length-at_place p (placed n None) out ∙ length-at_place p (λ row. row ++ Some a.at ∷ []) ix.hands)
-    (reach_less-length p b.at.kind b.counted.slot more ∙ reach_more-length (most ix.shape.caps.wide) p a.at.kind a.counted.slot ix.reach)
-    (λ q. reach_less-rows p b.at.kind b.counted.slot more q ∙ reach_more-rows (most ix.shape.caps.wide) p a.at.kind a.counted.slot ix.reach q)
+    (reach_less-length p b.at.kind b.counted.slot more ∙ reach_more-length p a.at.kind a.counted.slot ix.reach)
+    (λ q. reach_less-rows p b.at.kind b.counted.slot more q ∙ reach_more-rows p a.at.kind a.counted.slot ix.reach q)
     (λ q l. row-length p q (placed n None) out (λ row. length-at_place n (λ _. None) row) ∙ came-one p q (Some a.at) ix.hands within ∙ came-brings p q (length (row_of q ix.hands)) act true w.brings_one))
   where
     x : Holder
@@ -110,22 +110,22 @@ swap_both ix h p act c n k w =
     hands = put_at p n None (pushed p (Some a.at) ix.hands)
 
     more : List (List ℕ)
-    more = reach_more (most ix.shape.caps.wide) p a.at.kind a.counted.slot ix.reach
+    more = reach_more p a.at.kind a.counted.slot ix.reach
 
     less : List (List ℕ)
-    less = reach_less p b.at.kind b.counted.slot (reach_more (most ix.shape.caps.wide) p a.at.kind a.counted.slot ix.reach)
+    less = reach_less p b.at.kind b.counted.slot (reach_more p a.at.kind a.counted.slot ix.reach)
 
     mid : Index
-    mid = record { shape = ix.shape; hands = ix.hands; cells = ix.cells; reach = reach_more (most ix.shape.caps.wide) p a.at.kind a.counted.slot ix.reach; objects = ix.objects; marks = ix.marks; slots = ix.slots; entries = ix.entries }
+    mid = record { shape = ix.shape; hands = ix.hands; cells = ix.cells; reach = reach_more p a.at.kind a.counted.slot ix.reach; objects = ix.objects; marks = ix.marks; slots = ix.slots; entries = ix.entries }
 
-    first : Tells (record { shape = ix.shape; hands = ix.hands; cells = ix.cells; reach = reach_more (most ix.shape.caps.wide) p a.at.kind a.counted.slot ix.reach; objects = ix.objects; marks = ix.marks; slots = ix.slots; entries = ix.entries }) (becomes (cell (heap_after h) c) (Hand p k) (heap_after h))
+    first : Tells (record { shape = ix.shape; hands = ix.hands; cells = ix.cells; reach = reach_more p a.at.kind a.counted.slot ix.reach; objects = ix.objects; marks = ix.marks; slots = ix.slots; entries = ix.entries }) (becomes (cell (heap_after h) c) (Hand p k) (heap_after h))
     first = tells-comes ix (heap_after h) w.stands.tells w.stands.sized p k (cell (heap_after h) c) (record { place = a.at.object; kind = a.at.kind }) a.counted w.within (slots-within ix h p act c (Some n) (Some k) w) (no-hand-cell (heap_after h) c) a.spot_is a.in_index ix.hands ix.cells
 
-    sized : IsSized (record { shape = ix.shape; hands = ix.hands; cells = ix.cells; reach = reach_more (most ix.shape.caps.wide) p a.at.kind a.counted.slot ix.reach; objects = ix.objects; marks = ix.marks; slots = ix.slots; entries = ix.entries })
+    sized : IsSized (record { shape = ix.shape; hands = ix.hands; cells = ix.cells; reach = reach_more p a.at.kind a.counted.slot ix.reach; objects = ix.objects; marks = ix.marks; slots = ix.slots; entries = ix.entries })
     sized = let z = w.stands.sized in record {
       hands = z.hands;
-      reach = reach_more-length (most ix.shape.caps.wide) p a.at.kind a.counted.slot ix.reach ∙ z.reach;
-      reach_rows = λ q l. reach_more-rows (most ix.shape.caps.wide) p a.at.kind a.counted.slot ix.reach q ∙ z.reach_rows q l;
+      reach = reach_more-length p a.at.kind a.counted.slot ix.reach ∙ z.reach;
+      reach_rows = λ q l. reach_more-rows p a.at.kind a.counted.slot ix.reach q ∙ z.reach_rows q l;
       cells = z.cells;
       fields = z.fields;
       globals = z.globals;
@@ -135,7 +135,7 @@ swap_both ix h p act c n k w =
     kept : place_at p n (pushed p (Some a.at) ix.hands) ≡ hand_at ix p n
     kept = pushed-other p n (Some a.at) ix.hands within (λ e. apart (next ∙ e))
 
-    index_is : swapped p c (Some n) (Some k) ix ≡ cell_becomes c (hand_at ix p n) (record { shape = ix.shape; hands = put_at p n None (pushed p (Some a.at) ix.hands); cells = ix.cells; reach = reach_less p b.at.kind b.counted.slot (reach_more (most ix.shape.caps.wide) p a.at.kind a.counted.slot ix.reach); objects = ix.objects; marks = ix.marks; slots = ix.slots; entries = ix.entries })
+    index_is : swapped p c (Some n) (Some k) ix ≡ cell_becomes c (hand_at ix p n) (record { shape = ix.shape; hands = put_at p n None (pushed p (Some a.at) ix.hands); cells = ix.cells; reach = reach_less p b.at.kind b.counted.slot (reach_more p a.at.kind a.counted.slot ix.reach); objects = ix.objects; marks = ix.marks; slots = ix.slots; entries = ix.entries })
     index_is =
         ap (λ v. cell_becomes c (hand_at ix p n) (goes_in p (Some n) (comes_out p (Some k) v ix))) (hold-is ix (heap_after h) (cell (heap_after h) c) (cell_at ix c) a)
         ∙ ap (λ place. cell_becomes c (hand_at ix p n) (hand_goes p n (hold ix place) (hand_comes p (Some (record { place = a.at; counted = a.counted })) ix))) kept

@@ -58,8 +58,8 @@ strong-in z o k e = go (is_in z o.strong) (is_in z o.unowned) e
     go false false f = rw (← f) refl
 
 -- one holder takes the place of another
-renamed-count : (x y : Holder) (wide : ℕ) (c : Counted) (o : Object) → IsCounted wide c o → IsCounted wide c (lists (renamed x y) o)
-renamed-count x y wide c o l = record { id = l.id; class = l.class; slot = l.slot; entry = l.entry; owed = l.owed; strong = l.strong ∙ sym (length-renamed x y o.strong); unowned = l.unowned ∙ sym (length-renamed x y o.unowned); weak = l.weak ∙ sym (length-renamed x y o.weak); within = l.within }
+renamed-count : (x y : Holder) (c : Counted) (o : Object) → IsCounted c o → IsCounted c (lists (renamed x y) o)
+renamed-count x y c o l = record { id = l.id; class = l.class; slot = l.slot; entry = l.entry; owed = l.owed; strong = l.strong ∙ sym (length-renamed x y o.strong); unowned = l.unowned ∙ sym (length-renamed x y o.unowned); weak = l.weak ∙ sym (length-renamed x y o.weak); within = l.within }
 
 no-more : (n : ℕ) → n ≡ n + 0
 no-more n = omega arith
@@ -89,10 +89,10 @@ fewer-hands p x xs un inside =
 
 -- the index after a hand came in a holder's place, and after a hand went
 pub tells-comes : (ix : Index) (heap : Heap) → Tells ix heap → IsSized ix → (p n : ℕ) (x : Holder) (s : Spot) (c : Counted) → p < length ix.marks → ((i : ℕ) (o : Object) → slice_get heap.objects i ≡ Some o → (u : ℕ) → o.slot ≡ Some u → u < ix.shape.slots) → ((r : ℕ) → is_hand_of r x ≡ false) → spot x heap ≡ Some s → slice_get ix.objects s.place ≡ Some c → (hands cells : List (List (Option Place))) →
-    Tells (record { shape = ix.shape; hands = hands; cells = cells; reach = reach_more (most ix.shape.caps.wide) p s.kind c.slot ix.reach; objects = ix.objects; marks = ix.marks; slots = ix.slots; entries = ix.entries }) (becomes x (Hand p n) heap)
+    Tells (record { shape = ix.shape; hands = hands; cells = cells; reach = reach_more p s.kind c.slot ix.reach; objects = ix.objects; marks = ix.marks; slots = ix.slots; entries = ix.entries }) (becomes x (Hand p n) heap)
 tells-comes ix heap t z p n x s c within range un at in_index hands cells =
-    subst (λ os. Tells (record { shape = ix.shape; hands = hands; cells = cells; reach = reach_more (most ix.shape.caps.wide) p s.kind c.slot ix.reach; objects = os; marks = ix.marks; slots = ix.slots; entries = ix.entries }) (becomes x (Hand p n) heap)) (placed-id ix.objects s.place c in_index)
-    (tells-lists ix heap t s.place c c o (lists (renamed x (Hand p n)) o) like (renamed-count x (Hand p n) ix.shape.caps.wide c o like.alike) refl refl refl hands cells (reach_more (most ix.shape.caps.wide) p s.kind c.slot ix.reach) (becomes x (Hand p n) heap) (placed_spot x (lists (renamed x (Hand p n))) heap.objects s o at d.here) refl reach.0 reach.1)
+    subst (λ os. Tells (record { shape = ix.shape; hands = hands; cells = cells; reach = reach_more p s.kind c.slot ix.reach; objects = os; marks = ix.marks; slots = ix.slots; entries = ix.entries }) (becomes x (Hand p n) heap)) (placed-id ix.objects s.place c in_index)
+    (tells-lists ix heap t s.place c c o (lists (renamed x (Hand p n)) o) like (renamed-count x (Hand p n) c o like.alike) refl refl refl hands cells (reach_more p s.kind c.slot ix.reach) (becomes x (Hand p n) heap) (placed_spot x (lists (renamed x (Hand p n))) heap.objects s o at d.here) refl reach.0 reach.1)
   where
     d : StandsAt x heap.objects s
     d = stands_at x heap.objects s at
@@ -106,17 +106,17 @@ tells-comes ix heap t z p n x s c within range un at in_index hands cells =
     like : LikeFound ix heap s.place c d.object
     like = let same : found.0 ≡ c = some-inj (sym found.1.in_index ∙ in_index) in subst (λ e. LikeFound ix heap s.place e d.object) same found.1
 
-    room : (k : Kind) → kind_in x d.object ≡ k → same_kind k Strong ≡ true → hands_of p d.object.strong < most ix.shape.caps.wide
+    room : (k : Kind) → kind_in x d.object ≡ k → same_kind k Strong ≡ true → hands_of p d.object.strong < most
     room k e f = let a = fewer-hands p x d.object.strong (un p) (strong-in x d.object k e ∙ f) in let b = like.alike.strong in let g = like.alike.within in omega arith
 
-    reach : Reaches ix ix.slots (placed s.place (lists (renamed x (Hand p n)) d.object) heap.objects) (reach_more (most ix.shape.caps.wide) p s.kind c.slot ix.reach) × Idles ix ix.slots (reach_more (most ix.shape.caps.wide) p s.kind c.slot ix.reach)
+    reach : Reaches ix ix.slots (placed s.place (lists (renamed x (Hand p n)) d.object) heap.objects) (reach_more p s.kind c.slot ix.reach) × Idles ix ix.slots (reach_more p s.kind c.slot ix.reach)
     reach = reach-more-ok ix heap t z p s.kind s.place c d.object (lists (renamed x (Hand p n)) d.object) like within (range s.place d.object d.here) (λ r. comes-hands r p n x s.kind d.object un d.kind) (room s.kind d.kind)
 
 pub tells-goes : (ix : Index) (heap : Heap) → Tells ix heap → IsSized ix → (p n : ℕ) (y : Holder) (s : Spot) (c : Counted) → p < length ix.marks → ((i : ℕ) (o : Object) → slice_get heap.objects i ≡ Some o → (u : ℕ) → o.slot ≡ Some u → u < ix.shape.slots) → ((r : ℕ) → is_hand_of r y ≡ false) → spot (Hand p n) heap ≡ Some s → slice_get ix.objects s.place ≡ Some c → (hands cells : List (List (Option Place))) →
     Tells (record { shape = ix.shape; hands = hands; cells = cells; reach = reach_less p s.kind c.slot ix.reach; objects = ix.objects; marks = ix.marks; slots = ix.slots; entries = ix.entries }) (becomes (Hand p n) y heap)
 tells-goes ix heap t z p n y s c within range un at in_index hands cells =
     subst (λ os. Tells (record { shape = ix.shape; hands = hands; cells = cells; reach = reach_less p s.kind c.slot ix.reach; objects = os; marks = ix.marks; slots = ix.slots; entries = ix.entries }) (becomes (Hand p n) y heap)) (placed-id ix.objects s.place c in_index)
-    (tells-lists ix heap t s.place c c o (lists (renamed (Hand p n) y) o) like (renamed-count (Hand p n) y ix.shape.caps.wide c o like.alike) refl refl refl hands cells (reach_less p s.kind c.slot ix.reach) (becomes (Hand p n) y heap) (placed_spot (Hand p n) (lists (renamed (Hand p n) y)) heap.objects s o at d.here) refl reach.0 reach.1)
+    (tells-lists ix heap t s.place c c o (lists (renamed (Hand p n) y) o) like (renamed-count (Hand p n) y c o like.alike) refl refl refl hands cells (reach_less p s.kind c.slot ix.reach) (becomes (Hand p n) y heap) (placed_spot (Hand p n) (lists (renamed (Hand p n) y)) heap.objects s o at d.here) refl reach.0 reach.1)
   where
     d : StandsAt (Hand p n) heap.objects s
     d = stands_at (Hand p n) heap.objects s at

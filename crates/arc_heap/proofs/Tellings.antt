@@ -9,7 +9,7 @@ use Rattle.arc_model.specs.declared.shape.Kind.TheVariants.{Strong, Unowned, Wea
 use Rattle.arc_model.specs.Heaps.{Object, Heap}
 use Rattle.arc_model.specs.Holders.{in_slot as in_the_slot, has_entry, is_number, made_by}
 use Rattle.arc_model.specs.Cells.{same_kind}
-use Rattle.arc_model.specs.Laws.{strong_in}
+use Rattle.arc_model.specs.Lookup.{list_in}
 use Rattle.arc_heap_index.specs.declared.counted.Place.{Place}
 use Rattle.arc_heap_index.specs.declared.counted.Counted.{Counted}
 use Rattle.arc_heap_index.specs.declared.slots.Owner.{Owner}
@@ -31,8 +31,8 @@ placed-here xs i x y here = slice_get-at_place-same i (λ _. y) xs ∙ ap (optio
 pub placed-other : {X : Type 0} (xs : List X) (i j : ℕ) (y : X) → (i ≡ j → ⊥) → slice_get (placed i y xs) j ≡ slice_get xs j
 placed-other xs i j y ne = slice_get-at_place-other i j (λ _. y) xs ne
 
-pub counted-changed : (wide : ℕ) (xs : List Counted) (os : List Object) (i : ℕ) (c d : Counted) (o q : Object) → ((j : ℕ) → AreCounted wide (slice_get xs j) (slice_get os j)) → slice_get xs i ≡ Some c → slice_get os i ≡ Some o → IsCounted wide d q → (j : ℕ) → AreCounted wide (slice_get (placed i d xs) j) (slice_get (placed i q os) j)
-counted-changed wide xs os i c d o q before in_index in_heap like j = elim (cases_eq i j) [
+pub counted-changed : (xs : List Counted) (os : List Object) (i : ℕ) (c d : Counted) (o q : Object) → ((j : ℕ) → AreCounted (slice_get xs j) (slice_get os j)) → slice_get xs i ≡ Some c → slice_get os i ≡ Some o → IsCounted d q → (j : ℕ) → AreCounted (slice_get (placed i d xs) j) (slice_get (placed i q os) j)
+counted-changed xs os i c d o q before in_index in_heap like j = elim (cases_eq i j) [
   | inl same ↦ rw (← same, placed-here xs i c d in_index, placed-here os i o q in_heap) like
   | inr other ↦ rw (placed-other xs i j d other, placed-other os i j q other) (before j)
 ]
@@ -79,7 +79,7 @@ one-owner i j (Some (Claim q)) a b = true≢false (sym a)
 
 -- what the reach table must tell after a change
 abbrev pub Reaches : Index → Freed → List Object → List (List ℕ) → Type 0
-Reaches ix slots os reach = (p s i : ℕ) → p < length ix.marks → s < ix.shape.slots → is_object i (owner_at s slots) ≡ true → tally_at p s reach ≡ hands_of p (strong_in (slice_get os i))
+Reaches ix slots os reach = (p s i : ℕ) → p < length ix.marks → s < ix.shape.slots → is_object i (owner_at s slots) ≡ true → tally_at p s reach ≡ hands_of p (list_in Strong (slice_get os i))
 
 abbrev pub Idles : Index → Freed → List (List ℕ) → Type 0
 Idles ix slots reach = (p s : ℕ) → p < length ix.marks → s < ix.shape.slots → owner_at s slots ≡ None → tally_at p s reach ≡ 0
@@ -88,7 +88,7 @@ Idles ix slots reach = (p s : ℕ) → p < length ix.marks → s < ix.shape.slot
 pub reach-still : (ix : Index) (heap : Heap) → Tells ix heap → (i : ℕ) (o q : Object) → slice_get heap.objects i ≡ Some o → ((p : ℕ) → hands_of p q.strong ≡ hands_of p o.strong) → Reaches ix ix.slots (placed i q heap.objects) ix.reach
 reach-still ix heap t i o q here same p s j l m owner = t.reach p s j l m owner ∙ elim (cases_eq i j) [
   | inl at ↦ rw (← at, placed-here heap.objects i o q here, here) (sym (same p))
-  | inr other ↦ ap (λ r. hands_of p (strong_in r)) (sym (placed-other heap.objects i j q other))
+  | inr other ↦ ap (λ r. hands_of p (list_in Strong r)) (sym (placed-other heap.objects i j q other))
 ]
 
 -- a hand of p came to the strong list, or went
@@ -115,7 +115,7 @@ reach-moved ix heap t z f p s i o q l m here slot mine others r u j lr mu owner 
     here-case own =
         let e : Some s ≡ Some u = sym slot ∙ slot-owner ix heap t i o u here own in
         let same : s ≡ u = cc in
-        let was : tally_at r s ix.reach ≡ hands_of r o.strong = rw same (t.reach r u i lr mu own ∙ ap (λ w. hands_of r (strong_in w)) here) in
+        let was : tally_at r s ix.reach ≡ hands_of r o.strong = rw same (t.reach r u i lr mu own ∙ ap (λ w. hands_of r (list_in Strong w)) here) in
         elim (cases_eq p r) [
           | inl pr ↦ rw (← same, ← pr) (tally-same p s f ix.reach within inside ∙ ap f (rw (← pr) at was) ∙ mine)
           | inr apart ↦ rw (← same) (tally-row p r s s f ix.reach apart ∙ was ∙ sym (others r apart))
@@ -138,7 +138,7 @@ idle-moved ix heap t z f p s i o l here slot r u lr mu free =
     ]
 
 -- one object changed
-pub tells-changed : (ix : Index) (heap : Heap) → Tells ix heap → (i : ℕ) (c d : Counted) (o q : Object) → LikeFound ix heap i c o → IsCounted ix.shape.caps.wide d q → q.id ≡ o.id →
+pub tells-changed : (ix : Index) (heap : Heap) → Tells ix heap → (i : ℕ) (c d : Counted) (o q : Object) → LikeFound ix heap i c o → IsCounted d q → q.id ≡ o.id →
     (hands cells : List (List (Option Place))) (reach : List (List ℕ)) (slots entries : Freed) (new : Heap) → new.objects ≡ placed i q heap.objects →
     ((s j : ℕ) → is_so (in_the_slot s) (slice_get (placed i q heap.objects) j) ≡ is_object j (owner_at s slots)) →
     ((e j : ℕ) → is_so (has_entry e) (slice_get (placed i q heap.objects) j) ≡ is_object j (owner_at e entries)) →
@@ -147,7 +147,7 @@ pub tells-changed : (ix : Index) (heap : Heap) → Tells ix heap → (i : ℕ) (
     Reaches ix slots (placed i q heap.objects) reach → Idles ix slots reach →
     Tells (record { shape = ix.shape; hands = hands; cells = cells; reach = reach; objects = placed i d ix.objects; marks = ix.marks; slots = slots; entries = entries }) new
 tells-changed ix heap t i c d o q like now same hands cells reach slots entries new objs at_slots at_entries claimed none reached idle = record {
-  counted = λ j. rw objs (counted-changed ix.shape.caps.wide ix.objects heap.objects i c d o q t.counted like.in_index like.in_heap now j);
+  counted = λ j. rw objs (counted-changed ix.objects heap.objects i c d o q t.counted like.in_index like.in_heap now j);
   slots = λ s j. rw objs (at_slots s j);
   entries = λ e j. rw objs (at_entries e j);
   claims = claimed;
@@ -158,7 +158,7 @@ tells-changed ix heap t i c d o q like now same hands cells reach slots entries 
 }
 
 -- one object's lists changed, and nothing of its slot and entry
-pub tells-lists : (ix : Index) (heap : Heap) → Tells ix heap → (i : ℕ) (c d : Counted) (o q : Object) → LikeFound ix heap i c o → IsCounted ix.shape.caps.wide d q → q.id ≡ o.id → q.slot ≡ o.slot → q.entry ≡ o.entry →
+pub tells-lists : (ix : Index) (heap : Heap) → Tells ix heap → (i : ℕ) (c d : Counted) (o q : Object) → LikeFound ix heap i c o → IsCounted d q → q.id ≡ o.id → q.slot ≡ o.slot → q.entry ≡ o.entry →
     (hands cells : List (List (Option Place))) (reach : List (List ℕ)) (new : Heap) → new.objects ≡ placed i q heap.objects → new.claims ≡ heap.claims →
     Reaches ix ix.slots (placed i q heap.objects) reach → Idles ix ix.slots reach →
     Tells (record { shape = ix.shape; hands = hands; cells = cells; reach = reach; objects = placed i d ix.objects; marks = ix.marks; slots = ix.slots; entries = ix.entries }) new
@@ -171,8 +171,8 @@ tells-lists ix heap t i c d o q like now same slot entry hands cells reach new o
 
 -- the reach after a hand of p came or went
 pub reach-more-ok : (ix : Index) (heap : Heap) → Tells ix heap → IsSized ix → (p : ℕ) (k : Kind) (i : ℕ) (c : Counted) (o q : Object) → LikeFound ix heap i c o → p < length ix.marks → ((s : ℕ) → o.slot ≡ Some s → s < ix.shape.slots) →
-    ((r : ℕ) → hands_of r q.strong ≡ hands_of r o.strong + cond (same_kind k Strong && eqb p r) 1 0) → (same_kind k Strong ≡ true → hands_of p o.strong < (most ix.shape.caps.wide)) →
-    Reaches ix ix.slots (placed i q heap.objects) (reach_more (most ix.shape.caps.wide) p k c.slot ix.reach) × Idles ix ix.slots (reach_more (most ix.shape.caps.wide) p k c.slot ix.reach)
+    ((r : ℕ) → hands_of r q.strong ≡ hands_of r o.strong + cond (same_kind k Strong && eqb p r) 1 0) → (same_kind k Strong ≡ true → hands_of p o.strong < most) →
+    Reaches ix ix.slots (placed i q heap.objects) (reach_more p k c.slot ix.reach) × Idles ix ix.slots (reach_more p k c.slot ix.reach)
 reach-more-ok ix heap t z p Unowned i c o q like l range more room = (reach-still ix heap t i o q like.in_heap (λ r. more r ∙ (let e : hands_of r o.strong + 0 ≡ hands_of r o.strong = omega arith in e)), idle-still ix heap t)
 reach-more-ok ix heap t z p Weak i c o q like l range more room = (reach-still ix heap t i o q like.in_heap (λ r. more r ∙ (let e : hands_of r o.strong + 0 ≡ hands_of r o.strong = omega arith in e)), idle-still ix heap t)
 reach-more-ok ix heap t z p Strong i c o q like l range more room = go c.slot (like.alike.slot)
@@ -180,15 +180,15 @@ reach-more-ok ix heap t z p Strong i c o q like l range more room = go c.slot (l
     others : (r : ℕ) → (p ≡ r → ⊥) → hands_of r q.strong ≡ hands_of r o.strong
     others r ne = more r ∙ ap (λ b. hands_of r o.strong + cond b 1 0) (ne_eqb p r ne) ∙ (let e : hands_of r o.strong + 0 ≡ hands_of r o.strong = omega arith in e)
 
-    mine : raised (most ix.shape.caps.wide) (hands_of p o.strong) ≡ hands_of p q.strong
-    mine = raised-up (most ix.shape.caps.wide) (hands_of p o.strong) (room refl) ∙ sym (more p ∙ ap (λ b. hands_of p o.strong + cond b 1 0) (eq-eqb p p refl))
+    mine : raised most (hands_of p o.strong) ≡ hands_of p q.strong
+    mine = raised-up most (hands_of p o.strong) (room refl) ∙ sym (more p ∙ ap (λ b. hands_of p o.strong + cond b 1 0) (eq-eqb p p refl))
 
-    go : (slot : Option ℕ) → slot ≡ o.slot → Reaches ix ix.slots (placed i q heap.objects) (reach_more (most ix.shape.caps.wide) p Strong slot ix.reach) × Idles ix ix.slots (reach_more (most ix.shape.caps.wide) p Strong slot ix.reach)
-    go (Some s) e = (reach-moved ix heap t z (raised (most ix.shape.caps.wide)) p s i o q l (range s (sym e)) like.in_heap (sym e) mine others, idle-moved ix heap t z (raised (most ix.shape.caps.wide)) p s i o l like.in_heap (sym e))
+    go : (slot : Option ℕ) → slot ≡ o.slot → Reaches ix ix.slots (placed i q heap.objects) (reach_more p Strong slot ix.reach) × Idles ix ix.slots (reach_more p Strong slot ix.reach)
+    go (Some s) e = (reach-moved ix heap t z (raised most) p s i o q l (range s (sym e)) like.in_heap (sym e) mine others, idle-moved ix heap t z (raised most) p s i o l like.in_heap (sym e))
     go None e = (
       λ r u j lr mu owner. t.reach r u j lr mu owner ∙ elim (cases_eq i j) [
         | inl at ↦ let n : None ≡ Some u = e ∙ slot-owner ix heap t i o u like.in_heap (rw (← at) at owner) in absurd (cc)
-        | inr other ↦ ap (λ w. hands_of r (strong_in w)) (sym (placed-other heap.objects i j q other))
+        | inr other ↦ ap (λ w. hands_of r (list_in Strong w)) (sym (placed-other heap.objects i j q other))
       ],
       idle-still ix heap t,
     )
@@ -211,7 +211,7 @@ reach-less-ok ix heap t z p Strong i c o q like l range less = go c.slot (like.a
     go None e = (
       λ r u j lr mu owner. t.reach r u j lr mu owner ∙ elim (cases_eq i j) [
         | inl at ↦ let n : None ≡ Some u = e ∙ slot-owner ix heap t i o u like.in_heap (rw (← at) at owner) in absurd (cc)
-        | inr other ↦ ap (λ w. hands_of r (strong_in w)) (sym (placed-other heap.objects i j q other))
+        | inr other ↦ ap (λ w. hands_of r (list_in Strong w)) (sym (placed-other heap.objects i j q other))
       ],
       idle-still ix heap t,
     )

@@ -112,7 +112,7 @@ kept_event ix e =
     let new = after_act ix e.thread e.act in
     (a.0, length-at_place e.thread (λ (m : Mark). record { made = m.made; slots = new.slots.frees; entries = new.entries.frees }) new.marks ∙ a.1)
 
-pub event_keeps : {R : Type 0} → (v : Option Illegal) (old new : Index) (e : Event) (result : Result R Refusal) → Answers v e.act old (after_event old e) new result → Keeps new old
-event_keeps v old new e (Ok r) a = let k = kept_event old e in (ap (λ (ix : Index). ix.shape) a.1 ∙ k.0, ap (λ (ix : Index). length ix.marks) a.1 ∙ k.1)
-event_keeps v old new e (Err (refusals.Illegal i)) a = (ap (λ (ix : Index). ix.shape) a.1, ap (λ (ix : Index). length ix.marks) a.1)
-event_keeps v old new e (Err refusals.Memory) a = (ap (λ (ix : Index). ix.shape) a.2, ap (λ (ix : Index). length ix.marks) a.2)
+pub event_keeps : {R : Type 0} → (v : Option Illegal) (old new : Index) (e : Event) (fits : Bool) (result : Result R Refusal) → Answers v e.act fits old (after_event old e) new result → Keeps new old
+event_keeps v old new e fits (Ok r) a = let k = kept_event old e in (ap (λ (ix : Index). ix.shape) a.2 ∙ k.0, ap (λ (ix : Index). length ix.marks) a.2 ∙ k.1)
+event_keeps v old new e fits (Err (refusals.Illegal i)) a = (ap (λ (ix : Index). ix.shape) a.1, ap (λ (ix : Index). length ix.marks) a.1)
+event_keeps v old new e fits (Err refusals.Memory) a = (ap (λ (ix : Index). ix.shape) a.2, ap (λ (ix : Index). length ix.marks) a.2)

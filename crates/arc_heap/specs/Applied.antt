@@ -8,7 +8,9 @@ use Rattle.arc_model.specs.declared.event.Illegal.{Illegal}
 use Rattle.arc_model.specs.declared.event.Life.{Life}
 use Rattle.arc_model.specs.declared.shape.Kind.{Kind}
 use Rattle.arc_model.specs.Heaps.{Object, Heap}
-use Rattle.arc_model.specs.Holders.{same_id, list_of}
+use Rattle.arc_model.specs.Shapes.{HeapShape}
+use Rattle.arc_model.specs.Holders.{same_id}
+use Rattle.arc_model.specs.Cells.{holders_of}
 use Rattle.arc_model.specs.Life.{life_of}
 use Rattle.arc_model.specs.History.{History, brings, judge}
 use Rattle.arc_heap.specs.declared.refusal.Refusal.{Refusal}
@@ -26,9 +28,9 @@ abbrev pub Refuses : {H : Type 0} → Option Illegal → Act → H → H → Ref
 Refuses verdict act old new (refusals.Illegal i) = (verdict ≡ Some i) × (new ≡ old)
 Refuses verdict act old new refusals.Memory = (verdict ≡ None) × (grows act ≡ true) × (new ≡ old)
 
--- Ok exactly where nothing is wrong, and then the new value is the one after the event
-abbrev pub Answers : {H R : Type 0} → Option Illegal → Act → H → H → H → Result R Refusal → Type 0
-Answers verdict act old after new result = MatchResult result (λ _. (verdict ≡ None) × (new ≡ after)) (Refuses verdict act old new)
+-- Ok only where nothing is wrong and one holder more can be counted, and then the new value is the one after the event
+abbrev pub Answers : {H R : Type 0} → Option Illegal → Act → Bool → H → H → H → Result R Refusal → Type 0
+Answers verdict act fits old after new result = MatchResult result (λ _. (verdict ≡ None) × (fits ≡ true) × (new ≡ after)) (Refuses verdict act old new)
 
 -- From an index that stands for h: Ok exactly where the event is legal after h, and then it stands for h with the event
 -- at its end; else the first need that fails, and nothing changed. Memory only at a legal act that makes something grow.
@@ -40,10 +42,10 @@ AppliesAfter h old new e result =
 abbrev pub named : ObjectId → Heap → Option Object
 named id heap = find (λ o. same_id o.id id) heap.objects
 
-abbrev pub life_in : Option Object → Option Life
-life_in None = None
-life_in (Some o) = Some (life_of o)
+abbrev pub life_in : HeapShape → Option Object → Option Life
+life_in shape None = None
+life_in shape (Some o) = Some (life_of shape o)
 
-abbrev pub holders_in : Kind → Option Object → Option ℕ
-holders_in list None = None
-holders_in list (Some o) = Some (length (list_of list o))
+abbrev pub holders_in : HeapShape → Kind → Option Object → Option ℕ
+holders_in shape list None = None
+holders_in shape list (Some o) = Some (length (holders_of shape list o))

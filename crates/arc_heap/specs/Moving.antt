@@ -14,14 +14,14 @@ use Rattle.arc_heap_index.specs.declared.counted.Held.{Held}
 use Rattle.arc_heap_index.specs.declared.counted.Found.{Found}
 use Rattle.arc_heap_index.specs.declared.mark.Mark.{Mark}
 use Rattle.arc_heap_index.specs.declared.slots.Owner.TheVariants.{Object, Claim}
-use Rattle.arc_heap_index.specs.Counting.{placed, at_place, put_at, pushed, raised, most, tally_raised, tally_lowered, with_one_more, with_one_less, without_strongs, without_slot, without_unowneds, entered}
+use Rattle.arc_heap_index.specs.Counting.{placed, at_place, put_at, pushed, raised, tally_raised, tally_lowered, can_count, with_one_more, with_one_less, without_strongs, without_slot, without_unowneds, entered}
 use Rattle.arc_heap_index.specs.Freeing.{taken, freed, changed}
 use Rattle.arc_heap_judge.specs.Index.{Index, hand_at, cell_at, origin_at, hold, in_slot, with_entry, mark_of}
 
 -- p has one more, or one less, strong hand of the object in a slot
-abbrev pub reach_more : ℕ → ℕ → Kind → Option ℕ → List (List ℕ) → List (List ℕ)
-reach_more wide p Strong (Some s) reach = tally_raised wide p s reach
-reach_more wide p _ _ reach = reach
+abbrev pub reach_more : ℕ → Kind → Option ℕ → List (List ℕ) → List (List ℕ)
+reach_more p Strong (Some s) reach = tally_raised p s reach
+reach_more p _ _ reach = reach
 
 abbrev pub reach_less : ℕ → Kind → Option ℕ → List (List ℕ) → List (List ℕ)
 reach_less p Strong (Some s) reach = tally_lowered p s reach
@@ -30,7 +30,7 @@ reach_less p _ _ reach = reach
 -- a hand of p comes where a reference counts; no count changes
 abbrev pub hand_comes : ℕ → Option Held → Index → Index
 hand_comes p None ix = ix
-hand_comes p (Some w) ix = record ix { hands = pushed p (Some w.place) ix.hands; reach = reach_more (most ix.shape.caps.wide) p w.place.kind w.counted.slot ix.reach }
+hand_comes p (Some w) ix = record ix { hands = pushed p (Some w.place) ix.hands; reach = reach_more p w.place.kind w.counted.slot ix.reach }
 
 -- hand h of p goes; no count changes
 abbrev pub hand_goes : ℕ → ℕ → Option Held → Index → Index
@@ -44,9 +44,18 @@ object_becomes i c ix = record ix { objects = placed i c ix.objects }
 abbrev pub in_list_of : Kind → Held → Held
 in_list_of k w = record w { place = record { object = w.place.object; kind = k } }
 
+-- the list that the hand joins can count it
+abbrev pub fits : Kind → Option Held → Bool
+fits k None = true
+fits k (Some w) = can_count k w.counted
+
+abbrev pub fits_own : Option Held → Bool
+fits_own None = true
+fits_own (Some w) = can_count w.place.kind w.counted
+
 abbrev pub joins : ℕ → Kind → Option Held → Index → Index
 joins p k None ix = ix
-joins p k (Some w) ix = object_becomes w.place.object (with_one_more ix.shape.caps.wide k w.counted) (hand_comes p (Some (in_list_of k w)) ix)
+joins p k (Some w) ix = object_becomes w.place.object (with_one_more k w.counted) (hand_comes p (Some (in_list_of k w)) ix)
 
 abbrev pub joins_own : ℕ → Option Held → Index → Index
 joins_own p None ix = ix
@@ -95,7 +104,7 @@ placed_new p i s ix = record ix { hands = pushed p (Some (record { object = i; k
 abbrev pub made_new : ℕ → ℕ → ℕ → ℕ → Index → Index
 made_new p k c s ix = record ix {
   hands = pushed p (Some (record { object = length ix.objects; kind = Strong })) ix.hands;
-  reach = tally_raised (most ix.shape.caps.wide) p s ix.reach;
+  reach = tally_raised p s ix.reach;
   objects = ix.objects ++ counted_new p (raised k (mark_of ix p).made) c s ∷ [];
   marks = with_made p (raised k (mark_of ix p).made) ix.marks;
   slots = taken s (Object (length ix.objects)) ix.slots;
@@ -142,6 +151,14 @@ after_act ix p (acts.Take s f k) = swapped p (cells.Field s f) None (Some k) ix
 after_act ix p (acts.Finish s last) = finishes p last (in_slot ix s) ix
 after_act ix p (acts.Vacate s) = vacates p s (in_slot ix s) ix
 after_act ix p (acts.Gone e last) = goes_away p e last (with_entry ix e) ix
+
+-- the holder that the act adds to a list can be counted
+abbrev pub fits_act : Index → ℕ → Act → Bool
+fits_act ix p (acts.Copy from k) = fits_own (hold ix (origin_at ix p from))
+fits_act ix p (acts.UnownedOf h k) = fits Unowned (hold ix (hand_at ix p h))
+fits_act ix p (acts.WeakOf h k) = fits Weak (hold ix (hand_at ix p h))
+fits_act ix p (acts.Load h (got.Hand k)) = fits Strong (hold ix (hand_at ix p h))
+fits_act ix p _ = true
 
 -- the thread's last event is now
 abbrev pub ticked : ℕ → Index → Index

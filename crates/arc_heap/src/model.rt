@@ -7,11 +7,11 @@ ghost use Rattle.arc_heap_index.specs.declared.counted.Counted.{Counted};
 ghost use Rattle.arc_heap_judge.specs.Judging.{verdict as judged};
 ghost use Rattle.arc_heap_judge.specs.Stands.{StandsFor, IsInRange, thread_count};
 ghost use Rattle.arc_heap.specs.Applied.{Answers, AppliesAfter, named, life_in, holders_in};
-ghost use Rattle.arc_heap.specs.Asked.{lived, is_due_deinit, life_told, held_in};
-ghost use Rattle.arc_heap.specs.Moving.{after_event};
+ghost use Rattle.arc_heap.specs.Asked.{lived_so, is_due_deinit, life_told, held_in};
+ghost use Rattle.arc_heap.specs.Moving.{after_event, fits_act};
 
 use crate::refusal::Refusal;
-use arc_heap_index::{Counted, Due, Reach, Slots, Table, count, first_marks, is_live};
+use arc_heap_index::{Counted, Due, Reach, Slots, Table, first_marks, holders, is_live};
 use arc_heap_judge::HeapIndex;
 use arc_model::{Event, Kind, Life, Memory, ObjectId, Shape};
 use std::alloc::Global;
@@ -47,7 +47,7 @@ impl ModelHeap {
     }
 
     fn advance(&mut self, event: Event) -> Result<(), Refusal>
-        ensures { Answers (judged self.old event.thread event.act) event.act self.old (after_event self.old event) self.new result }
+        ensures { Answers (judged self.old event.thread event.act) event.act (fits_act self.old event.thread event.act) self.old (after_event self.old event) self.new result }
     {
         if let Some(illegal) = self.index.verdict(event.thread, event.act) {
             return Err(Refusal::Illegal(illegal));
@@ -92,31 +92,40 @@ impl ModelHeap {
     }
 
     fn told_life(&self, object: ObjectId) -> Option<Life>
-        ensures { result ≡ life_told (find (λ (c : Counted). same_id c.id object) self.now.objects) }
+        ensures { result ≡ life_told self.now.shape (find (λ (c : Counted). same_id c.id object) self.now.objects) }
     {
         let found = first_named(self.index.objects.as_slice(), object);
-        life_found(found)
+        self.life_found(found)
+    }
+
+    fn life_found(&self, found: Option<Counted>) -> Option<Life>
+        ensures { result ≡ life_told self.now.shape found }
+    {
+        match found {
+            None => None,
+            Some(counted) => Some(life_of(self.index.is_immortal(counted), counted)),
+        }
     }
 
     fn told_holders(&self, object: ObjectId, list: Kind) -> Option<u64>
-        ensures { result ≡ held_in list (find (λ (c : Counted). same_id c.id object) self.now.objects) }
+        ensures { result ≡ held_in self.now.shape list (find (λ (c : Counted). same_id c.id object) self.now.objects) }
     {
         match first_named(self.index.objects.as_slice(), object) {
             None => None,
-            Some(counted) => Some(u64::from(count(list, counted))),
+            Some(counted) => Some(holders(self.index.is_immortal(counted), list, counted)),
         }
     }
 
     /// The state of an object, or none where no thread has made that many.
     pub fn life(&self, object: ObjectId) -> Option<Life>
-        ensures { (h : History) → StandsFor self.now h → result ≡ life_in (named object (heap_after h)) }
+        ensures { (h : History) → StandsFor self.now h → result ≡ life_in self.now.shape (named object (heap_after h)) }
     {
         self.told_life(object)
     }
 
     /// How many holders a list of an object has, or none where no thread has made that many objects.
     pub fn holders(&self, object: ObjectId, list: Kind) -> Option<u64>
-        ensures { (h : History) → StandsFor self.now h → result ≡ holders_in list (named object (heap_after h)) }
+        ensures { (h : History) → StandsFor self.now h → result ≡ holders_in self.now.shape list (named object (heap_after h)) }
     {
         self.told_holders(object, list)
     }
@@ -156,19 +165,10 @@ fn is_same(a: ObjectId, b: ObjectId) -> bool
     a.thread == b.thread && a.number == b.number
 }
 
-fn life_found(found: Option<Counted>) -> Option<Life>
-    ensures { result ≡ life_told found }
+fn life_of(immortal: bool, c: Counted) -> Life
+    ensures { result ≡ lived_so immortal c }
 {
-    match found {
-        None => None,
-        Some(counted) => Some(life_of(counted)),
-    }
-}
-
-fn life_of(c: Counted) -> Life
-    ensures { result ≡ lived c }
-{
-    if is_live(c) {
+    if is_live(immortal, c) {
         return Life::Live;
     }
     if is_deiniting(c) {

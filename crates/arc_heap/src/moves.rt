@@ -4,26 +4,25 @@ ghost use Rattle.std.specs.Prelude.{◌≡◌, OnOk, OnErr, IsOk, true, Some, No
 ghost use Rattle.arc_model.specs.declared.event.Act.{Act};
 ghost use Rattle.arc_model.specs.declared.event.Got.{Got};
 ghost use Rattle.arc_heap.specs.Applied.{grows};
-ghost use Rattle.arc_heap_index.specs.Counting.{most as most_of};
+ghost use Rattle.arc_heap_index.specs.Counting.{can_count};
 ghost use Rattle.arc_heap_judge.specs.Index.{hand_at, cell_at, origin_at, hold as held, in_slot, with_entry as of_entry};
-ghost use Rattle.arc_heap.specs.Moving.{reach_more, reach_less, hand_comes, hand_goes, object_becomes, joins as joined, joins_own, leaves as left, entry_goes, cell_becomes as cell_after, put_hand, goes_in, comes_out, swapped, made_new, placed_new, with_made, sided, finishes, vacates, goes_away, claims_if, after_act, ticked};
+ghost use Rattle.arc_heap.specs.Moving.{reach_more, reach_less, hand_comes, hand_goes, object_becomes, joins as joined, joins_own, leaves as left, entry_goes, cell_becomes as cell_after, put_hand, goes_in, comes_out, swapped, made_new, placed_new, with_made, sided, finishes, vacates, goes_away, claims_if, fits, fits_own, fits_act, after_act, ticked};
 
 use crate::model::ModelHeap;
 use arc_heap_index::{
-    Counted, Found, Held, Mark, Owner, Place, enter, finish, go, most, one_less, one_more, raised,
-    vacate,
+    Counted, Found, Held, Mark, Owner, Place, enter, finish, go, is_countable, one_less, one_more,
+    raised, vacate,
 };
 use arc_model::{Act, CellName, Got, Kind, Memory, ObjectId, Origin};
 
 impl ModelHeap {
     fn raise(&mut self, thread: u32, kind: Kind, slot: Option<u32>)
-        ensures { self.new ≡ record self.old { reach = reach_more (most_of self.old.shape.caps.wide) thread kind slot self.old.reach } }
+        ensures { self.new ≡ record self.old { reach = reach_more thread kind slot self.old.reach } }
     {
-        let limit = most(self.index.shape.caps().wide());
         match kind {
             Kind::Strong => match slot {
                 None => {}
-                Some(slot) => self.index.reach.raise(thread, slot, limit),
+                Some(slot) => self.index.reach.raise(thread, slot),
             },
             _ => {}
         }
@@ -66,11 +65,14 @@ impl ModelHeap {
         }
     }
 
+    // A list of an immortal object has no greatest count: where no number counts one holder more, there is no memory for it.
     fn join(&mut self, thread: u32, kind: Kind, w: Held) -> Result<(), Memory>
-        ensures ok { OnOk result (self.new ≡ joined thread kind (Some w) self.old) }
+        ensures ok { OnOk result ((can_count kind w.counted ≡ true) × (self.new ≡ joined thread kind (Some w) self.old)) }
         ensures err { OnErr result (self.new ≡ self.old) }
     {
-        let wide = self.index.shape.caps().wide();
+        if !is_countable(kind, w.counted) {
+            return Err(Memory);
+        }
         let there = Held {
             place: Place {
                 object: w.place.object,
@@ -79,7 +81,7 @@ impl ModelHeap {
             counted: w.counted,
         };
         self.come(thread, there)?;
-        self.set_object(w.place.object, one_more(wide, kind, w.counted));
+        self.set_object(w.place.object, one_more(kind, w.counted));
         Ok(())
     }
 
@@ -173,7 +175,7 @@ impl ModelHeap {
     }
 
     fn copy(&mut self, thread: u32, w: Option<Held>) -> Result<(), Memory>
-        ensures ok { OnOk result (self.new ≡ joins_own thread w self.old) }
+        ensures ok { OnOk result ((fits_own w ≡ true) × (self.new ≡ joins_own thread w self.old)) }
         ensures err { OnErr result (self.new ≡ self.old) }
     {
         match w {
@@ -183,7 +185,7 @@ impl ModelHeap {
     }
 
     fn form(&mut self, thread: u32, kind: Kind, w: Option<Held>) -> Result<(), Memory>
-        ensures ok { OnOk result (self.new ≡ joined thread kind w self.old) }
+        ensures ok { OnOk result ((fits kind w ≡ true) × (self.new ≡ joined thread kind w self.old)) }
         ensures err { OnErr result (self.new ≡ self.old) }
     {
         match w {
@@ -295,7 +297,6 @@ impl ModelHeap {
         ensures err { OnErr result (self.new ≡ self.old) }
     {
         let number = raised(hand, self.index.mark(thread).made);
-        let limit = most(self.index.shape.caps().wide());
         let object = self.index.objects.as_slice().len();
         let counted = Counted {
             id: ObjectId { thread, number },
@@ -315,14 +316,14 @@ impl ModelHeap {
             }
             Ok(()) => {
                 self.set_made(thread, number);
-                self.index.reach.raise(thread, slot, limit);
+                self.index.reach.raise(thread, slot);
                 Ok(())
             }
         }
     }
 
     fn load(&mut self, thread: u32, of: u32, got: Got) -> Result<(), Memory>
-        ensures ok { OnOk result (self.new ≡ after_act self.old thread (Act.Load of got)) }
+        ensures ok { OnOk result ((fits_act self.old thread (Act.Load of got) ≡ true) × (self.new ≡ after_act self.old thread (Act.Load of got))) }
         ensures err { OnErr result ((grows (Act.Load of got) ≡ true) × (self.new ≡ self.old)) }
     {
         match got {
@@ -336,7 +337,7 @@ impl ModelHeap {
     }
 
     fn copy_from(&mut self, thread: u32, from: Origin) -> Result<(), Memory>
-        ensures ok { OnOk result (self.new ≡ joins_own thread (held self.old (origin_at self.old thread from)) self.old) }
+        ensures ok { OnOk result ((fits_own (held self.old (origin_at self.old thread from)) ≡ true) × (self.new ≡ joins_own thread (held self.old (origin_at self.old thread from)) self.old)) }
         ensures err { OnErr result (self.new ≡ self.old) }
     {
         let w = self.index.hold(self.index.origin(thread, from));
@@ -344,7 +345,7 @@ impl ModelHeap {
     }
 
     fn form_from(&mut self, thread: u32, kind: Kind, of: u32) -> Result<(), Memory>
-        ensures ok { OnOk result (self.new ≡ joined thread kind (held self.old (hand_at self.old thread of)) self.old) }
+        ensures ok { OnOk result ((fits kind (held self.old (hand_at self.old thread of)) ≡ true) × (self.new ≡ joined thread kind (held self.old (hand_at self.old thread of)) self.old)) }
         ensures err { OnErr result (self.new ≡ self.old) }
     {
         let w = self.index.hold(self.index.hand(thread, of));
@@ -407,7 +408,7 @@ impl ModelHeap {
 
     /// The index after the act, or no memory and nothing changed.
     pub(crate) fn perform(&mut self, thread: u32, act: Act) -> Result<(), Memory>
-        ensures ok { OnOk result (self.new ≡ after_act self.old thread act) }
+        ensures ok { OnOk result ((fits_act self.old thread act ≡ true) × (self.new ≡ after_act self.old thread act)) }
         ensures err { OnErr result ((grows act ≡ true) × (self.new ≡ self.old)) }
     {
         match act {

@@ -5,6 +5,7 @@ use arc_model::Illegal;
 pub enum Refusal {
     /// The event isn't legal: what is wrong with the first of its needs that fails.
     Illegal(Illegal),
-    /// No memory was found for a legal event that makes something grow.
+    /// No memory was found for a legal event that makes something grow, or a list already has 4,294,967,295 holders that come
+    /// and go.
     Memory,
 }

@@ -41,20 +41,20 @@ without_end xs = take (length xs - 1) xs
 abbrev pub popped : ℕ → List (List (Option Place)) → List (List (Option Place))
 popped r rows = at_place r without_end rows
 
--- one more, up to the greatest count
+-- one more, up to a greatest number
 abbrev pub raised : ℕ → ℕ → ℕ
-raised wide n = if nat_lt n wide then n + 1 else n
+raised greatest n = if nat_lt n greatest then n + 1 else n
 
--- the greatest count of a list, which a new object's strong list reaches in any case
-abbrev pub most : ℕ → ℕ
-most wide = wide - 1 + 1
+-- how many holders of a list can be counted
+abbrev pub most : ℕ
+most = 4294967295
 
 -- rows of counts
 abbrev pub tally_at : ℕ → ℕ → List (List ℕ) → ℕ
 tally_at r k rows = slice_index_or (row_of r rows) k 0
 
-abbrev pub tally_raised : ℕ → ℕ → ℕ → List (List ℕ) → List (List ℕ)
-tally_raised wide r k rows = at_place r (at_place k (raised wide)) rows
+abbrev pub tally_raised : ℕ → ℕ → List (List ℕ) → List (List ℕ)
+tally_raised r k rows = at_place r (at_place k (raised most)) rows
 
 abbrev pub tally_lowered : ℕ → ℕ → List (List ℕ) → List (List ℕ)
 tally_lowered r k rows = at_place r (at_place k (λ n. n - 1)) rows
@@ -80,13 +80,25 @@ is_owed_by p due (Some d) = same_due d.due due && d.thread == p
 abbrev pub owes : ℕ → Due → Counted → Bool
 owes p due c = is_owed_by p due c.owed
 
-abbrev pub is_alive : Counted → Bool
-is_alive c = not (c.strong == 0)
+-- An object of an immortal class has one more strong holder, which isn't counted.
+abbrev pub forever : Bool → Kind → ℕ
+forever true Strong = 1
+forever _ _ = 0
 
-abbrev pub with_one_more : ℕ → Kind → Counted → Counted
-with_one_more wide Strong c = record c { strong = raised wide c.strong }
-with_one_more wide Unowned c = record c { unowned = raised wide c.unowned }
-with_one_more wide Weak c = record c { weak = raised wide c.weak }
+abbrev pub holders_in : Bool → Kind → Counted → ℕ
+holders_in immortal k c = count_in k c + forever immortal k
+
+abbrev pub is_alive : Bool → Counted → Bool
+is_alive immortal c = not (holders_in immortal Strong c == 0)
+
+-- one more holder of that list can be counted
+abbrev pub can_count : Kind → Counted → Bool
+can_count k c = nat_lt (count_in k c) most
+
+abbrev pub with_one_more : Kind → Counted → Counted
+with_one_more Strong c = record c { strong = raised most c.strong }
+with_one_more Unowned c = record c { unowned = raised most c.unowned }
+with_one_more Weak c = record c { weak = raised most c.weak }
 
 abbrev pub owed_if : Bool → ℕ → Due → Option Debt → Option Debt
 owed_if true p due before = owing p due

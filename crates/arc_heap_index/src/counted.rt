@@ -1,7 +1,7 @@
 //! What the index keeps of an object: how many holders each of its lists has, in place of the holders.
 
 ghost use Rattle.std.specs.Prelude.{◌≡◌};
-ghost use Rattle.arc_heap_index.specs.Counting.{count_in, raised as raised_to, with_one_more, with_one_less, without_strongs, without_slot, without_unowneds, entered, owes as is_owed, is_alive, owing as owing_of, most as most_of};
+ghost use Rattle.arc_heap_index.specs.Counting.{count_in, raised as raised_to, holders_in, can_count, with_one_more, with_one_less, without_strongs, without_slot, without_unowneds, entered, owes as is_owed, is_alive, owing as owing_of};
 
 use arc_model::{Kind, ObjectId};
 
@@ -64,34 +64,45 @@ pub fn count(kind: Kind, c: Counted) -> u32
     }
 }
 
-/// One more, up to the greatest count.
-pub fn raised(wide: u32, n: u32) -> u32
-    ensures { result ≡ raised_to wide n }
+/// The holders of a list. An object of an immortal class has one more strong holder, which isn't counted.
+pub fn holders(immortal: bool, kind: Kind, c: Counted) -> u64
+    ensures { result ≡ holders_in immortal kind c }
 {
-    if n < wide { n + 1 } else { n }
+    match kind {
+        Kind::Strong => u64::from(c.strong) + if immortal { 1 } else { 0 },
+        Kind::Unowned => u64::from(c.unowned),
+        Kind::Weak => u64::from(c.weak),
+    }
 }
 
-/// The greatest count of a list, which a new object's strong list reaches in any case.
-pub fn most(wide: u32) -> u32
-    ensures { result ≡ most_of wide }
+/// One more, up to a greatest number.
+pub fn raised(greatest: u32, n: u32) -> u32
+    ensures { result ≡ raised_to greatest n }
 {
-    wide.saturating_sub(1) + 1
+    if n < greatest { n + 1 } else { n }
 }
 
-pub fn one_more(wide: u32, kind: Kind, c: Counted) -> Counted
-    ensures { result ≡ with_one_more wide kind c }
+/// One more holder of that list can be counted.
+pub fn is_countable(kind: Kind, c: Counted) -> bool
+    ensures { result ≡ can_count kind c }
+{
+    count(kind, c) < u32::MAX
+}
+
+pub fn one_more(kind: Kind, c: Counted) -> Counted
+    ensures { result ≡ with_one_more kind c }
 {
     match kind {
         Kind::Strong => Counted {
-            strong: raised(wide, c.strong),
+            strong: raised(u32::MAX, c.strong),
             ..c
         },
         Kind::Unowned => Counted {
-            unowned: raised(wide, c.unowned),
+            unowned: raised(u32::MAX, c.unowned),
             ..c
         },
         Kind::Weak => Counted {
-            weak: raised(wide, c.weak),
+            weak: raised(u32::MAX, c.weak),
             ..c
         },
     }
@@ -148,10 +159,10 @@ pub fn owes(thread: u32, due: Due, c: Counted) -> bool
     }
 }
 
-pub fn is_live(c: Counted) -> bool
-    ensures { result ≡ is_alive c }
+pub fn is_live(immortal: bool, c: Counted) -> bool
+    ensures { result ≡ is_alive immortal c }
 {
-    c.strong != 0
+    holders(immortal, Kind::Strong, c) != 0
 }
 
 /// The deinit has ended.

@@ -9,8 +9,8 @@ mod slots;
 mod table;
 
 pub use counted::{
-    Counted, Debt, Due, Found, Held, Place, count, enter, finish, go, is_live, most, one_less,
-    one_more, owes, raised, vacate,
+    Counted, Debt, Due, Found, Held, Place, count, enter, finish, go, holders, is_countable,
+    is_live, one_less, one_more, owes, raised, vacate,
 };
 pub use mark::{Mark, first_marks};
 pub use reach::{Reach, Tally};

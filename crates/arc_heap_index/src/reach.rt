@@ -1,5 +1,5 @@
 ghost use Rattle.std.specs.Prelude.{◌≡◌, ◌<◌, slice_index_or};
-ghost use Rattle.arc_heap_index.specs.Counting.{at_place, raised as raised_to, tally_at, tally_raised, tally_lowered};
+ghost use Rattle.arc_heap_index.specs.Counting.{at_place, most, raised as raised_to, tally_at, tally_raised, tally_lowered};
 ghost use Rattle.std.specs.Prelude.{◌-◌, IfOk};
 ghost use Rattle.arc_heap_index.specs.Fresh.{IsZero, AreZero};
 
@@ -42,11 +42,11 @@ impl Tally {
     }
 
     #[tactic(auto, using(crate::proofs::Places::places))]
-    fn raise(&mut self, slot: u32, wide: u32)
-        ensures { self.new ≡ at_place slot (raised_to wide) self.old }
+    fn raise(&mut self, slot: u32)
+        ensures { self.new ≡ at_place slot (raised_to most) self.old }
     {
         if (slot as usize) < self.counts.len() {
-            self.counts[slot as usize] = raised(wide, self.counts[slot as usize]);
+            self.counts[slot as usize] = raised(u32::MAX, self.counts[slot as usize]);
         }
     }
 
@@ -96,12 +96,12 @@ impl Reach {
     }
 
     #[tactic(auto, using(crate::proofs::Places::places))]
-    pub fn raise(&mut self, thread: u32, slot: u32, wide: u32)
-        ensures { self.new ≡ tally_raised wide thread slot self.old }
+    pub fn raise(&mut self, thread: u32, slot: u32)
+        ensures { self.new ≡ tally_raised thread slot self.old }
     {
         if (thread as usize) < self.rows.len() {
             let tally = &mut self.rows[thread as usize];
-            tally.raise(slot, wide);
+            tally.raise(slot);
         }
     }
 

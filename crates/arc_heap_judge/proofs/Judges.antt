@@ -1,5 +1,5 @@
 -- The index judges as the history does.
-use Rattle.std.proofs.Common.{◌≡◌, ℕ, zero, suc, ◌+◌, ◌<◌, ◌≤◌, Bool, true, false, cond, eqb, List, [], ◌∷◌, ◌++◌, length, Option, Some, None, refl, sym, ap, ◌∙◌, arith}
+use Rattle.std.proofs.Common.{◌≡◌, ℕ, zero, suc, ◌+◌, ◌<◌, ◌≤◌, Bool, true, false, cond, eqb, List, [], ◌∷◌, ◌++◌, length, length-append, Option, Some, None, refl, sym, ap, ◌∙◌, arith}
 use Rattle.std.specs.Prelude.{slice_get, find, is_some, not, nat_lt, ◌==◌, ◌&&◌, ◌||◌, count_by}
 use Rattle.std.specs.List.{list_any}
 use Rattle.std.proofs.lemmas.Bool.{eq-eqb, ne_eqb, lt-ltb}
@@ -12,13 +12,13 @@ use Rattle.arc_model.specs.declared.event.Illegal.{Illegal}
 use Rattle.arc_model.specs.declared.event.Illegal.TheVariants.{NotHeld, NoSuchObject}
 use Rattle.arc_model.specs.declared.shape.Kind.{Kind}
 use Rattle.arc_model.specs.declared.shape.Kind.TheVariants.{Strong, Unowned, Weak}
-use Rattle.arc_model.specs.Shapes.{HeapShape}
-use Rattle.arc_model.specs.Heaps.{Holder, Hand, Field, Owed, Object, Claimed, Heap}
-use Rattle.arc_model.specs.Holders.{is_hand_of, is_in, is_alone, is_empty, is_live, kind_in, list_of, list_with, held_by, at_slot, at_entry, is_slot_taken, is_entry_taken, is_claimed_by, claims_it, owes_to, in_slot as in_the_slot, has_entry}
-use Rattle.arc_model.specs.Cells.{cell, origin, is_nil, id_of, has_field, fields_of, are_nil, is_kind, cell_shape, field_shape, each_below}
+use Rattle.arc_model.specs.Shapes.{HeapShape, class_at}
+use Rattle.arc_model.specs.Heaps.{Holder, Hand, Field, Forever, Owed, Object, Claimed, Heap}
+use Rattle.arc_model.specs.Holders.{is_hand_of, is_in, is_alone, is_empty, kind_in, list_of, list_with, held_by, at_slot, at_entry, is_slot_taken, is_entry_taken, is_claimed_by, claims_it, owes_to, in_slot as in_the_slot, has_entry}
+use Rattle.arc_model.specs.Cells.{cell, origin, is_nil, id_of, is_immortal, forever_if, strong_holders, holders_of, is_live, has_field, fields_of, are_nil, is_kind, cell_shape, field_shape, each_below}
 use Rattle.arc_model.specs.Needs.{Need, first_failing, reachable, has, puts, passes, has_room, is_at_cap, same_bool}
 use Rattle.arc_model.specs.History.{History, heap_after, sight, judge}
-use Rattle.arc_model.specs.Laws.{strong_in}
+use Rattle.arc_model.specs.Lookup.{list_in}
 use Rattle.arc_model.specs.Lookup.{IsLookup}
 use Rattle.arc_model.proofs.Others.{lookup_after}
 use Rattle.arc_heap_index.specs.declared.counted.Due.{Due}
@@ -29,9 +29,9 @@ use Rattle.arc_heap_index.specs.declared.counted.Held.{Held}
 use Rattle.arc_heap_index.specs.declared.counted.Found.{Found}
 use Rattle.arc_heap_index.specs.declared.slots.Owner.{Owner}
 use Rattle.arc_heap_index.specs.declared.slots.Owner.TheVariants.{Object as ObjectOwner, Claim}
-use Rattle.arc_heap_index.specs.Counting.{count_in, owes, is_owed_by, is_alive, place_at}
+use Rattle.arc_heap_index.specs.Counting.{count_in, forever, holders_in, owes, is_owed_by, place_at}
 use Rattle.arc_heap_index.specs.Freeing.{owner_at, object_in}
-use Rattle.arc_heap_judge.specs.Index.{Index, hand_at, cell_at, origin_at, hold, in_slot, reach_at, next_of, fields_in}
+use Rattle.arc_heap_judge.specs.Index.{Index, hand_at, cell_at, origin_at, hold, in_slot, reach_at, next_of, fields_in, immortal_in, alive_in, alone_in, room_in, full_in}
 use Rattle.arc_heap_judge.specs.Judging.{then, meets, is_claim_of, has_field_at, reaches, has_it, field_shape_at, cell_shape_at, gives, are_empty, stands_at_cap}
 use Rattle.arc_heap_judge.specs.Stands.{IsCounted, is_object, claimants, claimant, hands_of, owed_of, duty_of_due, IsCellInRange, IsOriginInRange, Tells, StandsFor}
 use Rattle.arc_heap_judge.proofs.Told.{LikeFound, AreFound, found_none, found_owner, slot_like, LikeHeld, AreHeld, held_like}
@@ -78,10 +78,10 @@ meets-found ix heap f g None (Some o) like same = absurd like
 meets-found ix heap f g (Some w) (Some o) like same = same w o refl like
 
 -- counts and lists
-pub counted_list : (k : Kind) (wide : ℕ) (c : Counted) (o : Object) → IsCounted wide c o → count_in k c ≡ length (list_of k o)
-counted_list Strong wide c o l = l.strong
-counted_list Unowned wide c o l = l.unowned
-counted_list Weak wide c o l = l.weak
+pub counted_list : (k : Kind) (c : Counted) (o : Object) → IsCounted c o → count_in k c ≡ length (list_of k o)
+counted_list Strong c o l = l.strong
+counted_list Unowned c o l = l.unowned
+counted_list Weak c o l = l.weak
 
 alone-length : (xs : List Holder) → is_alone xs ≡ eqb (length xs) 1
 alone-length [] = refl
@@ -92,8 +92,32 @@ live-length : (xs : List Holder) → not (eqb (length xs) 0) ≡ not (is_empty x
 live-length [] = refl
 live-length (x ∷ xs) = ap not (ne_eqb (length (x ∷ xs)) 0 (λ e. omega arith))
 
-pub alive : (wide : ℕ) (c : Counted) (o : Object) → IsCounted wide c o → is_alive c ≡ is_live o
-alive wide c o l = ap (λ n. not (eqb n 0)) l.strong ∙ live-length o.strong
+pub immortal-same : (shape : HeapShape) (c : Counted) (o : Object) → IsCounted c o → immortal_in shape c ≡ is_immortal shape o
+immortal-same shape c o l = ap (λ n. (class_at shape n).immortal) l.class
+
+-- the holder of an immortal object that isn't counted
+with-forever : (immortal : Bool) (xs : List Holder) (n : ℕ) → n ≡ length xs → n + forever immortal Strong ≡ length (xs ++ forever_if immortal)
+with-forever true xs n e = (let a = length-append xs (Forever ∷ []) in omega arith)
+with-forever false xs n e = (let a = length-append xs [] in omega arith)
+
+pub holders-same : (shape : HeapShape) (k : Kind) (c : Counted) (o : Object) → IsCounted c o → holders_in (immortal_in shape c) k c ≡ length (holders_of shape k o)
+holders-same shape Strong c o l = ap (λ b. c.strong + forever b Strong) (immortal-same shape c o l) ∙ with-forever (is_immortal shape o) o.strong c.strong l.strong
+holders-same shape Unowned c o l = no-more (immortal_in shape c) ∙ l.unowned
+  where
+    no-more : (b : Bool) → c.unowned + forever b Unowned ≡ c.unowned
+    no-more true = omega arith
+    no-more false = omega arith
+holders-same shape Weak c o l = no-more (immortal_in shape c) ∙ l.weak
+  where
+    no-more : (b : Bool) → c.weak + forever b Weak ≡ c.weak
+    no-more true = omega arith
+    no-more false = omega arith
+
+pub alive : (shape : HeapShape) (c : Counted) (o : Object) → IsCounted c o → alive_in shape c ≡ is_live shape o
+alive shape c o l = ap (λ n. not (eqb n 0)) (holders-same shape Strong c o l) ∙ live-length (strong_holders shape o)
+
+pub alone-same : (shape : HeapShape) (k : Kind) (c : Counted) (o : Object) → IsCounted c o → alone_in shape k c ≡ is_alone (holders_of shape k o)
+alone-same shape k c o l = ap (λ n. eqb n 1) (holders-same shape k c o l) ∙ sym (alone-length (holders_of shape k o))
 
 owed-same : (p : ℕ) (d : Due) (c : Option Debt) (o : Option Owed) (w : Object) → owed_of c ≡ o → w.owed ≡ o → is_owed_by p d c ≡ owes_to p (duty_of_due d) w
 owed-same p d None o w e f = rw (f, ← e) refl
@@ -119,8 +143,8 @@ owed-same p d (Some debt) o w e f = rw (f, ← e) (go debt.due d (eqb debt.threa
     go due.Gone due.Gone true = refl
     go due.Gone due.Gone false = refl
 
-pub owes-same : (p : ℕ) (d : Due) (wide : ℕ) (c : Counted) (o : Object) → IsCounted wide c o → owes p d c ≡ owes_to p (duty_of_due d) o
-owes-same p d wide c o l = owed-same p d c.owed o.owed o l.owed refl
+pub owes-same : (p : ℕ) (d : Due) (c : Counted) (o : Object) → IsCounted c o → owes p d c ≡ owes_to p (duty_of_due d) o
+owes-same p d c o l = owed-same p d c.owed o.owed o l.owed refl
 
 -- hands of a thread in a list
 any-hands : (p : ℕ) (xs : List Holder) → nat_lt 0 (hands_of p xs) ≡ list_any (is_hand_of p) xs
@@ -213,11 +237,11 @@ origin-held ix h st p (origins.Cell c) l range = cell-held ix h st c range
 pub next-same : (ix : Index) (h : History) → StandsFor ix h → (p k : ℕ) → p < length ix.marks → eqb k (next_of ix p) ≡ eqb k (Rattle.arc_model.specs.History.next_hand p h)
 next-same ix h st p k l = ap (eqb k) (st.next p l)
 
-pub fields-same : (shape : HeapShape) (wide : ℕ) (c : Counted) (o : Object) → IsCounted wide c o → fields_in shape c ≡ fields_of shape o
-fields-same shape wide c o l = ap (λ n. Rattle.std.specs.Prelude.slice_index_or shape.classes n []) l.class
+pub fields-same : (shape : HeapShape) (c : Counted) (o : Object) → IsCounted c o → fields_in shape c ≡ fields_of shape o
+fields-same shape c o l = ap (λ n. (class_at shape n).fields) l.class
 
 pub field-has : (ix : Index) (heap : Heap) (f : ℕ) (w : Found) (o : Object) → LikeFound ix heap w.object w.counted o → has_field_at ix.shape f w ≡ has_field ix.shape f o
-field-has ix heap f w o l = ap (λ rs. nat_lt f (length rs)) (fields-same ix.shape ix.shape.caps.wide w.counted o l.alike)
+field-has ix heap f w o l = ap (λ rs. nat_lt f (length rs)) (fields-same ix.shape w.counted o l.alike)
 
 -- p has a strong hand of the object in the slot
 reach-same : (ix : Index) (h : History) → StandsFor ix h → (p s : ℕ) → p < length ix.marks → s < ix.shape.slots → nat_lt 0 (reach_at ix p s) ≡ passes (λ o. list_any (is_hand_of p) o.strong) (at_slot s (heap_after h))
@@ -228,7 +252,7 @@ reach-same ix h st p s l m = go (owner_at s ix.slots) refl
     go (Some (ObjectOwner i)) is =
         let d = found_owner ix (heap_after h) st.tells (in_the_slot s) (owner_at s ix.slots) (st.tells.slots s) i is in
         rw (find_only (in_the_slot s) (heap_after h).objects i d.object d.only)
-        (ap (nat_lt 0) (st.tells.reach p s i l m (ap (is_object i) is ∙ eq-eqb i i refl) ∙ ap (λ o. hands_of p (strong_in o)) d.like.in_heap) ∙ any-hands p d.object.strong)
+        (ap (nat_lt 0) (st.tells.reach p s i l m (ap (is_object i) is ∙ eq-eqb i i refl) ∙ ap (λ o. hands_of p (list_in Strong o)) d.like.in_heap) ∙ any-hands p d.object.strong)
     go (Some (Claim q)) is = let n : q ∷ [] ≡ [] = sym (ap claimant is) ∙ st.tells.unclaimed s in absurd (cc)
 
 pub reaches-same : (ix : Index) (h : History) → StandsFor ix h → (p : ℕ) (c : CellName) → p < length ix.marks → IsCellInRange ix.shape c → first_failing (reaches ix p c) ≡ first_failing (reachable ix.shape (heap_after h) p c)
@@ -258,7 +282,7 @@ shape-same ix h st (cells.Field s f) = go (in_slot ix s) (at_slot s (heap_after 
     go None None like = refl
     go (Some w) None like = absurd like
     go None (Some o) like = absurd like
-    go (Some w) (Some o) like = ap (λ rs. slice_get rs f) (fields-same ix.shape ix.shape.caps.wide w.counted o like.alike)
+    go (Some w) (Some o) like = ap (λ rs. slice_get rs f) (fields-same ix.shape w.counted o like.alike)
 
 pub gives-same : (ix : Index) (h : History) → StandsFor ix h → (p : ℕ) (c : CellName) (put : Option ℕ) → p < length ix.marks → (gives ix p c put).0 ≡ (puts ix.shape (heap_after h) p c put).0
 gives-same ix h st p c None l = refl
@@ -273,13 +297,16 @@ nil-same ix h st s n o l few is = each_below-same n (λ f. not (is_some (hold ix
     ∙ ap (λ w. is_nil (heap_after h) (Field (id_of w) f)) is)
 
 -- how long a list may be
-pub room-same : (k : Kind) (wide : ℕ) (c : Counted) (o : Object) → IsCounted wide c o → nat_lt (count_in k c) wide ≡ has_room wide (list_of k o)
-room-same k wide c o l = ap (λ n. nat_lt n wide) (counted_list k wide c o l)
+pub room-same : (shape : HeapShape) (k : Kind) (c : Counted) (o : Object) → IsCounted c o → room_in shape k c ≡ has_room shape o (list_of k o)
+room-same shape k c o l = ap (λ n. nat_lt n shape.caps.wide || immortal_in shape c) (counted_list k c o l) ∙ ap (λ b. nat_lt (length (list_of k o)) shape.caps.wide || b) (immortal-same shape c o l)
 
-pub cap-same : (shape : HeapShape) (why : Kind) (wide : ℕ) (c : Counted) (o : Object) → IsCounted wide c o → stands_at_cap shape why c ≡ is_at_cap shape why o
-cap-same shape Strong wide c o l = ap (λ b. b && eqb c.strong (shape.caps.strong + 1)) (alive wide c o l) ∙ ap (λ n. is_live o && eqb n (shape.caps.strong + 1)) l.strong
-cap-same shape Unowned wide c o l = ap (λ n. eqb n shape.caps.unowned) l.unowned
-cap-same shape Weak wide c o l = alive wide c o l
+pub full-same : (shape : HeapShape) (k : Kind) (c : Counted) (o : Object) → IsCounted c o → full_in shape k c ≡ (not (is_immortal shape o) && length (list_of k o) == shape.caps.wide)
+full-same shape k c o l = ap (λ b. not b && count_in k c == shape.caps.wide) (immortal-same shape c o l) ∙ ap (λ n. not (is_immortal shape o) && eqb n shape.caps.wide) (counted_list k c o l)
+
+pub cap-same : (shape : HeapShape) (why : Kind) (c : Counted) (o : Object) → IsCounted c o → stands_at_cap shape why c ≡ is_at_cap shape why o
+cap-same shape Strong c o l = ap (λ b. b && eqb c.strong (shape.caps.strong + 1)) (alive shape c o l) ∙ ap (λ n. is_live shape o && eqb n (shape.caps.strong + 1)) l.strong
+cap-same shape Unowned c o l = ap (λ n. eqb n shape.caps.unowned) l.unowned
+cap-same shape Weak c o l = alive shape c o l
 
 pub last-same : (last : Bool) (n : ℕ) (xs : List Holder) → n ≡ length xs → same_bool last (eqb n 1) ≡ same_bool last (is_alone xs)
 last-same last n xs e = ap (same_bool last) (ap (λ m. eqb m 1) e ∙ sym (alone-length xs))

@@ -30,7 +30,7 @@ some-inj e = cc
 pub record LikeFound (ix : Index) (heap : Heap) (i : ℕ) (c : Counted) (o : Object) : Type 0 where
   pub in_index : slice_get ix.objects i ≡ Some c
   pub in_heap : slice_get heap.objects i ≡ Some o
-  pub alike : IsCounted ix.shape.caps.wide c o
+  pub alike : IsCounted c o
 
 abbrev pub AreFound : Index → Heap → Option Found → Option Object → Type 0
 AreFound ix heap None None = Unit {0}
@@ -40,7 +40,7 @@ AreFound ix heap _ _ = ⊥
 pub counted_at : (ix : Index) (heap : Heap) → Tells ix heap → (i : ℕ) (o : Object) → slice_get heap.objects i ≡ Some o → (c : Counted) × LikeFound ix heap i c o
 counted_at ix heap t i o here = go (slice_get ix.objects i) refl (rw here at (t.counted i))
   where
-    go : (c : Option Counted) → slice_get ix.objects i ≡ c → AreCounted ix.shape.caps.wide (slice_get ix.objects i) (Some o) → (c : Counted) × LikeFound ix heap i c o
+    go : (c : Option Counted) → slice_get ix.objects i ≡ c → AreCounted (slice_get ix.objects i) (Some o) → (c : Counted) × LikeFound ix heap i c o
     go None e like = absurd (rw e at like)
     go (Some c) e like = (c, record { in_index = e; in_heap = here; alike = rw e at like })
 

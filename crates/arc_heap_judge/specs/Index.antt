@@ -1,17 +1,18 @@
 -- What a model heap keeps, in place of the holders: the index.
-use Rattle.std.specs.Prelude.{ℕ, List, [], length, Option, Some, None, slice_get, slice_index_or}
+use Rattle.std.specs.Prelude.{ℕ, Bool, ◌==◌, nat_lt, ◌&&◌, ◌||◌, not, List, length, Option, Some, None, slice_get, slice_index_or}
 use Rattle.arc_model.specs.declared.event.CellName.{CellName}
 use Rattle.arc_model.specs.declared.event.CellName.TheVariants as cells
 use Rattle.arc_model.specs.declared.event.Origin.{Origin}
 use Rattle.arc_model.specs.declared.event.Origin.TheVariants as origins
+use Rattle.arc_model.specs.declared.shape.Kind.{Kind}
 use Rattle.arc_model.specs.declared.shape.RefShape.{RefShape}
-use Rattle.arc_model.specs.Shapes.{HeapShape}
+use Rattle.arc_model.specs.Shapes.{HeapShape, class_at}
 use Rattle.arc_heap_index.specs.declared.counted.Place.{Place}
 use Rattle.arc_heap_index.specs.declared.counted.Counted.{Counted}
 use Rattle.arc_heap_index.specs.declared.counted.Held.{Held}
 use Rattle.arc_heap_index.specs.declared.counted.Found.{Found}
 use Rattle.arc_heap_index.specs.declared.mark.Mark.{Mark}
-use Rattle.arc_heap_index.specs.Counting.{place_at, row_of, tally_at}
+use Rattle.arc_heap_index.specs.Counting.{place_at, row_of, tally_at, count_in, holders_in, is_alive}
 use Rattle.arc_heap_index.specs.Freeing.{Freed, owner_at, object_in}
 
 -- The shape; where each hand and each cell counts; how many strong hands each thread has of the object in each slot; the
@@ -79,4 +80,22 @@ abbrev pub next_of : Index → ℕ → ℕ
 next_of ix p = length (row_of p ix.hands)
 
 abbrev pub fields_in : HeapShape → Counted → List RefShape
-fields_in shape c = slice_index_or shape.classes c.class []
+fields_in shape c = (class_at shape c.class).fields
+
+abbrev pub immortal_in : HeapShape → Counted → Bool
+immortal_in shape c = (class_at shape c.class).immortal
+
+abbrev pub alive_in : HeapShape → Counted → Bool
+alive_in shape c = is_alive (immortal_in shape c) c
+
+-- a list has no other holder
+abbrev pub alone_in : HeapShape → Kind → Counted → Bool
+alone_in shape k c = holders_in (immortal_in shape c) k c == 1
+
+-- a list may grow
+abbrev pub room_in : HeapShape → Kind → Counted → Bool
+room_in shape k c = nat_lt (count_in k c) shape.caps.wide || immortal_in shape c
+
+-- a list has all the holders that it may have
+abbrev pub full_in : HeapShape → Kind → Counted → Bool
+full_in shape k c = not (immortal_in shape c) && count_in k c == shape.caps.wide

@@ -21,9 +21,9 @@ use Rattle.arc_heap_index.specs.declared.counted.Held.{Held}
 use Rattle.arc_heap_index.specs.declared.counted.Found.{Found}
 use Rattle.arc_heap_index.specs.declared.slots.Owner.{Owner}
 use Rattle.arc_heap_index.specs.declared.slots.Owner.TheVariants.{Claim}
-use Rattle.arc_heap_index.specs.Counting.{count_in, owes, is_alive, place_at}
+use Rattle.arc_heap_index.specs.Counting.{owes, place_at}
 use Rattle.arc_heap_index.specs.Freeing.{owner_at, are_seen}
-use Rattle.arc_heap_judge.specs.Index.{Index, hand_at, cell_at, origin_at, hold, in_slot, with_entry, reach_at, mark_of, next_of, fields_in}
+use Rattle.arc_heap_judge.specs.Index.{Index, hand_at, cell_at, origin_at, hold, in_slot, with_entry, reach_at, mark_of, next_of, fields_in, immortal_in, alive_in, alone_in, room_in, full_in}
 
 -- the first verdict, or else the second
 abbrev pub then : Option Illegal → Option Illegal → Option Illegal
@@ -51,8 +51,8 @@ abbrev pub has_it : Index → ℕ → Origin → Option Illegal
 has_it ix p (origins.Hand h) = first_failing ((is_some (hold ix (hand_at ix p h)), NotHeld) ∷ [])
 has_it ix p (origins.Cell c) = then (first_failing (reaches ix p c)) (first_failing ((is_some (hold ix (cell_at ix c)), NotHeld) ∷ []))
 
-abbrev pub has_room_for : ℕ → Held → Bool
-has_room_for wide w = nat_lt (count_in w.place.kind w.counted) wide
+abbrev pub has_room_for : HeapShape → Held → Bool
+has_room_for shape w = room_in shape w.place.kind w.counted
 
 abbrev pub is_of_kind : Kind → Held → Bool
 is_of_kind k w = same_kind w.place.kind k
@@ -78,49 +78,49 @@ abbrev pub are_empty : Index → ℕ → ℕ → Bool
 are_empty ix s n = each_below n (λ f. not (is_some (hold ix (place_at s f ix.cells))))
 
 abbrev pub stands_at_cap : HeapShape → Kind → Counted → Bool
-stands_at_cap shape Strong c = is_alive c && c.strong == shape.caps.strong + 1
+stands_at_cap shape Strong c = alive_in shape c && c.strong == shape.caps.strong + 1
 stands_at_cap shape Unowned c = c.unowned == shape.caps.unowned
-stands_at_cap shape Weak c = is_alive c
+stands_at_cap shape Weak c = alive_in shape c
 
 abbrev pub verdict : Index → ℕ → Act → Option Illegal
 verdict ix p (acts.New k c s) = first_failing ((k == next_of ix p, Taken) ∷ (not (is_some (in_slot ix s)), Taken) ∷ [])
 verdict ix p acts.Full = first_failing ((are_seen (mark_of ix p).slots ix.slots, NotTaken) ∷ [])
 verdict ix p (acts.Copy from k) =
-    then (has_it ix p from) (first_failing ((k == next_of ix p, Taken) ∷ (meets (has_room_for ix.shape.caps.wide) (hold ix (origin_at ix p from)), WrongAnswer) ∷ []))
+    then (has_it ix p from) (first_failing ((k == next_of ix p, Taken) ∷ (meets (has_room_for ix.shape) (hold ix (origin_at ix p from)), WrongAnswer) ∷ []))
 verdict ix p (acts.UnownedOf h k) = first_failing (
     (meets (is_of_kind Strong) (hold ix (hand_at ix p h)), NotHeld)
     ∷ (k == next_of ix p, Taken)
-    ∷ (meets (λ (w : Held). nat_lt w.counted.unowned ix.shape.caps.wide) (hold ix (hand_at ix p h)), WrongAnswer)
+    ∷ (meets (λ (w : Held). room_in ix.shape Unowned w.counted) (hold ix (hand_at ix p h)), WrongAnswer)
     ∷ [])
 verdict ix p (acts.WeakOf h k) = first_failing (
     (meets (is_of_kind Strong) (hold ix (hand_at ix p h)), NotHeld)
     ∷ (meets (λ (w : Held). is_some w.counted.entry) (hold ix (hand_at ix p h)), NoSuchObject)
     ∷ (k == next_of ix p, Taken)
-    ∷ (meets (λ (w : Held). nat_lt w.counted.weak ix.shape.caps.wide) (hold ix (hand_at ix p h)), WrongAnswer)
+    ∷ (meets (λ (w : Held). room_in ix.shape Weak w.counted) (hold ix (hand_at ix p h)), WrongAnswer)
     ∷ [])
 verdict ix p (acts.Load h (got.Hand k)) = first_failing (
     (meets (λ (w : Held). not (same_kind w.place.kind Strong)) (hold ix (hand_at ix p h)), NotHeld)
     ∷ (k == next_of ix p, Taken)
-    ∷ (meets (λ (w : Held). is_alive w.counted && nat_lt w.counted.strong ix.shape.caps.wide) (hold ix (hand_at ix p h)), WrongAnswer)
+    ∷ (meets (λ (w : Held). alive_in ix.shape w.counted && room_in ix.shape Strong w.counted) (hold ix (hand_at ix p h)), WrongAnswer)
     ∷ [])
 verdict ix p (acts.Load h got.Dead) = first_failing (
     (meets (is_of_kind Unowned) (hold ix (hand_at ix p h)), NotHeld)
-    ∷ (meets (λ (w : Held). not (is_alive w.counted)) (hold ix (hand_at ix p h)), WrongAnswer)
+    ∷ (meets (λ (w : Held). not (alive_in ix.shape w.counted)) (hold ix (hand_at ix p h)), WrongAnswer)
     ∷ [])
 verdict ix p (acts.Load h got.Nil) = first_failing (
     (meets (is_of_kind Weak) (hold ix (hand_at ix p h)), NotHeld)
-    ∷ (meets (λ (w : Held). not (is_alive w.counted)) (hold ix (hand_at ix p h)), WrongAnswer)
+    ∷ (meets (λ (w : Held). not (alive_in ix.shape w.counted)) (hold ix (hand_at ix p h)), WrongAnswer)
     ∷ [])
 verdict ix p (acts.Drop h last) = first_failing (
     (is_some (hold ix (hand_at ix p h)), NotHeld)
-    ∷ (meets (λ (w : Held). same_bool last (count_in w.place.kind w.counted == 1)) (hold ix (hand_at ix p h)), WrongAnswer)
+    ∷ (meets (λ (w : Held). same_bool last (alone_in ix.shape w.place.kind w.counted)) (hold ix (hand_at ix p h)), WrongAnswer)
     ∷ [])
 verdict ix p (acts.CountFull k from) =
-    then (has_it ix p from) (first_failing ((meets (λ (w : Held). count_in k w.counted == ix.shape.caps.wide) (hold ix (origin_at ix p from)), WrongAnswer) ∷ []))
+    then (has_it ix p from) (first_failing ((meets (λ (w : Held). full_in ix.shape k w.counted) (hold ix (origin_at ix p from)), WrongAnswer) ∷ []))
 verdict ix p (acts.Claim e) = first_failing ((not (is_some (owner_at e ix.entries)), Taken) ∷ [])
 verdict ix p acts.NoEntry = first_failing ((are_seen (mark_of ix p).entries ix.entries, NotTaken) ∷ [])
 verdict ix p (acts.Side s e why) = first_failing (
-    (is_some (in_slot ix s), NoSuchObject)
+    (meets (λ (w : Found). not (immortal_in ix.shape w.counted)) (in_slot ix s), NoSuchObject)
     ∷ (is_claim_of p (owner_at e ix.entries), WrongDuty)
     ∷ (meets (λ (w : Found). not (is_some w.counted.entry)) (in_slot ix s), Taken)
     ∷ (meets (λ (w : Found). stands_at_cap ix.shape why w.counted) (in_slot ix s), WrongAnswer)

@@ -1,17 +1,17 @@
 -- When an index stands for a history.
-use Rattle.std.specs.Prelude.{◌≡◌, ℕ, ◌+◌, ◌<◌, ◌≤◌, Bool, true, false, ◌==◌, List, [], ◌∷◌, if◌then◌else◌, Option, Some, None, slice_get, slice_index_or, length, count_by, ⊤}
+use Rattle.std.specs.Prelude.{◌≡◌, ℕ, ◌+◌, ◌<◌, ◌≤◌, Bool, true, false, ◌==◌, List, [], ◌∷◌, if◌then◌else◌, Option, Some, None, slice_get, length, count_by, ⊤}
 use Rattle.arc_model.specs.declared.event.CellName.{CellName}
 use Rattle.arc_model.specs.declared.event.CellName.TheVariants as cells
 use Rattle.arc_model.specs.declared.event.Origin.{Origin}
 use Rattle.arc_model.specs.declared.event.Origin.TheVariants as origins
 use Rattle.arc_model.specs.declared.event.Act.{Act}
 use Rattle.arc_model.specs.declared.event.Act.TheVariants as acts
-use Rattle.arc_model.specs.Shapes.{HeapShape}
+use Rattle.arc_model.specs.declared.shape.Kind.TheVariants.{Strong}
+use Rattle.arc_model.specs.Shapes.{HeapShape, class_at}
 use Rattle.arc_model.specs.Heaps.{Holder, Hand, Duty, Deinit, Vacating, Gone, Owed, Object, Claimed, Heap}
 use Rattle.arc_model.specs.Holders.{is_hand_of, in_slot, has_entry, claims_it, is_slot_taken, is_entry_taken, made_by}
 use Rattle.arc_model.specs.Cells.{cell}
-use Rattle.arc_model.specs.Lookup.{Spot, spot}
-use Rattle.arc_model.specs.Laws.{strong_in}
+use Rattle.arc_model.specs.Lookup.{Spot, spot, list_in}
 use Rattle.arc_model.specs.History.{History, heap_after, next_hand, ever_since, IsLegal}
 use Rattle.arc_heap_index.specs.declared.counted.Due.{Due}
 use Rattle.arc_heap_index.specs.declared.counted.Due.TheVariants as due
@@ -40,7 +40,7 @@ owed_of None = None
 owed_of (Some d) = Some (record { thread = d.thread; duty = duty_of_due d.due })
 
 -- The counts are the lengths of the object's lists, the rest is the object's.
-pub record IsCounted (wide : ℕ) (c : Counted) (o : Object) : Type 0 where
+pub record IsCounted (c : Counted) (o : Object) : Type 0 where
   pub id : c.id ≡ o.id
   pub class : c.class ≡ o.class
   pub slot : c.slot ≡ o.slot
@@ -49,12 +49,12 @@ pub record IsCounted (wide : ℕ) (c : Counted) (o : Object) : Type 0 where
   pub strong : c.strong ≡ length o.strong
   pub unowned : c.unowned ≡ length o.unowned
   pub weak : c.weak ≡ length o.weak
-  pub within : c.strong ≤ most wide
+  pub within : c.strong ≤ most
 
-abbrev pub AreCounted : ℕ → Option Counted → Option Object → Type 0
-AreCounted wide None None = ⊤
-AreCounted wide (Some c) (Some o) = IsCounted wide c o
-AreCounted wide _ _ = ⊥
+abbrev pub AreCounted : Option Counted → Option Object → Type 0
+AreCounted None None = ⊤
+AreCounted (Some c) (Some o) = IsCounted c o
+AreCounted _ _ = ⊥
 
 -- the object that the test is about
 abbrev pub is_so : (Object → Bool) → Option Object → Bool
@@ -85,13 +85,13 @@ IsCellInRange shape (cells.Global g) = g < length shape.globals
 -- The index tells what is in the heap: for each object its counts, for each hand and each cell the one place where it
 -- counts, for each slot and each entry who has it.
 pub record Tells (ix : Index) (heap : Heap) : Type 0 where
-  pub counted : (i : ℕ) → AreCounted ix.shape.caps.wide (slice_get ix.objects i) (slice_get heap.objects i)
+  pub counted : (i : ℕ) → AreCounted (slice_get ix.objects i) (slice_get heap.objects i)
   pub slots : (s i : ℕ) → is_so (in_slot s) (slice_get heap.objects i) ≡ is_object i (owner_at s ix.slots)
   pub entries : (e i : ℕ) → is_so (has_entry e) (slice_get heap.objects i) ≡ is_object i (owner_at e ix.entries)
   pub claims : (e : ℕ) → claimants e heap.claims ≡ claimant (owner_at e ix.entries)
   pub unclaimed : (s : ℕ) → claimant (owner_at s ix.slots) ≡ []
   pub made : (p : ℕ) → p < length ix.marks → (mark_of ix p).made ≡ made_by p heap.objects
-  pub reach : (p s i : ℕ) → p < length ix.marks → s < ix.shape.slots → is_object i (owner_at s ix.slots) ≡ true → reach_at ix p s ≡ hands_of p (strong_in (slice_get heap.objects i))
+  pub reach : (p s i : ℕ) → p < length ix.marks → s < ix.shape.slots → is_object i (owner_at s ix.slots) ≡ true → reach_at ix p s ≡ hands_of p (list_in Strong (slice_get heap.objects i))
   pub idle : (p s : ℕ) → p < length ix.marks → s < ix.shape.slots → owner_at s ix.slots ≡ None → reach_at ix p s ≡ 0
 
 pub record Points (ix : Index) (heap : Heap) : Type 0 where
@@ -113,7 +113,7 @@ pub record IsSized (ix : Index) : Type 0 where
   pub cells : length ix.cells ≡ ix.shape.slots + 1
   pub fields : (s : ℕ) → s < ix.shape.slots → length (row_of s ix.cells) ≡ 8
   pub globals : length (row_of ix.shape.slots ix.cells) ≡ length ix.shape.globals
-  pub few : (class : ℕ) → length (slice_index_or ix.shape.classes class []) ≤ 8
+  pub few : (class : ℕ) → length (class_at ix.shape class).fields ≤ 8
 
 pub record StandsFor (ix : Index) (h : History) : Type 0 where
   pub legal : IsLegal ix.shape h

@@ -1,7 +1,7 @@
 //! The index of a heap, and what stands where in it.
 
 ghost use Rattle.std.specs.Prelude.{◌≡◌};
-ghost use Rattle.arc_heap_judge.specs.Index.{hand_at, cell_at as place_of_cell, origin_at, hold as held, in_slot, with_entry as of_entry, mark_of as mark_at};
+ghost use Rattle.arc_heap_judge.specs.Index.{hand_at, cell_at as place_of_cell, origin_at, hold as held, in_slot, with_entry as of_entry, mark_of as mark_at, immortal_in};
 
 use arc_heap_index::{Counted, Found, Held, Mark, Owner, Place, Reach, Slots, Table};
 use arc_model::{CellName, Origin, Shape};
@@ -102,6 +102,16 @@ impl HeapIndex {
                 }),
             },
             _ => None,
+        }
+    }
+
+    /// The class of the object is immortal.
+    pub fn is_immortal(&self, c: Counted) -> bool
+        ensures { result ≡ immortal_in self.now.shape c }
+    {
+        match self.shape.classes().get(c.class as usize) {
+            None => false,
+            Some(class) => class.immortal,
         }
     }
 

@@ -6,19 +6,19 @@ ghost use Rattle.arc_model.specs.History.{History, judge};
 ghost use Rattle.arc_heap_judge.specs.Stands.{StandsFor, IsInRange, thread_count};
 ghost use Rattle.arc_model.specs.Cells.{same_kind};
 ghost use Rattle.arc_model.specs.declared.event.Act.{Act};
-ghost use Rattle.arc_heap_judge.specs.Index.{fields_in};
+ghost use Rattle.arc_model.specs.Shapes.{class_at};
+ghost use Rattle.arc_heap_judge.specs.Index.{alive_in, alone_in, room_in, full_in};
 ghost use Rattle.arc_heap_judge.specs.Judging.{verdict as judged, reaches, has_it, has_field_at, cell_shape_at, field_shape_at, gives, gets, are_empty, stands_at_cap, is_claim_of};
-ghost use Rattle.std.specs.Prelude.{length, ◌∷◌, [], ◌<◌, ◌^◌, slice_index_or, Some};
+ghost use Rattle.std.specs.Prelude.{length, ◌∷◌, [], ◌<◌, Some};
 ghost use Rattle.arc_model.specs.declared.event.Got.{Got};
 ghost use Rattle.arc_model.specs.declared.event.Illegal.{Illegal};
 ghost use Rattle.arc_heap_index.specs.declared.counted.Held.{Held};
 ghost use Rattle.arc_heap_judge.specs.Index.{hand_at, hold as held};
 ghost use Rattle.arc_heap_judge.specs.Judging.{meets, is_of_kind};
-ghost use Rattle.arc_heap_index.specs.Counting.{is_alive};
 ghost use Rattle.arc_heap_index.specs.Freeing.{owner_at};
 
 use crate::heap_index::HeapIndex;
-use arc_heap_index::{Counted, Due, Found, Owner, count, is_live, owes};
+use arc_heap_index::{Counted, Due, Found, Owner, count, holders, is_live, owes};
 use arc_model::{Act, CellName, Got, Illegal, Kind, Origin, RefShape};
 
 fn is_kind(a: Kind, b: Kind) -> bool
@@ -34,7 +34,7 @@ fn is_kind(a: Kind, b: Kind) -> bool
 
 impl HeapIndex {
     fn field_count(&self, class: u32) -> usize
-        ensures { result ≡ length (slice_index_or self.now.shape.classes class []) }
+        ensures { result ≡ length (class_at self.now.shape class).fields }
     {
         match self.shape.classes().get(class as usize) {
             None => 0,
@@ -46,6 +46,33 @@ impl HeapIndex {
         ensures { result ≡ has_field_at self.now.shape field w }
     {
         (field as usize) < self.field_count(w.counted.class)
+    }
+
+    fn lives(&self, c: Counted) -> bool
+        ensures { result ≡ alive_in self.now.shape c }
+    {
+        is_live(self.is_immortal(c), c)
+    }
+
+    // The list has no other holder.
+    fn is_alone(&self, kind: Kind, c: Counted) -> bool
+        ensures { result ≡ alone_in self.now.shape kind c }
+    {
+        holders(self.is_immortal(c), kind, c) == 1
+    }
+
+    // The list may grow.
+    fn has_room(&self, kind: Kind, c: Counted) -> bool
+        ensures { result ≡ room_in self.now.shape kind c }
+    {
+        count(kind, c) < self.shape.caps().wide() || self.is_immortal(c)
+    }
+
+    // The list has all the holders that it may have.
+    fn is_full(&self, kind: Kind, c: Counted) -> bool
+        ensures { result ≡ full_in self.now.shape kind c }
+    {
+        !self.is_immortal(c) && count(kind, c) == self.shape.caps().wide()
     }
 
     // The thread can reach the cell.
@@ -132,7 +159,7 @@ impl HeapIndex {
                 match self.hold(self.origin(thread, from)) {
                     None => Some(Illegal::WrongAnswer),
                     Some(w) => {
-                        if count(w.place.kind, w.counted) >= self.shape.caps().wide() {
+                        if !self.has_room(w.place.kind, w.counted) {
                             return Some(Illegal::WrongAnswer);
                         }
                         None
@@ -154,7 +181,7 @@ impl HeapIndex {
         if hand as usize != self.hands.length(thread) {
             return Some(Illegal::Taken);
         }
-        if w.counted.unowned >= self.shape.caps().wide() {
+        if !self.has_room(Kind::Unowned, w.counted) {
             return Some(Illegal::WrongAnswer);
         }
         None
@@ -175,7 +202,7 @@ impl HeapIndex {
         if hand as usize != self.hands.length(thread) {
             return Some(Illegal::Taken);
         }
-        if w.counted.weak >= self.shape.caps().wide() {
+        if !self.has_room(Kind::Weak, w.counted) {
             return Some(Illegal::WrongAnswer);
         }
         None
@@ -193,17 +220,17 @@ impl HeapIndex {
         if hand as usize != self.hands.length(thread) {
             return Some(Illegal::Taken);
         }
-        if !is_live(w.counted) {
+        if !self.lives(w.counted) {
             return Some(Illegal::WrongAnswer);
         }
-        if w.counted.strong >= self.shape.caps().wide() {
+        if !self.has_room(Kind::Strong, w.counted) {
             return Some(Illegal::WrongAnswer);
         }
         None
     }
 
     fn judge_dead(&self, thread: u32, of: u32, kind: Kind) -> Option<Illegal>
-        ensures { result ≡ first_failing ((meets (is_of_kind kind) (held self.now (hand_at self.now thread of)), Illegal.NotHeld) ∷ (meets (λ (w : Held). not (is_alive w.counted)) (held self.now (hand_at self.now thread of)), Illegal.WrongAnswer) ∷ []) }
+        ensures { result ≡ first_failing ((meets (is_of_kind kind) (held self.now (hand_at self.now thread of)), Illegal.NotHeld) ∷ (meets (λ (w : Held). not (alive_in self.now.shape w.counted)) (held self.now (hand_at self.now thread of)), Illegal.WrongAnswer) ∷ []) }
     {
         let Some(w) = self.hold(self.hand(thread, of)) else {
             return Some(Illegal::NotHeld);
@@ -211,7 +238,7 @@ impl HeapIndex {
         if !is_kind(w.place.kind, kind) {
             return Some(Illegal::NotHeld);
         }
-        if is_live(w.counted) {
+        if self.lives(w.counted) {
             return Some(Illegal::WrongAnswer);
         }
         None
@@ -223,7 +250,7 @@ impl HeapIndex {
         let Some(w) = self.hold(self.hand(thread, hand)) else {
             return Some(Illegal::NotHeld);
         };
-        if last != (count(w.place.kind, w.counted) == 1) {
+        if last != self.is_alone(w.place.kind, w.counted) {
             return Some(Illegal::WrongAnswer);
         }
         None
@@ -237,7 +264,7 @@ impl HeapIndex {
             None => match self.hold(self.origin(thread, from)) {
                 None => Some(Illegal::WrongAnswer),
                 Some(w) => {
-                    if count(list, w.counted) != self.shape.caps().wide() {
+                    if !self.is_full(list, w.counted) {
                         return Some(Illegal::WrongAnswer);
                     }
                     None
@@ -270,10 +297,10 @@ impl HeapIndex {
     {
         match why {
             Kind::Strong => {
-                is_live(c) && u64::from(c.strong) == u64::from(self.shape.caps().strong()) + 1
+                self.lives(c) && u64::from(c.strong) == u64::from(self.shape.caps().strong()) + 1
             }
             Kind::Unowned => c.unowned == self.shape.caps().unowned(),
-            Kind::Weak => is_live(c),
+            Kind::Weak => self.lives(c),
         }
     }
 
@@ -283,6 +310,9 @@ impl HeapIndex {
         let Some(w) = self.slot_object(slot) else {
             return Some(Illegal::NoSuchObject);
         };
+        if self.is_immortal(w.counted) {
+            return Some(Illegal::NoSuchObject);
+        }
         if !self.has_claimed(thread, entry) {
             return Some(Illegal::Duty);
         }

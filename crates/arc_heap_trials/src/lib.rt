@@ -2,6 +2,8 @@
 #![tactic(auto)]
 
 #[cfg(test)]
+mod forever;
+#[cfg(test)]
 mod tests;
 #[cfg(test)]
 mod trials;

@@ -3,6 +3,7 @@
 ghost use Rattle.std.specs.Prelude.{◌≡◌, true};
 ghost use Rattle.arc_heap_judge.specs.Stands.{IsCellInRange, IsOriginInRange, IsInRange, thread_count};
 
+use crate::forever::FOREVER;
 use crate::trials::{TRIALS, Trial};
 use arc_heap::{ModelHeap, Refusal};
 use arc_model::{
@@ -109,9 +110,11 @@ fn small(alloc: Global) -> Result<Shape, Memory> {
     let mut classes = Vec::new(alloc);
     classes.push(ClassShape {
         fields: refs(alloc, 1)?,
+        immortal: false,
     })?;
     classes.push(ClassShape {
         fields: Vec::new(alloc),
+        immortal: false,
     })?;
     Shape::new(2, 2, caps, classes, refs(alloc, 0)?).map_err(|_| Memory)
 }
@@ -133,5 +136,33 @@ fn each_trial_is_answered_as_it_is_to_be(rt: HostRuntime) -> Result<(), Memory> 
         assert_eq!(rt; heap.life(object), life);
         assert_eq!(rt; heap.holders(object, Kind::Weak), weak);
     }
+    Ok(())
+}
+
+fn immortal(alloc: Global) -> Result<Shape, Memory> {
+    let caps = Caps::new(0, 1, 1).map_err(|_| Memory)?;
+    let mut classes = Vec::new(alloc);
+    classes.push(ClassShape {
+        fields: Vec::new(alloc),
+        immortal: true,
+    })?;
+    Shape::new(1, 1, caps, classes, Vec::new(alloc)).map_err(|_| Memory)
+}
+
+/// An object of an immortal class stays live after the release of every reference.
+#[test]
+fn an_immortal_object_stays(rt: HostRuntime) -> Result<(), Memory> {
+    let shape = immortal(rt.alloc())?;
+    let mut heap = ModelHeap::make(rt.alloc(), shape.copy(rt.alloc())?, 2)?;
+    assert_eq!(rt; first_wrong(&mut heap, &shape, FOREVER), None);
+    assert_eq!(rt; heap.objects(), 1);
+    let object = ObjectId {
+        thread: 1,
+        number: 1,
+    };
+    assert_eq!(rt; heap.life(object), Some(Life::Live));
+    assert_eq!(rt; heap.holders(object, Kind::Strong), Some(1));
+    assert_eq!(rt; heap.holders(object, Kind::Unowned), Some(1));
+    assert_eq!(rt; heap.holders(object, Kind::Weak), Some(1));
     Ok(())
 }

@@ -1,3 +1,5 @@
+//! The calls that read all of a source and write all to a sink.
+
 ghost use Rattle.std.specs.Prelude.{◌≡◌, ◌+◌, ◌≤◌, vec_len, IfOk, OnOk, OnErr, IfSome, IsErrOf};
 ghost use Rattle.std.specs.Io.KnownBytes.{Appends, IsAtEnd};
 ghost use Rattle.arc_io.specs.Causes.{Rose, HasCause, CountsFault, next_count};

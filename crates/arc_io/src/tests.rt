@@ -1,3 +1,5 @@
+//! Tests with readers and writers of the host that fail, stop or give little.
+
 use super::*;
 use std::alloc::{AllocError, Global};
 use std::io;

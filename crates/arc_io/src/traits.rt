@@ -1,3 +1,5 @@
+//! What a source and a sink are, by their bytes and their counts of faults.
+
 ghost use Rattle.std.specs.Prelude.{ℕ, ◌<◌, List, length, IfOk};
 ghost use Rattle.std.specs.declared.option.Option.{Option};
 ghost use Rattle.std.specs.Io.{ReadsAtMost, WritesAtMost};

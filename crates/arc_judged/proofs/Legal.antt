@@ -1,5 +1,5 @@
 -- What a replay writes is a text of a legal history.
-use Rattle.std.proofs.Common.{◌≡◌, ℕ, ◌+◌, List, [], ◌∷◌, ◌++◌, length, map, reverse, Option, Some, None, Result, Ok, Err, refl, sym, ap, subst, ◌∙◌, append_assoc, append-nil, arith}
+use Rattle.std.proofs.Common.{◌≡◌, ℕ, ◌+◌, ◌<◌, ◌^◌, List, [], ◌∷◌, ◌++◌, length, map, reverse, Option, Some, None, Result, Ok, Err, refl, sym, ap, subst, ◌∙◌, append_assoc, append-nil, arith}
 use Rattle.std.specs.Prelude.{IsOkAnd}
 use Rattle.std.proofs.lemmas.List.{map-append, reverse-append}
 use Rattle.arc_model.specs.declared.event.Illegal.{Illegal}
@@ -22,7 +22,7 @@ use Rattle.arc_check.specs.declared.line.EventLine.{EventLine}
 use Rattle.arc_check.specs.EventTexts.{HistoryText, history_of}
 use Rattle.arc_check.specs.WrittenHistory.{numbered, first_line}
 use Rattle.arc_check.specs.Verdicts.{told_after, history_in, IsFirstIllegal, AreLegal, Checks}
-use Rattle.arc_read_back.specs.ReadBack.{unlined, told_of}
+use Rattle.arc_read_back.specs.ReadBack.{HasHeading, unlined, told_of}
 use Rattle.arc_read_back.proofs.Texts.{read_alone, read_behind}
 use Rattle.arc_judged.specs.Verdicts.{SaysLegal}
 use Rattle.arc_judged.specs.Written.{report_of, written, HoldsLegal, IsWrittenLegal, IsCheckedLegal}
@@ -53,16 +53,19 @@ are_legal s r replay =
 read_so : (said : Result HistoryText Refusal) (t : HistoryText) (n : ℕ) → said ≡ Ok t → AreLegal t n → IsOkAnd said (λ (t : HistoryText). AreLegal t n)
 read_so said t n read legal = subst (λ (x : Result HistoryText Refusal). IsOkAnd x (λ (t : HistoryText). AreLegal t n)) (sym read) legal
 
+has_heading : (s : Script) → IsScript s → s.shape.caps.wide < 2 ^ 32 → HasHeading s
+has_heading s valid wide = record { version = valid.version; classes_of_version = valid.classes_of_version; heading = valid.heading; wide_cap = wide; few_threads = valid.few_threads }
+
 pub legal_alone : (s : Script) (r : Replay) → IsScript s → IsServed s → IsReplay s r → HoldsLegal (history s r.events.items) (length r.events.items)
 legal_alone s r valid served replay =
     let wide = served.wide_cap in
-    read_so (history_of (history s r.events.items)) (events_of s r) (length r.events.items) (read_alone s r.events.items valid.heading (omega arith) valid.few_threads (replay_fits s r valid served replay)) (are_legal s r replay)
+    read_so (history_of (history s r.events.items)) (events_of s r) (length r.events.items) (read_alone s r.events.items (has_heading s valid (omega arith)) (replay_fits s r valid served replay)) (are_legal s r replay)
 
 pub legal_behind : (s : Script) (r : Replay) → IsScript s → IsServed s → IsReplay s r → IsWrittenLegal s r
 legal_behind s r valid served replay =
     let wide = served.wide_cap in
     read_so (history_of (written s r)) (events_of s r) (length r.events.items)
-    (read_behind s r.events.items (report_of s r) valid.heading (omega arith) valid.few_threads (replay_fits s r valid served replay) (replay_before s r valid replay)) (are_legal s r replay)
+    (read_behind s r.events.items (report_of s r) (has_heading s valid (omega arith)) (replay_fits s r valid served replay) (replay_before s r valid replay)) (are_legal s r replay)
 
 -- ---- what the judge says of a text whose events are legal
 

@@ -1,6 +1,6 @@
 -- The report of a replay goes before a history text.
 use Rattle.std.proofs.Common.{◌≡◌, ℕ, zero, suc, ◌-◌, ◌<◌, Bool, true, false, cond, eqb, ◌&&◌, List, [], ◌∷◌, ◌++◌, length, map, get_or, refl, sym, ap, subst, ◌∙◌, append_assoc, arith}
-use Rattle.std.specs.Prelude.{not, codes, All}
+use Rattle.std.specs.Prelude.{not, codes, slice_index_or, All}
 use Rattle.std.specs.List.{AllByRecursion, flat_map}
 use Rattle.std.specs.Fmt.{decimal}
 use Rattle.std.proofs.lemmas.List.{length-map}
@@ -9,23 +9,24 @@ use Rattle.arc_text.specs.Words.{is_name}
 use Rattle.arc_model.specs.declared.event.ObjectName.{ObjectName}
 use Rattle.arc_model.specs.declared.answer.Answer.{Answer}
 use Rattle.arc_model.specs.declared.answer.Answer.TheVariants as answer
-use Rattle.arc_rule.specs.Extents.{Extent}
+use Rattle.arc_rule.specs.Isa.{isa_name_of}
+use Rattle.arc_model.specs.Shapes.{ObjectClass}
 use Rattle.arc_rule.specs.Places.{extent_of}
 use Rattle.arc_rule.specs.declared.layout.Place.TheVariants as place
 use Rattle.arc_script.specs.declared.answer.Line.{Line}
 use Rattle.arc_script.specs.declared.script.ClassDecl.{ClassDecl}
 use Rattle.arc_script.specs.declared.script.Script.{Script}
-use Rattle.arc_script.specs.Valid.{name_at, class_names, IsScript}
+use Rattle.arc_script.specs.Valid.{name_at, class_names, class_refs, immortals_of, IsScript}
 use Rattle.arc_ops.specs.declared.told.ThreadLines.{ThreadLines}
 use Rattle.arc_plain.specs.declared.replay.Replay.{Replay}
-use Rattle.arc_replays.specs.Empty.{AreEmpty}
+use Rattle.arc_replays.specs.Left.{isa_of, OnlyImmortals}
 use Rattle.arc_replays.specs.Named.{LineFits}
 use Rattle.arc_plain.specs.Replays.{IsReplay}
 use Rattle.arc_report.specs.Names.{object_text}
 use Rattle.arc_report.specs.Lines.{answer_text, operation_text, line_text, thread_text, end_line_text, end_text, object_total, deinit_total}
-use Rattle.arc_report.specs.Order.{in_order}
 use Rattle.arc_report.specs.Words.{word_at, is_taken, is_freed, has_entry, numbers_where}
-use Rattle.arc_report.specs.Leaks.{leak_at, leak_cmp, leak_text, freed_of, freed_text}
+use Rattle.arc_report.specs.Leaks.{leaks_of, leak_at, leak_name, leak_text, freed_of, freed_text}
+use Rattle.arc_report.proofs.AllThere.{each_leak}
 use Rattle.arc_report.specs.Report.{totals_text, left_text, left_total}
 use Rattle.arc_check.specs.Behind.{GoesBefore}
 use Rattle.arc_check.proofs.OtherLines.{Unbroken, none_before, both_before, each_before}
@@ -90,7 +91,7 @@ totals_go objects deinits leaks =
     (part (codes " leaks ") (decimal leaks ++ codes "\n") (unbroken_test (codes " leaks ") refl)
     (part (decimal leaks) (10 ∷ []) (decimal_unbroken leaks) line_end)))))
 
--- ---- nothing is left
+-- ---- immortal objects alone are left
 
 nowhere : (test : ℕ → Bool) (n : ℕ) → ((k : ℕ) → k < n → test k ≡ false) → numbers_where test n ≡ []
 unfolding numbers_where
@@ -100,12 +101,44 @@ nowhere test (suc n) h =
     let before = nowhere test n (λ k below. h k (omega arith)) in
     rw (last, before) refl
 
-left_is : (names : List (List ℕ)) (l : Extent) (words : List ℕ) → AreEmpty l words → left_text names l words ≡ []
-left_is names l words empty =
-    let taken : numbers_where (is_taken l words) l.slots ≡ [] = nowhere (is_taken l words) l.slots (λ s below. ap (λ (w : ℕ). not (eqb w 0)) (empty.counts s below)) in
-    let freed : numbers_where (is_freed l words) l.entries ≡ [] = nowhere (is_freed l words) l.entries (λ e below. ap (λ (w : ℕ). not (eqb w 0) && not (has_entry l words (word_at l words (place.Link e) - 1) e)) (empty.links e below)) in
-    ap (λ (ns : List ℕ). flat_map (leak_text names l words) (in_order leak_cmp (map (leak_at l words) ns)) ++ flat_map (freed_text l words) (freed_of l words)) taken
-    ∙ ap (λ (ns : List ℕ). flat_map (freed_text l words) ns) freed
+-- whether a class is immortal, by its declaration and by the shape
+immortal_at : (classes : List ClassDecl) (n : ℕ) → (slice_index_or {A = ObjectClass} (class_refs classes) n (record { fields = []; immortal = false })).immortal ≡ slice_index_or (immortals_of classes) n false
+immortal_at [] n = refl
+immortal_at (c ∷ classes) zero = refl
+immortal_at (c ∷ classes) (suc n) = immortal_at classes n
+
+module _ (s : Script) (words : List ℕ) (valid : IsScript s) (left : OnlyImmortals s.shape words) where
+  abbrev names : List (List ℕ)
+  names = class_names s.classes
+
+  classes_count : length s.shape.classes ≡ length names
+  classes_count = ap length valid.heading.of_classes ∙ length-map s.classes _ ∙ sym (length-map s.classes (λ (c : ClassDecl). c.name))
+
+  -- an object that is left is immortal, and its line says so
+  immortal_goes : (slot : ℕ) → slot < s.shape.slots → is_taken (extent_of s.shape) words slot ≡ true → GoesBefore (leak_text s.classes (extent_of s.shape) words (leak_at (extent_of s.shape) words slot))
+  immortal_goes slot there taken =
+      let its = left.slots slot there taken in
+      let class = (isa_name_of (isa_of s.shape words slot)).class in
+      let class_there = its.class_there in
+      let count = classes_count in
+      let undying : slice_index_or (immortals_of s.classes) class false ≡ true =
+      sym (immortal_at s.classes class)
+      ∙ ap (λ (cs : List ObjectClass). (slice_index_or {A = ObjectClass} cs class (record { fields = []; immortal = false })).immortal) (sym valid.heading.of_classes)
+      ∙ its.immortal in
+      let within : class < length names = omega arith in
+      let name = leak_name names (leak_at (extent_of s.shape) words slot) in
+      let whole : Unbroken name = object_unbroken names valid.heading.classes_named.names.spelled (isa_name_of (isa_of s.shape words slot)) within in
+      rw undying (opened (codes "immortal ") (name ++ 10 ∷ []) (refl, refl, unbroken_test (codes "immortal ") refl) (part name (10 ∷ []) whole line_end))
+
+  left_goes : GoesBefore (left_text s.classes (extent_of s.shape) words)
+  left_goes =
+      let freed : numbers_where (is_freed (extent_of s.shape) words) s.shape.entries ≡ [] =
+      nowhere (is_freed (extent_of s.shape) words) s.shape.entries
+      (λ e below. ap (λ (b : Bool). b && not (has_entry (extent_of s.shape) words (word_at (extent_of s.shape) words (place.Link e) - 1) e)) (left.entries e below)) in
+      let none : GoesBefore (flat_map (freed_text (extent_of s.shape) words) (freed_of (extent_of s.shape) words)) =
+      subst (λ (es : List ℕ). GoesBefore (flat_map (freed_text (extent_of s.shape) words) es)) (sym freed) none_before in
+      both_before (flat_map (leak_text s.classes (extent_of s.shape) words) (leaks_of (extent_of s.shape) words)) (flat_map (freed_text (extent_of s.shape) words) (freed_of (extent_of s.shape) words))
+      (each_before (λ leak. GoesBefore (leak_text s.classes (extent_of s.shape) words leak)) (leak_text s.classes (extent_of s.shape) words) (λ leak goes. goes) (leaks_of (extent_of s.shape) words) (each_leak GoesBefore s.classes (extent_of s.shape) words immortal_goes)) none
 
 -- the lines of all threads
 lines_all : (n : ℕ) (threads : List ThreadLines) → All (λ (t : ThreadLines). All (LineFits n) t.lines) threads → AllByRecursion (λ (t : ThreadLines). AllByRecursion (LineFits n) t.lines) threads
@@ -121,19 +154,19 @@ abbrev end_in : Script → Replay → List ℕ
 end_in s r = end_text (class_names s.classes) r.end.items
 
 abbrev left_in : Script → Replay → List ℕ
-left_in s r = left_text (class_names s.classes) (extent_of s.shape) r.words.items
+left_in s r = left_text s.classes (extent_of s.shape) r.words.items
 
 abbrev totals_in : Script → Replay → List ℕ
-totals_in s r = totals_text (object_total r.threads.items) (deinit_total r.threads.items r.end.items) (left_total (extent_of s.shape) r.words.items)
+totals_in s r = totals_text (object_total r.threads.items) (deinit_total r.threads.items r.end.items) (left_total s.classes (extent_of s.shape) r.words.items)
 
 pub replay_before : (s : Script) (r : Replay) → IsScript s → IsReplay s r → GoesBefore (report_of s r)
 replay_before s r valid replay =
     both_before (codes "report 1\n") (lines_in s r ++ (end_in s r ++ (left_in s r ++ totals_in s r))) (opened (codes "report 1") (10 ∷ []) (refl, refl, unbroken_test (codes "report 1") refl) line_end)
     (both_before (lines_in s r) (end_in s r ++ (left_in s r ++ totals_in s r)) threads (both_before (end_in s r) (left_in s r ++ totals_in s r) end (both_before (left_in s r) (totals_in s r) none
-    (totals_go (object_total r.threads.items) (deinit_total r.threads.items r.end.items) (left_total (extent_of s.shape) r.words.items)))))
+    (totals_go (object_total r.threads.items) (deinit_total r.threads.items r.end.items) (left_total s.classes (extent_of s.shape) r.words.items)))))
   where
-    none : GoesBefore (left_text (class_names s.classes) (extent_of s.shape) r.words.items)
-    none = subst GoesBefore (sym (left_is (class_names s.classes) (extent_of s.shape) r.words.items replay.left)) none_before
+    none : GoesBefore (left_text s.classes (extent_of s.shape) r.words.items)
+    none = left_goes s r.words.items valid replay.left
 
     spelled : (i : ℕ) → i < length (class_names s.classes) → is_name (name_at (class_names s.classes) i) ≡ true
     spelled = valid.heading.classes_named.names.spelled

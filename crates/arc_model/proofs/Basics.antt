@@ -2,7 +2,9 @@
 use Rattle.std.proofs.Common.{◌≡◌, Bool, true, false, cond, not, List, [], ◌∷◌, ◌++◌, Option, Some, None, refl, sym, ap, ◌∙◌}
 use Rattle.std.specs.Prelude.{◌||◌, ⊤}
 use Rattle.arc_model.specs.Heaps.{Holder, Object}
-use Rattle.arc_model.specs.Holders.{same_holder, is_in, is_empty, is_alone, is_live, renamed, without}
+use Rattle.arc_model.specs.Holders.{same_holder, is_in, is_empty, is_alone, renamed, without}
+use Rattle.arc_model.specs.Shapes.{HeapShape, class_at}
+use Rattle.arc_model.specs.Cells.{forever_if, is_immortal, strong_holders, is_live}
 use Rattle.arc_model.specs.Needs.{Need, first_failing, passes}
 
 pub true≢false : true ≡ false → ⊥
@@ -76,9 +78,58 @@ pub in-not_empty : (x : Holder) (xs : List Holder) → is_in x xs ≡ true → i
 in-not_empty x [] held = absurd (true≢false (sym held))
 in-not_empty x (z ∷ zs) held = refl
 
+append-none : (xs : List Holder) → xs ++ [] ≡ xs
+append-none [] = refl
+append-none (x ∷ xs) = ap (λ ys. x ∷ ys) (append-none xs)
+
 pub empty-is : (xs : List Holder) → is_empty xs ≡ true → xs ≡ []
 empty-is [] e = refl
 empty-is (x ∷ xs) e = absurd (true≢false (sym e))
 
-pub live-not_empty : (o : Object) → is_live o ≡ true → is_empty o.strong ≡ false
-live-not_empty o h = opposite (is_empty o.strong) h
+pub live-not_empty : (shape : HeapShape) (o : Object) → is_live shape o ≡ true → is_empty (strong_holders shape o) ≡ false
+live-not_empty shape o h = opposite (is_empty (strong_holders shape o)) h
+
+-- all strong holders: those that are stored, and where the class is immortal one more
+pub append-not_empty : (xs ys : List Holder) → is_empty xs ≡ false → is_empty (xs ++ ys) ≡ false
+append-not_empty [] ys h = absurd (true≢false h)
+append-not_empty (x ∷ xs) ys h = refl
+
+pub some-strong : (shape : HeapShape) (o : Object) → is_empty o.strong ≡ false → is_empty (strong_holders shape o) ≡ false
+some-strong shape o h = append-not_empty o.strong (forever_if (is_immortal shape o)) h
+
+pub in-strong : (shape : HeapShape) (x : Holder) (o : Object) → is_in x o.strong ≡ true → is_empty (strong_holders shape o) ≡ false
+in-strong shape x o held = some-strong shape o (in-not_empty x o.strong held)
+
+pub empty-append : (xs ys zs : List Holder) → is_empty xs ≡ is_empty ys → is_empty (xs ++ zs) ≡ is_empty (ys ++ zs)
+empty-append [] [] zs h = refl
+empty-append [] (y ∷ ys) zs h = absurd (true≢false h)
+empty-append (x ∷ xs) [] zs h = absurd (true≢false (sym h))
+empty-append (x ∷ xs) (y ∷ ys) zs h = refl
+
+-- without a strong holder none is stored, and the class isn't immortal
+pub none-strong : (shape : HeapShape) (o : Object) → is_empty (strong_holders shape o) ≡ true → (o.strong ≡ []) × (is_immortal shape o ≡ false)
+none-strong shape o h = go o.strong (is_immortal shape o) h
+  where
+    go : (xs : List Holder) (b : Bool) → is_empty (xs ++ forever_if b) ≡ true → (xs ≡ []) × (b ≡ false)
+    go [] true h = absurd (true≢false (sym h))
+    go [] false h = (refl, refl)
+    go (x ∷ xs) b h = absurd (true≢false (sym h))
+
+pub same-holders : (shape : HeapShape) (o q : Object) → q.class ≡ o.class → q.strong ≡ o.strong → strong_holders shape q ≡ strong_holders shape o
+same-holders shape o q class strong = ap (λ c. q.strong ++ forever_if (class_at shape c).immortal) class ∙ ap (λ xs. xs ++ forever_if (is_immortal shape o)) strong
+
+-- of two strong holders or more, one that is stored leaves another
+pub strong-without : (b : Bool) (x : Holder) (xs : List Holder) → is_in x xs ≡ true → is_alone (xs ++ forever_if b) ≡ false → is_empty (without x xs ++ forever_if b) ≡ is_empty (xs ++ forever_if b)
+strong-without true x xs held h = some-last (without x xs) ∙ sym (some-last xs)
+  where
+    some-last : (ys : List Holder) → is_empty (ys ++ forever_if true) ≡ false
+    some-last [] = refl
+    some-last (y ∷ ys) = refl
+strong-without false x xs held h = ap is_empty (append-none (without x xs)) ∙ empty-without x xs (ap is_alone (sym (append-none xs)) ∙ h) ∙ ap is_empty (sym (append-none xs))
+
+-- the strong holders lose their one holder
+pub strong-last : (b : Bool) (x : Holder) (xs : List Holder) → is_in x xs ≡ true → is_alone (xs ++ forever_if b) ≡ true → is_empty (without x xs ++ forever_if b) ≡ true
+strong-last true x [] held alone = absurd (true≢false (sym held))
+strong-last true x (z ∷ []) held alone = absurd (true≢false (sym alone))
+strong-last true x (z ∷ y ∷ ys) held alone = absurd (true≢false (sym alone))
+strong-last false x xs held alone = ap is_empty (append-none (without x xs)) ∙ alone-without x xs held (ap is_alone (sym (append-none xs)) ∙ alone)

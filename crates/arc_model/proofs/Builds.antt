@@ -9,14 +9,14 @@ use Rattle.arc_model.specs.declared.event.Act.{Act}
 use Rattle.arc_model.specs.declared.event.Act.TheVariants as acts
 use Rattle.arc_model.specs.declared.shape.Kind.{Kind}
 use Rattle.arc_model.specs.declared.shape.Kind.TheVariants.{Strong, Unowned, Weak}
-use Rattle.arc_model.proofs.Basics.{opposite, empty-push, empty-renamed, empty-without, None≢Some, alone-without, in-not_empty}
-use Rattle.arc_model.proofs.Stages.{live-facts, dying-facts, vacating-facts, gone-facts, duty-is, duty-apart, PlainKept, whole-edited, plain-own, strongs-apart, unowneds-apart, in-kind, one_list}
+use Rattle.arc_model.proofs.Basics.{opposite, some-strong, in-strong, empty-append, same-holders, strong-without, strong-last, empty-push, empty-renamed, empty-without, None≢Some, alone-without, in-not_empty}
+use Rattle.arc_model.proofs.Stages.{live-facts, dying-facts, vacating-facts, gone-facts, duty-is, duty-apart, PlainKept, whole-edited, plain-own, strongs-apart, unowneds-apart, forever-apart, in-kind, one_list}
 use Rattle.arc_model.proofs.Tally.{no, clash, same-eq, in-tally, tally-in, renamed-absent, gains-present, gains-absent, alone-two}
 use Rattle.arc_model.proofs.Turns.{IsPut, old-put, put-found, total-append, place-put, Edit, keep, join, rename, leave, edited, goes, comes, Fits, tally-edited, is_join, Source, is_open_to, Turn}
 use Rattle.arc_model.specs.Effects.{becomes, entry_to, entry_of_last, ended_if, owing, owing_none, finished, left_slot, gone, claimed_if}
-use Rattle.arc_model.specs.Heaps.{Holder, Hand, Field, Strongs, Unowneds, Duty, Deinit, Vacating, Gone, Owed, Object, Claimed, Heap}
-use Rattle.arc_model.specs.Holders.{same_holder, is_in, is_empty, is_alone, holds, kind_in, list_of, lists, with_list, at_first, gains, renamed, without, with_last, change, is_live, is_number, claims_it, is_claimed_by, same_duty, is_duty, is_by}
-use Rattle.arc_model.specs.Cells.{has_field}
+use Rattle.arc_model.specs.Heaps.{Holder, Hand, Field, Strongs, Unowneds, Forever, Duty, Deinit, Vacating, Gone, Owed, Object, Claimed, Heap}
+use Rattle.arc_model.specs.Holders.{same_holder, is_in, is_empty, is_alone, holds, kind_in, list_of, lists, with_list, at_first, gains, renamed, without, with_last, change, is_number, claims_it, is_claimed_by, same_duty, is_duty, is_by}
+use Rattle.arc_model.specs.Cells.{has_field, is_immortal, forever_if, strong_holders, holders_of, is_live}
 use Rattle.arc_model.specs.Lookup.{owed_by}
 use Rattle.arc_model.specs.Own.{ends, ends_hand}
 use Rattle.arc_model.specs.Needs.{same_bool}
@@ -61,28 +61,28 @@ pub le-refl : (n : ℕ) → n ≤ n
 le-refl n = omega arith
 
 -- whole, by its place
-pub whole-of : {shape : HeapShape} (next : ℕ → ℕ) (heap : Heap) (rest : List Object) (o q : Object) → IsWellFormed shape next heap → IsPut heap.objects rest o q → IsWhole o
+pub whole-of : {shape : HeapShape} (next : ℕ → ℕ) (heap : Heap) (rest : List Object) (o q : Object) → IsWellFormed shape next heap → IsPut heap.objects rest o q → IsWhole shape o
 whole-of next heap rest o q f g = let r = place-put heap.objects rest o q g in f.whole r.0 o r.1
 
 -- a field that an edit brings is one of a live object
 abbrev pub Puts : HeapShape → Heap → Edit → Type 0
-Puts shape new e = (id : ObjectId) (f : ℕ) → comes e (Field id f) ≡ true → HasField shape is_live id f new
+Puts shape new e = (id : ObjectId) (f : ℕ) → comes e (Field id f) ≡ true → HasField shape (is_live shape) id f new
 
 -- a field that an edit takes a reference out of is open to p
 abbrev pub Takes : HeapShape → ℕ → Heap → Edit → Type 0
-Takes shape p old e = (id : ObjectId) (f : ℕ) → goes e (Field id f) ≡ true → HasField shape (is_open_to p) id f old
+Takes shape p old e = (id : ObjectId) (f : ℕ) → goes e (Field id f) ≡ true → HasField shape (is_open_to shape p) id f old
 
 -- what joins a list has a source
-abbrev pub Joins : ℕ → Object → Kind → Edit → Type 0
-Joins p o k e = is_join e ≡ true → Source p o k
+abbrev pub Joins : HeapShape → ℕ → Object → Kind → Edit → Type 0
+Joins shape p o k e = is_join e ≡ true → Source shape p o k
 
 or-true : (b : Bool) → (b || true) ≡ true
 or-true true = refl
 or-true false = refl
 
 -- without strong holders and with no deinit owed an object has no fields
-no-fields : {A : Type 0} (o : Object) → is_empty o.strong ≡ true → is_duty Deinit o.owed ≡ false → keeps_fields o ≡ true → A
-no-fields o s d h = no (sym (ap (λ b. not b || is_duty Deinit o.owed) s ∙ d) ∙ h)
+no-fields : {A : Type 0} (shape : HeapShape) (o : Object) → is_empty (strong_holders shape o) ≡ true → is_duty Deinit o.owed ≡ false → keeps_fields shape o ≡ true → A
+no-fields shape o s d h = no (sym (ap (λ b. not b || is_duty Deinit o.owed) s ∙ d) ∙ h)
 
 not-deinit : (a : Duty) (m : Option Owed) → same_duty Deinit a ≡ false → is_duty a m ≡ true → is_duty Deinit m ≡ false
 not-deinit a m apart h = go (is_duty Deinit m) refl
@@ -94,10 +94,10 @@ not-deinit a m apart h = go (is_duty Deinit m) refl
 -- a turn that edits a list and does nothing else
 abbrev pub plain_turn : {shape : HeapShape} (p : ℕ) (act : Act) (next since : ℕ → ℕ) (old new : Heap) (o q : Object) (k : Kind) (e : Edit) → IsPut old.objects new.objects o q → new.claims ≡ old.claims → Fits e (list_of k o) →
     q.strong ≡ (with_list k (edited e) o).strong → q.unowned ≡ (with_list k (edited e) o).unowned → q.weak ≡ (with_list k (edited e) o).weak → q.id ≡ o.id → q.class ≡ o.class → q.owed ≡ o.owed → q.slot ≡ o.slot → q.entry ≡ o.entry →
-    is_empty (edited e (list_of k o)) ≡ is_empty (list_of k o) → goes e Strongs ≡ false → comes e Strongs ≡ false → goes e Unowneds ≡ false → comes e Unowneds ≡ false → PlainKept k (edited e) o →
+    is_empty (holders_of shape k (with_list k (edited e) o)) ≡ is_empty (holders_of shape k o) → goes e Strongs ≡ false → comes e Strongs ≡ false → goes e Unowneds ≡ false → comes e Unowneds ≡ false → comes e Forever ≡ false → PlainKept k (edited e) o →
     ((z : Holder) → is_own z ≡ true → comes e z ≡ true → total (held z) old.objects ≡ 0) →
-    ((r k : ℕ) → comes e (Hand r k) ≡ true → (r ≡ p) × (suc k ≤ since r)) → ((r k : ℕ) → goes e (Hand r k) ≡ true → (r ≡ p) × (ends_hand k act ≡ true)) → ((r : ℕ) → next r ≤ since r) → Puts shape new e → Takes shape p old e → Joins p o k e → IsWhole o → Turn shape p act next since old new
-plain_turn p act next since old new o q k e put same fits s u w id cl d l en em gs cs gu cu pl absent mine was grows pu ta jo wh = record {
+    ((r k : ℕ) → comes e (Hand r k) ≡ true → (r ≡ p) × (suc k ≤ since r)) → ((r k : ℕ) → goes e (Hand r k) ≡ true → (r ≡ p) × (ends_hand k act ≡ true)) → ((r : ℕ) → next r ≤ since r) → Puts shape new e → Takes shape p old e → Joins shape p o k e → IsWhole shape o → Turn shape p act next since old new
+plain_turn {shape = shape} p act next since old new o q k e put same fits s u w id cl d l en em gs cs gu cu ce pl absent mine was grows pu ta jo wh = record {
   o = o;
   q = q;
   put = put;
@@ -108,9 +108,10 @@ plain_turn p act next since old new o q k e put same fits s u w id cl d l en em 
   unowned = u;
   weak = w;
   id = id;
-  whole = whole-edited o q k (edited e) s u w d l en em (apart Strongs gs cs) (apart Unowneds gu cu) pl wh;
+  whole = whole-edited o q k (edited e) cl s u w d l en em (apart Strongs gs cs) (apart Unowneds gu cu) pl wh;
   no_strongs = cs;
   no_unowneds = cu;
+  no_forever = ce;
   absent = absent;
   mine = mine;
   was_mine = was;
@@ -119,6 +120,7 @@ plain_turn p act next since old new o q k e put same fits s u w id cl d l en em 
   entries = λ t. let a : has_entry_times t q ≡ has_entry_times t o = ap (λ m. more (is_number m t) zero) en in let b : claimed_times t new.claims ≡ claimed_times t old.claims = ap (claimed_times t) same in omega arith;
   weak_stays = λ h. weak_stays k w em h;
   entry_stays = λ n h. inl (en ∙ h);
+  unentered = λ _ h. en ∙ h;
   owed = λ r _. ap (owed_by r) d;
   stays = λ m h. inl (d ∙ h);
   claims = λ r _ t. ap (λ cs. list_any (λ (c : Claimed). eqb c.thread r && eqb c.entry t) cs) same;
@@ -128,15 +130,15 @@ plain_turn p act next since old new o q k e put same fits s u w id cl d l en em 
   joins = jo;
   puts_in = pu;
   takes_out = ta;
-  fields = λ h. inl (ap (λ b. not b || is_duty Deinit q.owed) (strong_same k s em) ∙ ap (λ m. is_live o || is_duty Deinit m) d ∙ h);
+  fields = λ h. inl (ap (λ b. not b || is_duty Deinit q.owed) (strong_same k s em) ∙ ap (λ m. is_live shape o || is_duty Deinit m) d ∙ h);
 }
   where
-    strong_same : (k : Kind) → q.strong ≡ (with_list k (edited e) o).strong → is_empty (edited e (list_of k o)) ≡ is_empty (list_of k o) → is_empty q.strong ≡ is_empty o.strong
-    strong_same Strong s em = ap is_empty s ∙ em
-    strong_same Unowned s em = ap is_empty s
-    strong_same Weak s em = ap is_empty s
+    strong_same : (k : Kind) → q.strong ≡ (with_list k (edited e) o).strong → is_empty (holders_of shape k (with_list k (edited e) o)) ≡ is_empty (holders_of shape k o) → is_empty (strong_holders shape q) ≡ is_empty (strong_holders shape o)
+    strong_same Strong s em = ap is_empty (same-holders shape (with_list Strong (edited e) o) q cl s) ∙ em
+    strong_same Unowned s em = ap is_empty (same-holders shape o q cl s)
+    strong_same Weak s em = ap is_empty (same-holders shape o q cl s)
 
-    weak_stays : (k : Kind) → q.weak ≡ (with_list k (edited e) o).weak → is_empty (edited e (list_of k o)) ≡ is_empty (list_of k o) → is_empty o.weak ≡ true → is_empty q.weak ≡ true
+    weak_stays : (k : Kind) → q.weak ≡ (with_list k (edited e) o).weak → is_empty (holders_of shape k (with_list k (edited e) o)) ≡ is_empty (holders_of shape k o) → is_empty o.weak ≡ true → is_empty q.weak ≡ true
     weak_stays Strong w em h = ap is_empty w ∙ h
     weak_stays Unowned w em h = ap is_empty w ∙ h
     weak_stays Weak w em h = ap is_empty w ∙ em ∙ h
@@ -164,14 +166,35 @@ next-mine p k next is r n e =
 -- hand k of p joins a list that isn't empty
 pub join_turn : {shape : HeapShape} (p k : ℕ) (act : Act) (next : ℕ → ℕ) (old new : Heap) (o q : Object) (j : Kind) → k ≡ next p → IsWellFormed shape next old → IsPut old.objects new.objects o q → new.claims ≡ old.claims →
     q.strong ≡ (with_list j (with_last (Hand p k)) o).strong → q.unowned ≡ (with_list j (with_last (Hand p k)) o).unowned → q.weak ≡ (with_list j (with_last (Hand p k)) o).weak → q.id ≡ o.id → q.class ≡ o.class → q.owed ≡ o.owed → q.slot ≡ o.slot → q.entry ≡ o.entry →
-    is_empty (list_of j o) ≡ false → PlainKept j (with_last (Hand p k)) o → Source p o j → Turn shape p act next (advance true p next) old new
-join_turn p k act next old new o q j is f put same s u w id cl d l e full pl jo =
-    plain_turn p act next (advance true p next) old new o q j (join (Hand p k)) put same tt s u w id cl d l e (empty-push (Hand p k) (list_of j o) ∙ sym full) refl refl refl refl pl
+    is_empty (holders_of shape j o) ≡ false → PlainKept j (with_last (Hand p k)) o → Source shape p o j → Turn shape p act next (advance true p next) old new
+join_turn {shape = shape} p k act next old new o q j is f put same s u w id cl d l e full pl jo =
+    plain_turn p act next (advance true p next) old new o q j (join (Hand p k)) put same tt s u w id cl d l e (joined j ∙ sym full) refl refl refl refl refl pl
     (λ z _ c. next-absent p k next old is f z c) (next-mine p k next is) (λ r n g. no g) (advance-grows true p next) (λ id f c. no c) (λ id f c. no c) (λ _. jo) (whole-of next old new.objects o q f put)
+  where
+    joined : (j : Kind) → is_empty (holders_of shape j (with_list j (with_last (Hand p k)) o)) ≡ false
+    joined Strong = some-strong shape (with_list Strong (with_last (Hand p k)) o) (empty-push (Hand p k) o.strong)
+    joined Unowned = empty-push (Hand p k) o.unowned
+    joined Weak = empty-push (Hand p k) o.weak
+
+-- all holders of one kind, of which one is stored or is renamed
+pub in-holders : (shape : HeapShape) (x : Holder) (j : Kind) (o : Object) → is_in x (list_of j o) ≡ true → is_empty (holders_of shape j o) ≡ false
+in-holders shape x Strong o held = in-strong shape x o held
+in-holders shape x Unowned o held = in-not_empty x o.unowned held
+in-holders shape x Weak o held = in-not_empty x o.weak held
+
+pub renamed-holders : (shape : HeapShape) (x y : Holder) (j : Kind) (o : Object) → is_empty (holders_of shape j (with_list j (renamed x y) o)) ≡ is_empty (holders_of shape j o)
+renamed-holders shape x y Strong o = empty-append (renamed x y o.strong) o.strong (forever_if (is_immortal shape o)) (empty-renamed x y o.strong)
+renamed-holders shape x y Unowned o = empty-renamed x y o.unowned
+renamed-holders shape x y Weak o = empty-renamed x y o.weak
+
+holders-without : (shape : HeapShape) (x : Holder) (j : Kind) (o : Object) → is_in x (list_of j o) ≡ true → is_alone (holders_of shape j o) ≡ false → is_empty (holders_of shape j (with_list j (without x) o)) ≡ is_empty (holders_of shape j o)
+holders-without shape x Strong o held h = strong-without (is_immortal shape o) x o.strong held h
+holders-without shape x Unowned o held h = empty-without x o.unowned h
+holders-without shape x Weak o held h = empty-without x o.weak h
 
 -- the copy of what x holds
 pub copy_turn : {shape : HeapShape} (p k : ℕ) (act : Act) (next : ℕ → ℕ) (old : Heap) (x : Holder) → k ≡ next p → IsWellFormed shape next old → is_own x ≡ true → ((r n : ℕ) → same_holder (Hand r n) x ≡ true → r ≡ p) → is_some (find (holds x) old.objects) ≡ true → Turn shape p act next (advance true p next) old (change (holds x) (lists (gains x (Hand p k))) old)
-copy_turn p k act next old x is f own mine some =
+copy_turn {shape = shape} p k act next old x is f own mine some =
     let r = some-is (find (holds x) old.objects) some in
     let o = r.0 in
     let put = put-found (holds x) (lists (gains x (Hand p k))) old.objects o r.1 in
@@ -180,10 +203,10 @@ copy_turn p k act next old x is f own mine some =
     let one = f.once x own in
     let parts = one_list x o (gains x (Hand p k)) (with_last (Hand p k)) (gains-present x (Hand p k)) (gains-absent x (Hand p k)) (omega arith) has in
     let inside = in-kind x o has in
-    join_turn p k act next old (change (holds x) (lists (gains x (Hand p k))) old) o (lists (gains x (Hand p k)) o) (kind_in x o) is f put refl parts.0 parts.1 parts.2 refl refl refl refl refl (in-not_empty x (list_of (kind_in x o) o) inside) (plain-own x (kind_in x o) (with_last (Hand p k)) o own inside) (record { from = x; own = own; mine = mine; inside = has; list = inl inside })
+    join_turn p k act next old (change (holds x) (lists (gains x (Hand p k))) old) o (lists (gains x (Hand p k)) o) (kind_in x o) is f put refl parts.0 parts.1 parts.2 refl refl refl refl refl (in-holders shape x (kind_in x o) o inside) (plain-own x (kind_in x o) (with_last (Hand p k)) o own inside) (record { from = x; own = own; mine = mine; inside = has; list = inl inside })
 
 -- a live object with a field is there after a renaming
-pub live-renamed : {shape : HeapShape} (x y : Holder) (os rest : List Object) (o : Object) → IsPut os rest o (lists (renamed x y) o) → (old new : Heap) → old.objects ≡ os → new.objects ≡ rest → (id : ObjectId) (g : ℕ) → HasField shape is_live id g old → HasField shape is_live id g new
+pub live-renamed : {shape : HeapShape} (x y : Holder) (os rest : List Object) (o : Object) → IsPut os rest o (lists (renamed x y) o) → (old new : Heap) → old.objects ≡ os → new.objects ≡ rest → (id : ObjectId) (g : ℕ) → HasField shape (is_live shape) id g old → HasField shape (is_live shape) id g new
 live-renamed {shape = shape} x y os rest o put old new was is id g has =
     elim (old-put os rest o (lists (renamed x y) o) put has.place has.object (ap (λ qs. slice_get qs has.place) (sym was) ∙ has.here)) [
       | inl same ↦ record { place = has.place; object = has.object; here = ap (λ qs. slice_get qs has.place) is ∙ same; named = has.named; field = has.field; passing = has.passing }
@@ -193,13 +216,13 @@ live-renamed {shape = shape} x y os rest o put old new was is id g has =
         here = ap (λ qs. slice_get qs has.place) is ∙ turned.1;
         named = ap (λ (r : Object). r.id) (sym turned.0) ∙ has.named;
         field = ap (has_field shape g) (sym turned.0) ∙ has.field;
-        passing = ap not (empty-renamed x y o.strong) ∙ ap is_live (sym turned.0) ∙ has.passing;
+        passing = ap not (renamed-holders shape x y Strong o) ∙ ap (is_live shape) (sym turned.0) ∙ has.passing;
       }
     ]
 
 abbrev pub rename_turn : {shape : HeapShape} (p : ℕ) (act : Act) (next since : ℕ → ℕ) (old : Heap) (x y : Holder) → IsWellFormed shape next old → is_own x ≡ true → is_own y ≡ true → is_some (find (holds x) old.objects) ≡ true → total (held y) old.objects ≡ 0 →
-    ((r n : ℕ) → same_holder (Hand r n) y ≡ true → (r ≡ p) × (suc n ≤ since r)) → ((r n : ℕ) → same_holder (Hand r n) x ≡ true → (r ≡ p) × (ends_hand n act ≡ true)) → ((r : ℕ) → next r ≤ since r) → ((id : ObjectId) (g : ℕ) → same_holder (Field id g) y ≡ true → HasField shape is_live id g old) → ((id : ObjectId) (g : ℕ) → same_holder (Field id g) x ≡ true → HasField shape (is_open_to p) id g old) → Turn shape p act next since old (becomes x y old)
-rename_turn p act next since old x y f own own' some absent mine was grows puts takes =
+    ((r n : ℕ) → same_holder (Hand r n) y ≡ true → (r ≡ p) × (suc n ≤ since r)) → ((r n : ℕ) → same_holder (Hand r n) x ≡ true → (r ≡ p) × (ends_hand n act ≡ true)) → ((r : ℕ) → next r ≤ since r) → ((id : ObjectId) (g : ℕ) → same_holder (Field id g) y ≡ true → HasField shape (is_live shape) id g old) → ((id : ObjectId) (g : ℕ) → same_holder (Field id g) x ≡ true → HasField shape (is_open_to shape p) id g old) → Turn shape p act next since old (becomes x y old)
+rename_turn {shape = shape} p act next since old x y f own own' some absent mine was grows puts takes =
     let r = some-is (find (holds x) old.objects) some in
     let o = r.0 in
     let put = put-found (holds x) (lists (renamed x y)) old.objects o r.1 in
@@ -209,7 +232,7 @@ rename_turn p act next since old x y f own own' some absent mine was grows puts 
     let parts = one_list x o (renamed x y) (renamed x y) (λ xs _. refl) (renamed-absent x y) (omega arith) has in
     let inside = in-kind x o has in
     plain_turn p act next since old (becomes x y old) o (lists (renamed x y) o) (kind_in x o) (rename x y) put refl (in-tally x (list_of (kind_in x o) o) inside) parts.0 parts.1 parts.2 refl refl refl refl refl
-    (empty-renamed x y (list_of (kind_in x o) o)) (strongs-apart x own) (strongs-apart y own') (unowneds-apart x own) (unowneds-apart y own') (plain-own x (kind_in x o) (renamed x y) o own inside)
+    (renamed-holders shape x y (kind_in x o) o) (strongs-apart x own) (strongs-apart y own') (unowneds-apart x own) (unowneds-apart y own') (forever-apart y own') (plain-own x (kind_in x o) (renamed x y) o own inside)
     (λ z _ c. ap (λ v. total (held v) old.objects) (same-eq z y c) ∙ absent) mine was grows
     (λ id g c. live-renamed x y old.objects (at_first (holds x) (lists (renamed x y)) old.objects) o put old (becomes x y old) refl refl id g (puts id g c)) takes (λ c. no c) (whole-of next old (becomes x y old).objects o (lists (renamed x y) o) f put)
 
@@ -289,7 +312,7 @@ wl-entry Unowned g o = refl
 wl-entry Weak g o = refl
 
 -- p's last hand in the list of unowned holders: the object is deinited
-last_unowned : (p h : ℕ) (o : Object) → is_in (Hand p h) o.unowned ≡ true → is_alone o.unowned ≡ true → IsWhole o → (o.owed ≡ None) × (is_empty o.strong ≡ true) × IsWhole (owing p Vacating (with_list Unowned (without (Hand p h)) o))
+last_unowned : {shape : HeapShape} (p h : ℕ) (o : Object) → is_in (Hand p h) o.unowned ≡ true → is_alone o.unowned ≡ true → IsWhole shape o → (o.owed ≡ None) × (is_empty (strong_holders shape o) ≡ true) × IsWhole shape (owing p Vacating (with_list Unowned (without (Hand p h)) o))
 last_unowned p h o held alone (live s d l a b pl) = no (alone-two Strongs (Hand p h) o.unowned alone (omega arith) (in-tally (Hand p h) o.unowned held))
 last_unowned p h o held alone (deiniting s d l a b pl) = no (alone-two Strongs (Hand p h) o.unowned alone (omega arith) (in-tally (Hand p h) o.unowned held))
 last_unowned p h o held alone (deinited s d l a u b pl) = (d, s, vacating s refl l (alone-without (Hand p h) o.unowned held alone) b pl)
@@ -299,7 +322,7 @@ last_unowned p h o held alone (freed s d l u b w e) = clash (is_empty o.unowned)
 last_unowned p h o held alone (dead s d l u w e) = clash (is_empty o.unowned) u (in-not_empty (Hand p h) o.unowned held)
 
 -- the last weak holder: the object was freed
-last_weak : (p h : ℕ) (o : Object) → is_in (Hand p h) o.weak ≡ true → is_alone o.weak ≡ true → IsWhole o → IsWhole (record (with_list Weak (without (Hand p h)) o) { entry = None })
+last_weak : {shape : HeapShape} (p h : ℕ) (o : Object) → is_in (Hand p h) o.weak ≡ true → is_alone o.weak ≡ true → IsWhole shape o → IsWhole shape (record (with_list Weak (without (Hand p h)) o) { entry = None })
 last_weak p h o held alone (live s d l a b pl) = no (alone-two Unowneds (Hand p h) o.weak alone (omega arith) (in-tally (Hand p h) o.weak held))
 last_weak p h o held alone (deiniting s d l a b pl) = no (alone-two Unowneds (Hand p h) o.weak alone (omega arith) (in-tally (Hand p h) o.weak held))
 last_weak p h o held alone (deinited s d l a u b pl) = no (alone-two Unowneds (Hand p h) o.weak alone (omega arith) (in-tally (Hand p h) o.weak held))
@@ -308,10 +331,10 @@ last_weak p h o held alone (going s d l u b e) = no (alone-two Unowneds (Hand p 
 last_weak p h o held alone (freed s d l u b w e) = dead s d l u (alone-without (Hand p h) o.weak held alone) refl
 last_weak p h o held alone (dead s d l u w e) = clash (is_empty o.weak) w (in-not_empty (Hand p h) o.weak held)
 
-pub drop_turn : {shape : HeapShape} (p h : ℕ) (last : Bool) (next : ℕ → ℕ) (old : Heap) (rest : List Object) (o : Object) (j : Kind) → IsPut old.objects rest o (ended_if last p j (with_list j (without (Hand p h)) o)) → is_in (Hand p h) (list_of j o) ≡ true → same_bool last (is_alone (list_of j o)) ≡ true → IsWhole o →
+pub drop_turn : {shape : HeapShape} (p h : ℕ) (last : Bool) (next : ℕ → ℕ) (old : Heap) (rest : List Object) (o : Object) (j : Kind) → IsPut old.objects rest o (ended_if last p j (with_list j (without (Hand p h)) o)) → is_in (Hand p h) (list_of j o) ≡ true → same_bool last (is_alone (holders_of shape j o)) ≡ true → IsWhole shape o →
     Turn shape p (acts.Drop h last) next next old (entry_to p (entry_of_last last j o) (record old { objects = rest }))
-drop_turn p h true next old rest o Strong put held alone wh =
-    let g = live-facts o wh (in-not_empty (Hand p h) o.strong held) in record {
+drop_turn {shape = shape} p h true next old rest o Strong put held alone wh =
+    let g = live-facts o wh (in-strong shape (Hand p h) o held) in record {
       o = o;
       q = owing p Deinit (with_list Strong (without (Hand p h)) o);
       put = put;
@@ -322,9 +345,10 @@ drop_turn p h true next old rest o Strong put held alone wh =
       unowned = refl;
       weak = refl;
       id = refl;
-      whole = deiniting (alone-without (Hand p h) o.strong held alone) refl g.slot g.strongs g.unowneds g.plain;
+      whole = deiniting (strong-last (is_immortal shape o) (Hand p h) o.strong held alone) refl g.slot g.strongs g.unowneds g.plain;
       no_strongs = refl;
       no_unowneds = refl;
+      no_forever = refl;
       absent = λ z _ c. no c;
       mine = λ r k c. no c;
       was_mine = λ r k e. hand-ended r k p h e;
@@ -333,18 +357,19 @@ drop_turn p h true next old rest o Strong put held alone wh =
       entries = λ e. refl;
       weak_stays = λ h. h;
       entry_stays = λ n h. inl h;
+      unentered = λ _ h. h;
       owed = λ r ne. owing-other r p Deinit ne ∙ sym (ap (owed_by r) g.owed);
       stays = λ d e. absurd (None≢Some d (sym g.owed ∙ e));
       claims = λ r _ e. refl;
       class = refl;
-      life = inr (h, refl, held, alone-without (Hand p h) o.strong held alone);
+      life = inr (h, refl, held, strong-last (is_immortal shape o) (Hand p h) o.strong held alone);
       place = inl refl;
       joins = λ e. no e;
       puts_in = λ id f c. no c;
       takes_out = λ id f c. no c;
-      fields = λ _. inl (or-true (is_live (with_list Strong (without (Hand p h)) o)));
+      fields = λ _. inl (or-true (is_live shape (with_list Strong (without (Hand p h)) o)));
     }
-drop_turn p h true next old rest o Unowned put held alone wh =
+drop_turn {shape = shape} p h true next old rest o Unowned put held alone wh =
     let g = last_unowned p h o held alone wh in record {
       o = o;
       q = owing p Vacating (with_list Unowned (without (Hand p h)) o);
@@ -359,6 +384,7 @@ drop_turn p h true next old rest o Unowned put held alone wh =
       whole = g.2;
       no_strongs = refl;
       no_unowneds = refl;
+      no_forever = refl;
       absent = λ z _ c. no c;
       mine = λ r k c. no c;
       was_mine = λ r k e. hand-ended r k p h e;
@@ -367,6 +393,7 @@ drop_turn p h true next old rest o Unowned put held alone wh =
       entries = λ e. refl;
       weak_stays = λ h. h;
       entry_stays = λ n h. inl h;
+      unentered = λ _ h. h;
       owed = λ r ne. owing-other r p Vacating ne ∙ sym (ap (owed_by r) g.0);
       stays = λ d e. absurd (None≢Some d (sym g.0 ∙ e));
       claims = λ r _ e. refl;
@@ -376,9 +403,9 @@ drop_turn p h true next old rest o Unowned put held alone wh =
       joins = λ e. no e;
       puts_in = λ id f c. no c;
       takes_out = λ id f c. no c;
-      fields = λ k. no-fields o g.1 (ap (is_duty Deinit) g.0) k;
+      fields = λ k. no-fields shape o g.1 (ap (is_duty Deinit) g.0) k;
     }
-drop_turn p h true next old rest o Weak put held alone wh = record {
+drop_turn {shape = shape} p h true next old rest o Weak put held alone wh = record {
   o = o;
   q = record (with_list Weak (without (Hand p h)) o) { entry = None };
   put = subst (λ os. IsPut old.objects os o (record (with_list Weak (without (Hand p h)) o) { entry = None })) (sym (entry_to-objects p o.entry (record old { objects = rest }))) put;
@@ -392,6 +419,7 @@ drop_turn p h true next old rest o Weak put held alone wh = record {
   whole = last_weak p h o held alone wh;
   no_strongs = refl;
   no_unowneds = refl;
+  no_forever = refl;
   absent = λ z _ c. no c;
   mine = λ r k c. no c;
   was_mine = λ r k e. hand-ended r k p h e;
@@ -400,6 +428,7 @@ drop_turn p h true next old rest o Weak put held alone wh = record {
   entries = λ e. entry_to-times p e o.entry (record old { objects = rest });
   weak_stays = λ _. alone-without (Hand p h) o.weak held alone;
   entry_stays = λ n _. inr (alone-without (Hand p h) o.weak held alone);
+  unentered = λ _ _. refl;
   owed = λ r ne. refl;
   stays = λ d e. inl e;
   claims = λ r ne e. entry_to-claims r p e o.entry (record old { objects = rest }) ne;
@@ -411,13 +440,13 @@ drop_turn p h true next old rest o Weak put held alone wh = record {
   takes_out = λ id f c. no c;
   fields = λ k. inl k;
 }
-drop_turn p h false next old rest o j put held more' wh =
+drop_turn {shape = shape} p h false next old rest o j put held more' wh =
     let x : Holder = Hand p h in
     plain_turn p (acts.Drop h false) next next old (record old { objects = rest }) o (with_list j (without x) o) j (leave x) put refl (in-tally x (list_of j o) held) refl refl refl (wl-id j (without x) o) (wl-class j (without x) o) (wl-owed j (without x) o) (wl-slot j (without x) o) (wl-entry j (without x) o)
-    (empty-without x (list_of j o) (opposite (is_alone (list_of j o)) more')) refl refl refl refl (plain-own x j (without x) o refl held) (λ z _ c. no c) (λ r k c. no c) (λ r k e. hand-ended r k p h e) (λ r. le-refl (next r)) (λ id f c. no c) (λ id f c. no c) (λ c. no c) wh
+    (holders-without shape x j o held (opposite (is_alone (holders_of shape j o)) more')) refl refl refl refl refl (plain-own x j (without x) o refl held) (λ z _ c. no c) (λ r k c. no c) (λ r k e. hand-ended r k p h e) (λ r. le-refl (next r)) (λ id f c. no c) (λ id f c. no c) (λ c. no c) wh
 
 -- Strongs leaves
-pub finish_turn : {shape : HeapShape} (p s : ℕ) (last : Bool) (next : ℕ → ℕ) (old : Heap) (rest : List Object) (o : Object) → IsPut old.objects rest o (finished p last o) → is_by p o.owed ≡ true → is_duty Deinit o.owed ≡ true → same_bool last (is_alone o.unowned) ≡ true → ((f : ℕ) → has_field shape f o ≡ true → total (held (Field o.id f)) old.objects ≡ 0) → IsWhole o → Turn shape p (acts.Finish s last) next next old (record old { objects = rest })
+pub finish_turn : {shape : HeapShape} (p s : ℕ) (last : Bool) (next : ℕ → ℕ) (old : Heap) (rest : List Object) (o : Object) → IsPut old.objects rest o (finished p last o) → is_by p o.owed ≡ true → is_duty Deinit o.owed ≡ true → same_bool last (is_alone o.unowned) ≡ true → ((f : ℕ) → has_field shape f o ≡ true → total (held (Field o.id f)) old.objects ≡ 0) → IsWhole shape o → Turn shape p (acts.Finish s last) next next old (record old { objects = rest })
 finish_turn p s true next old rest o put by duty alone nil wh =
     let g = dying-facts o wh duty in
     let in' = tally-in Strongs o.unowned (let a = g.strongs in omega arith) in record {
@@ -434,6 +463,7 @@ finish_turn p s true next old rest o put by duty alone nil wh =
       whole = vacating g.strong refl g.slot (alone-without Strongs o.unowned in' alone) g.unowneds g.plain;
       no_strongs = refl;
       no_unowneds = refl;
+      no_forever = refl;
       absent = λ z _ c. no c;
       mine = λ r k c. no c;
       was_mine = λ r k e. no e;
@@ -442,6 +472,7 @@ finish_turn p s true next old rest o put by duty alone nil wh =
       entries = λ e. refl;
       weak_stays = λ h. h;
       entry_stays = λ n h. inl h;
+      unentered = λ _ h. h;
       owed = λ r ne. owing-other r p Vacating ne ∙ sym (by-other r p o.owed ne by);
       stays = λ d e. let i = duty-is p Deinit o.owed d by duty e in inr (i.0, ap (λ a. ends a (acts.Finish s true)) i.1);
       claims = λ r _ e. refl;
@@ -471,6 +502,7 @@ finish_turn p s false next old rest o put by duty alone nil wh =
       whole = deinited g.strong refl g.slot (omega arith) (empty-without Strongs o.unowned (opposite (is_alone o.unowned) alone) ∙ in-not_empty Strongs o.unowned in') g.unowneds g.plain;
       no_strongs = refl;
       no_unowneds = refl;
+      no_forever = refl;
       absent = λ z _ c. no c;
       mine = λ r k c. no c;
       was_mine = λ r k e. no e;
@@ -479,6 +511,7 @@ finish_turn p s false next old rest o put by duty alone nil wh =
       entries = λ e. refl;
       weak_stays = λ h. h;
       entry_stays = λ n h. inl h;
+      unentered = λ _ h. h;
       owed = λ r ne. sym (by-other r p o.owed ne by);
       stays = λ d e. let i = duty-is p Deinit o.owed d by duty e in inr (i.0, ap (λ a. ends a (acts.Finish s false)) i.1);
       claims = λ r _ e. refl;
@@ -495,8 +528,8 @@ fewer : (m : Option ℕ) (t : ℕ) → 0 ≤ more (is_number m t) zero
 fewer m t = omega arith
 
 -- the object leaves its slot
-pub vacate_turn : {shape : HeapShape} (p s : ℕ) (next : ℕ → ℕ) (old : Heap) (rest : List Object) (o : Object) (m : Option ℕ) → o.entry ≡ m → o.slot ≡ Some s → IsPut old.objects rest o (left_slot p m (owing_none (record o { slot = None }))) → is_by p o.owed ≡ true → is_duty Vacating o.owed ≡ true → IsWhole o → Turn shape p (acts.Vacate s) next next old (record old { objects = rest })
-vacate_turn p s next old rest o None is here put by duty wh =
+pub vacate_turn : {shape : HeapShape} (p s : ℕ) (next : ℕ → ℕ) (old : Heap) (rest : List Object) (o : Object) (m : Option ℕ) → o.entry ≡ m → o.slot ≡ Some s → IsPut old.objects rest o (left_slot p m (owing_none (record o { slot = None }))) → is_by p o.owed ≡ true → is_duty Vacating o.owed ≡ true → IsWhole shape o → Turn shape p (acts.Vacate s) next next old (record old { objects = rest })
+vacate_turn {shape = shape} p s next old rest o None is here put by duty wh =
     let g = vacating-facts o wh duty in
     let unowneds = g.unowneds in record {
       o = o;
@@ -512,6 +545,7 @@ vacate_turn p s next old rest o None is here put by duty wh =
       whole = dead g.strong refl refl g.unowned (ap (λ ws. is_empty (without Unowneds ws)) (g.plain is)) is;
       no_strongs = refl;
       no_unowneds = refl;
+      no_forever = refl;
       absent = λ z _ c. no c;
       mine = λ r k c. no c;
       was_mine = λ r k e. no e;
@@ -520,6 +554,7 @@ vacate_turn p s next old rest o None is here put by duty wh =
       entries = λ e. refl;
       weak_stays = λ h. ap (λ ws. is_empty (without Unowneds ws)) (g.plain is);
       entry_stays = λ n h. inl h;
+      unentered = λ _ h. h;
       owed = λ r ne. sym (by-other r p o.owed ne by);
       stays = λ d e. let i = duty-is p Vacating o.owed d by duty e in inr (i.0, ap (λ a. ends a (acts.Vacate s)) i.1);
       claims = λ r _ e. refl;
@@ -529,9 +564,9 @@ vacate_turn p s next old rest o None is here put by duty wh =
       joins = λ e. no e;
       puts_in = λ id f c. no c;
       takes_out = λ id f c. no c;
-      fields = λ k. no-fields o g.strong (not-deinit Vacating o.owed refl duty) k;
+      fields = λ k. no-fields shape o g.strong (not-deinit Vacating o.owed refl duty) k;
     }
-vacate_turn p s next old rest o (Some n) is here put by duty wh =
+vacate_turn {shape = shape} p s next old rest o (Some n) is here put by duty wh =
     let g = vacating-facts o wh duty in record {
       o = o;
       q = left_slot p (Some n) (owing_none (record o { slot = None }));
@@ -546,6 +581,7 @@ vacate_turn p s next old rest o (Some n) is here put by duty wh =
       whole = going g.strong refl refl g.unowned g.unowneds (ap is_some is);
       no_strongs = refl;
       no_unowneds = refl;
+      no_forever = refl;
       absent = λ z _ c. no c;
       mine = λ r k c. no c;
       was_mine = λ r k e. no e;
@@ -554,6 +590,7 @@ vacate_turn p s next old rest o (Some n) is here put by duty wh =
       entries = λ e. refl;
       weak_stays = λ h. h;
       entry_stays = λ n h. inl h;
+      unentered = λ _ h. h;
       owed = λ r ne. owing-other r p Gone ne ∙ sym (by-other r p o.owed ne by);
       stays = λ d e. let i = duty-is p Vacating o.owed d by duty e in inr (i.0, ap (λ a. ends a (acts.Vacate s)) i.1);
       claims = λ r _ e. refl;
@@ -563,12 +600,12 @@ vacate_turn p s next old rest o (Some n) is here put by duty wh =
       joins = λ e. no e;
       puts_in = λ id f c. no c;
       takes_out = λ id f c. no c;
-      fields = λ k. no-fields o g.strong (not-deinit Vacating o.owed refl duty) k;
+      fields = λ k. no-fields shape o g.strong (not-deinit Vacating o.owed refl duty) k;
     }
 
 -- Unowneds leaves
-pub gone_turn : {shape : HeapShape} (p n : ℕ) (last : Bool) (next : ℕ → ℕ) (old : Heap) (rest : List Object) (o : Object) → o.entry ≡ Some n → IsPut old.objects rest o (gone p last o) → is_by p o.owed ≡ true → is_duty Gone o.owed ≡ true → same_bool last (is_alone o.weak) ≡ true → IsWhole o → Turn shape p (acts.Gone n last) next next old (claimed_if last p n (record old { objects = rest }))
-gone_turn p n true next old rest o is put by duty alone wh =
+pub gone_turn : {shape : HeapShape} (p n : ℕ) (last : Bool) (next : ℕ → ℕ) (old : Heap) (rest : List Object) (o : Object) → o.entry ≡ Some n → IsPut old.objects rest o (gone p last o) → is_by p o.owed ≡ true → is_duty Gone o.owed ≡ true → same_bool last (is_alone o.weak) ≡ true → IsWhole shape o → Turn shape p (acts.Gone n last) next next old (claimed_if last p n (record old { objects = rest }))
+gone_turn {shape = shape} p n true next old rest o is put by duty alone wh =
     let g = gone-facts o wh duty in
     let unowneds = g.unowneds in
     let in' = tally-in Unowneds o.weak (omega arith) in record {
@@ -585,6 +622,7 @@ gone_turn p n true next old rest o is put by duty alone wh =
       whole = dead g.strong refl g.slot g.unowned (alone-without Unowneds o.weak in' alone) refl;
       no_strongs = refl;
       no_unowneds = refl;
+      no_forever = refl;
       absent = λ z _ c. no c;
       mine = λ r k c. no c;
       was_mine = λ r k e. no e;
@@ -593,6 +631,7 @@ gone_turn p n true next old rest o is put by duty alone wh =
       entries = λ e. let a = entry_to-times p e (Some n) (record old { objects = rest }) in let b : has_entry_times e o ≡ more (is_number (Some n) e) zero = ap (λ m. more (is_number m e) zero) is in omega arith;
       weak_stays = λ _. alone-without Unowneds o.weak in' alone;
       entry_stays = λ n _. inr (alone-without Unowneds o.weak in' alone);
+      unentered = λ _ _. refl;
       owed = λ r ne. sym (by-other r p o.owed ne by);
       stays = λ d e. let i = duty-is p Gone o.owed d by duty e in inr (i.0, ap (λ a. ends a (acts.Gone n true)) i.1);
       claims = λ r ne e. entry_to-claims r p e (Some n) (record old { objects = rest }) ne;
@@ -602,9 +641,9 @@ gone_turn p n true next old rest o is put by duty alone wh =
       joins = λ e. no e;
       puts_in = λ id f c. no c;
       takes_out = λ id f c. no c;
-      fields = λ k. no-fields o g.strong (not-deinit Gone o.owed refl duty) k;
+      fields = λ k. no-fields shape o g.strong (not-deinit Gone o.owed refl duty) k;
     }
-gone_turn p n false next old rest o is put by duty alone wh =
+gone_turn {shape = shape} p n false next old rest o is put by duty alone wh =
     let g = gone-facts o wh duty in
     let unowneds = g.unowneds in
     let in' = tally-in Unowneds o.weak (omega arith) in
@@ -622,6 +661,7 @@ gone_turn p n false next old rest o is put by duty alone wh =
       whole = freed g.strong refl g.slot g.unowned (omega arith) (empty-without Unowneds o.weak (opposite (is_alone o.weak) alone) ∙ in-not_empty Unowneds o.weak in') g.entry;
       no_strongs = refl;
       no_unowneds = refl;
+      no_forever = refl;
       absent = λ z _ c. no c;
       mine = λ r k c. no c;
       was_mine = λ r k e. no e;
@@ -630,6 +670,7 @@ gone_turn p n false next old rest o is put by duty alone wh =
       entries = λ e. refl;
       weak_stays = λ h. clash (is_empty o.weak) h (in-not_empty Unowneds o.weak in');
       entry_stays = λ n h. inl h;
+      unentered = λ _ h. h;
       owed = λ r ne. sym (by-other r p o.owed ne by);
       stays = λ d e. let i = duty-is p Gone o.owed d by duty e in inr (i.0, ap (λ a. ends a (acts.Gone n false)) i.1);
       claims = λ r _ e. refl;
@@ -639,5 +680,5 @@ gone_turn p n false next old rest o is put by duty alone wh =
       joins = λ e. no e;
       puts_in = λ id f c. no c;
       takes_out = λ id f c. no c;
-      fields = λ k. no-fields o g.strong (not-deinit Gone o.owed refl duty) k;
+      fields = λ k. no-fields shape o g.strong (not-deinit Gone o.owed refl duty) k;
     }

@@ -1,13 +1,13 @@
 -- A cell stands in a list of its kind.
 use Rattle.std.proofs.Common.{◌≡◌, ℕ, zero, Bool, true, false, cond, eqb, List, [], ◌∷◌, Option, Some, None, refl, sym, ap, ◌∙◌}
-use Rattle.std.specs.Prelude.{find, slice_get, slice_index_or, is_some}
+use Rattle.std.specs.Prelude.{find, slice_get, is_some}
 use Rattle.std.proofs.lemmas.Bool.{and_parts, eqb-true}
 use Rattle.arc_model.specs.declared.event.Act.{Act}
 use Rattle.arc_model.specs.declared.event.Act.TheVariants as acts
 use Rattle.arc_model.specs.declared.event.CellName.{CellName}
 use Rattle.arc_model.specs.declared.event.CellName.TheVariants as cells
 use Rattle.arc_model.specs.declared.event.Event.{Event}
-use Rattle.arc_model.specs.Shapes.{HeapShape}
+use Rattle.arc_model.specs.Shapes.{HeapShape, class_at}
 use Rattle.arc_model.specs.Heaps.{Holder, Hand, Field, Global, Object, Heap}
 use Rattle.arc_model.specs.Holders.{at_first, at_slot, held_by, holds, in_slot, kind_in, same_holder, same_id}
 use Rattle.arc_model.specs.Cells.{cell, cell_shape, field_shape, id_of, is_kind}
@@ -94,7 +94,7 @@ field-of : (shape : HeapShape) (e : Event) (h : History) → IsLegal shape (e �
 field-of shape e h legal j r before i o after same f =
     let s = step_after shape e h legal j r before in
     let one = one-name o.id (heap_after (e ∷ h)).objects j i s.q o (names-once (λ q. next_hand q (e ∷ h)) (heap_after (e ∷ h)) (well_formed shape (e ∷ h) legal) o.id) s.here (s.id ∙ same) after refl in
-    ap (λ c. slice_get (slice_index_or shape.classes c []) f) (sym s.class ∙ ap (λ (q : Object). q.class) one)
+    ap (λ c. slice_get (class_at shape c).fields f) (sym s.class ∙ ap (λ (q : Object). q.class) one)
 
 pub cell_kinds_after : CellKindsAfter
 cell_kinds_after shape [] legal = record { fields = λ i o f s h at. absurd (None≢Some s at); globals = λ g s at. absurd (None≢Some s at) }

@@ -10,9 +10,9 @@ use Rattle.arc_model.specs.declared.event.Got.TheVariants as got
 use Rattle.arc_model.specs.declared.shape.Kind.{Kind}
 use Rattle.arc_model.specs.declared.shape.Kind.TheVariants.{Strong, Unowned, Weak}
 use Rattle.arc_model.specs.Shapes.{HeapShape}
-use Rattle.arc_model.specs.Heaps.{Holder, Hand, Field, Global, Strongs, Unowneds, Deinit, Object, Heap}
-use Rattle.arc_model.specs.Holders.{at_first, at_slot, change, gains, has_entry, held_by, holds, in_slot, is_in, is_live, kind_in, lists, owes_to, renamed, same_holder, with_last, with_list, without}
-use Rattle.arc_model.specs.Cells.{are_nil, cell, origin}
+use Rattle.arc_model.specs.Heaps.{Holder, Hand, Field, Global, Strongs, Unowneds, Forever, Deinit, Object, Heap}
+use Rattle.arc_model.specs.Holders.{at_first, at_slot, change, gains, has_entry, held_by, holds, in_slot, is_in, kind_in, lists, owes_to, renamed, same_holder, with_last, with_list, without}
+use Rattle.arc_model.specs.Cells.{is_live, are_nil, cell, origin}
 use Rattle.arc_model.specs.Effects.{becomes, claimed_if, effect, ended_if, entry_left, entry_to, finished, given_up, gone, left_slot, made, owing_none, vacated}
 use Rattle.arc_model.specs.Needs.{Sight, first_failing, needs, reachable, same_bool, takes}
 use Rattle.arc_model.specs.History.{next_hand, sight}
@@ -99,6 +99,7 @@ cell-own (Field o f) h = refl
 cell-own (Global g) h = refl
 cell-own Strongs h = no h
 cell-own Unowneds h = no h
+cell-own Forever h = no h
 
 no-hand : (z : Holder) (p k : ℕ) → is_cell z ≡ true → same_holder z (Hand p k) ≡ false
 no-hand (Hand q n) p k h = no h
@@ -106,6 +107,7 @@ no-hand (Field o f) p k h = refl
 no-hand (Global g) p k h = refl
 no-hand Strongs p k h = refl
 no-hand Unowneds p k h = refl
+no-hand Forever p k h = refl
 
 no-strongs : (z : Holder) → is_cell z ≡ true → same_holder z Strongs ≡ false
 no-strongs (Hand q n) h = refl
@@ -113,6 +115,7 @@ no-strongs (Field o f) h = refl
 no-strongs (Global g) h = refl
 no-strongs Strongs h = no h
 no-strongs Unowneds h = refl
+no-strongs Forever h = refl
 
 no-unowneds : (z : Holder) → is_cell z ≡ true → same_holder z Unowneds ≡ false
 no-unowneds (Hand q n) h = refl
@@ -120,6 +123,7 @@ no-unowneds (Field o f) h = refl
 no-unowneds (Global g) h = refl
 no-unowneds Strongs h = refl
 no-unowneds Unowneds h = no h
+no-unowneds Forever h = refl
 
 -- another holder takes a place, or leaves it
 renamed-spot : (z x y : Holder) (heap : Heap) → same_holder z x ≡ false → same_holder z y ≡ false → spot z (becomes x y heap) ≡ spot z heap
@@ -145,7 +149,7 @@ claimed_if-spot z true p e heap = refl
 claimed_if-spot z false p e heap = refl
 
 -- the four swaps
-swap-spot : {shape : HeapShape} (p : ℕ) (c : CellName) (h k : Option ℕ) (z : Holder) (next : ℕ → ℕ) (heap : Heap) → IsWellFormed shape next heap → ((w : Holder) → is_own w ≡ true → total (held w) (effect p (acts.Swap c h k) heap).objects ≤ 1) → is_cell z ≡ true → Fielded shape is_live heap heap c →
+swap-spot : {shape : HeapShape} (p : ℕ) (c : CellName) (h k : Option ℕ) (z : Holder) (next : ℕ → ℕ) (heap : Heap) → IsWellFormed shape next heap → ((w : Holder) → is_own w ≡ true → total (held w) (effect p (acts.Swap c h k) heap).objects ≤ 1) → is_cell z ≡ true → Fielded shape (is_live shape) heap heap c →
     ((n : ℕ) → h ≡ Some n → is_some (held_by (Hand p n) heap) ≡ true) → ((n : ℕ) → k ≡ Some n → n ≡ next p) → is_some k ≡ is_some (held_by (cell heap c) heap) → spot z (effect p (acts.Swap c h k) heap) ≡ cond (same_holder z (cell heap c)) (hand_spot p h heap) (spot z heap)
 swap-spot p c None None z next heap f once is reach given came full = named z (cell heap c) (λ w. spot w heap) None (spot z heap) (λ _. nil-spot (cell heap c) heap (sym full)) (λ _. refl)
 swap-spot p c None (Some k) z next heap f once is reach given came full =
@@ -214,7 +218,7 @@ cells_step shape sight p (acts.Take s g k) z next is ok f once cell' =
     let m = met (needs shape sight p (acts.Take s g k)) ok in
     let c : CellName = cells.Field s g in
     let act = acts.Take s g k in
-    let t = out_turn p k act next sight.heap c (eqb-true k sight.next m.1.1.1.1.0 ∙ is) f (own-cell sight.heap c) (twice (is_some (held_by (cell sight.heap c) sight.heap)) m.1.1.1.0) (fielded sight.heap s g (is_open_to p) m.1.0 (λ o e. or-right (is_live o) (owes_to p Deinit o) (and_parts (owes_to p Deinit o) (are_nil sight.heap g o) (at_found (λ o. owes_to p Deinit o && are_nil sight.heap g o) (at_slot s sight.heap) o e m.1.1.0)).0)) in
+    let t = out_turn p k act next sight.heap c (eqb-true k sight.next m.1.1.1.1.0 ∙ is) f (own-cell sight.heap c) (twice (is_some (held_by (cell sight.heap c) sight.heap)) m.1.1.1.0) (fielded sight.heap s g (is_open_to shape p) m.1.0 (λ o e. or-right (is_live shape o) (owes_to p Deinit o) (and_parts (owes_to p Deinit o) (are_nil sight.heap g o) (at_found (λ o. owes_to p Deinit o && are_nil sight.heap g o) (at_slot s sight.heap) o e m.1.1.0)).0)) in
     named z (cell sight.heap c) (λ w. spot w (becomes (cell sight.heap c) (Hand p k) sight.heap)) None (spot z sight.heap)
     (λ _. went-turn p act next (advance true p next) sight.heap (becomes (cell sight.heap c) (Hand p k) sight.heap) t (cell sight.heap c) f (own-cell sight.heap c) (same-refl (cell sight.heap c)) (cell-hand p k sight.heap c))
     (λ other. renamed-spot z (cell sight.heap c) (Hand p k) sight.heap other (no-hand z p k cell'))

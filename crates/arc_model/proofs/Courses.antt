@@ -15,17 +15,17 @@ use Rattle.arc_model.specs.declared.event.Got.{Got}
 use Rattle.arc_model.specs.declared.event.Got.TheVariants as got
 use Rattle.arc_model.specs.declared.event.Event.{Event}
 use Rattle.arc_model.specs.declared.shape.Kind.TheVariants.{Strong, Unowned, Weak}
-use Rattle.arc_model.proofs.Basics.{AreMet, met, met-split, opposite, true≢false, None≢Some, in-not_empty, at_found}
+use Rattle.arc_model.proofs.Basics.{AreMet, met, met-split, opposite, true≢false, None≢Some, in-not_empty, some-strong, in-strong, at_found}
 use Rattle.arc_model.proofs.Builds.{advance, advance-grows, advance-here, some-is, find-passes, le-refl, whole-of, hand-is, hand-ended, next-mine, join_turn, copy_turn, rename_turn, live-renamed, any-end, times-end, not-by, drop_turn, finish_turn, vacate_turn, gone_turn}
 use Rattle.arc_model.proofs.Keeps.{none-total, Course, still, makes, turn, turns, kept, kept-still, kept-turn}
 use Rattle.arc_model.proofs.Stages.{live-facts, whole-entered, in-kind, holds-held}
 use Rattle.arc_model.proofs.Tally.{no, clash, same-id, same-refl, is_pos, tally-in}
 use Rattle.arc_model.proofs.Turns.{put-found, place-put, keep, is_open_to, Turn, held-turn}
-use Rattle.arc_model.specs.Cells.{id_of, cell, is_nil, has_field, fields_of, each_below, are_nil, are_all_nil}
+use Rattle.arc_model.specs.Cells.{id_of, cell, is_nil, is_immortal, strong_holders, holders_with, is_live, has_field, fields_of, each_below, are_nil, are_all_nil}
 use Rattle.arc_model.specs.Effects.{becomes, effect, entry_to, entry_left, given_up, unclaimed, finished, vacated, gone}
 use Rattle.arc_model.specs.Heaps.{Holder, Hand, Field, Strongs, Unowneds, Deinit, Vacating, Gone, Object, Claimed, Heap}
 use Rattle.arc_model.specs.History.{History, heap_after, next_hand, brings, is_of, sight, IsLegal}
-use Rattle.arc_model.specs.Holders.{same_id, same_holder, is_hand_of, at_slot, lists, renamed, is_in, is_empty, is_alone, is_live, holds, kind_in, with_list, at_first, with_last, change, is_number, claims_it, in_slot, has_entry, held_by, list_with, is_entry_taken, is_claimed_by, is_duty, is_by, owes_to}
+use Rattle.arc_model.specs.Holders.{same_id, same_holder, is_hand_of, at_slot, lists, renamed, is_in, is_empty, is_alone, holds, kind_in, with_list, at_first, with_last, change, is_number, claims_it, in_slot, has_entry, held_by, is_entry_taken, is_claimed_by, is_duty, is_by, owes_to}
 use Rattle.arc_model.specs.Needs.{Sight, first_failing, needs, reachable, has, puts, takes, passes, has_room, same_bool}
 use Rattle.arc_model.specs.Shapes.{HeapShape}
 use Rattle.arc_model.specs.WellFormed.{more, held, total, has_entry_times, claimed_times, is_own, HasField, IsWellFormed, WellFormedAfter}
@@ -172,8 +172,8 @@ left-others r p e t (c ∷ cs) ne h one = go (claims_it e c) (eqb c.thread p) re
     go false false f h one ih = ap (λ b. eqb c.thread r && eqb c.entry t || b) (ih h one)
 
 -- an object gets a claimed entry
-side_turn : {shape : HeapShape} (p s e : ℕ) (act : Act) (next : ℕ → ℕ) (old : Heap) (o : Object) → find (in_slot s) old.objects ≡ Some o → IsWellFormed shape next old → is_claimed_by p e old ≡ true → is_some o.entry ≡ false → Turn shape p act next next old (unclaimed e (change (in_slot s) (λ o. record o { entry = Some e }) old))
-side_turn p s e act next old o found f mine free =
+side_turn : {shape : HeapShape} (p s e : ℕ) (act : Act) (next : ℕ → ℕ) (old : Heap) (o : Object) → find (in_slot s) old.objects ≡ Some o → IsWellFormed shape next old → is_claimed_by p e old ≡ true → is_some o.entry ≡ false → is_immortal shape o ≡ false → Turn shape p act next next old (unclaimed e (change (in_slot s) (λ o. record o { entry = Some e }) old))
+side_turn {shape = shape} p s e act next old o found f mine free mortal =
     let put = put-found (in_slot s) (λ o. record o { entry = Some e }) old.objects o found in
     let slot : is_some o.slot ≡ true = ap is_some (number-is o.slot s (find-passes (in_slot s) old.objects o found)) in record {
       o = o;
@@ -189,6 +189,7 @@ side_turn p s e act next old o found f mine free =
       whole = whole-entered o e slot (whole-of next old (at_first (in_slot s) (λ o. record o { entry = Some e }) old.objects) o (record o { entry = Some e }) f put);
       no_strongs = refl;
       no_unowneds = refl;
+      no_forever = refl;
       absent = λ z _ c. no c;
       mine = λ r k c. no c;
       was_mine = λ r k e. no e;
@@ -197,6 +198,7 @@ side_turn p s e act next old o found f mine free =
       entries = λ t. entries t (eqb e t) refl;
       weak_stays = λ h. h;
       entry_stays = λ n h. clash (is_some o.entry) (ap is_some h) free;
+      unentered = λ h _. clash (is_immortal shape o) h mortal;
       owed = λ r ne. refl;
       stays = λ d h. inl h;
       claims = λ r ne t. left-others r p e t old.claims ne mine (let a = f.entries e in omega arith);
@@ -274,11 +276,11 @@ any-hand p [] h = no h
 any-hand p (x ∷ xs) h = refl
 
 -- a cell that p can reach is a field of a live object, if it is one
-pub reached : (shape : HeapShape) (heap : Heap) (p : ℕ) (c : CellName) → AreMet (reachable shape heap p c) → Fielded shape is_live heap heap c
-reached shape heap p (cells.Field s g) m id n same = fielded heap s g is_live m.1.0 (λ o e. ap not (any-hand p o.strong (at_found (λ o. list_any (is_hand_of p) o.strong) (at_slot s heap) o e m.1.1.0))) id n same
+pub reached : (shape : HeapShape) (heap : Heap) (p : ℕ) (c : CellName) → AreMet (reachable shape heap p c) → Fielded shape (is_live shape) heap heap c
+reached shape heap p (cells.Field s g) m id n same = fielded heap s g (is_live shape) m.1.0 (λ o e. ap not (some-strong shape o (any-hand p o.strong (at_found (λ o. list_any (is_hand_of p) o.strong) (at_slot s heap) o e m.1.1.0)))) id n same
 reached shape heap p (cells.Global g) m id n same = no same
 
-pub is-open : {shape : HeapShape} (p : ℕ) (was heap : Heap) (c : CellName) → Fielded shape is_live was heap c → Fielded shape (is_open_to p) was heap c
+pub is-open : {shape : HeapShape} (p : ℕ) (was heap : Heap) (c : CellName) → Fielded shape (is_live shape) was heap c → Fielded shape (is_open_to shape p) was heap c
 is-open p was heap c reach id g same =
     let has = reach id g same in record {
       place = has.place;
@@ -290,16 +292,16 @@ is-open p was heap c reach id g same =
     }
 
 -- the hand k of p takes the place of a cell
-abbrev pub out_turn : {shape : HeapShape} (p k : ℕ) (act : Act) (next : ℕ → ℕ) (heap : Heap) (c : CellName) → k ≡ next p → IsWellFormed shape next heap → is_own (cell heap c) ≡ true → is_some (find (holds (cell heap c)) heap.objects) ≡ true → Fielded shape (is_open_to p) heap heap c → Turn shape p act next (advance true p next) heap (becomes (cell heap c) (Hand p k) heap)
+abbrev pub out_turn : {shape : HeapShape} (p k : ℕ) (act : Act) (next : ℕ → ℕ) (heap : Heap) (c : CellName) → k ≡ next p → IsWellFormed shape next heap → is_own (cell heap c) ≡ true → is_some (find (holds (cell heap c)) heap.objects) ≡ true → Fielded shape (is_open_to shape p) heap heap c → Turn shape p act next (advance true p next) heap (becomes (cell heap c) (Hand p k) heap)
 out_turn p k act next heap c is f own some takes =
     rename_turn p act next (advance true p next) heap (cell heap c) (Hand p k) f own refl some (f.fresh p k (omega arith)) (next-mine p k next is) (λ r n e. no (sym (hand-cell r n heap c) ∙ e)) (advance-grows true p next) (λ id g e. no e) takes
 
 -- a cell, of an earlier heap, takes the place of hand h of p
-abbrev pub in_turn : {shape : HeapShape} (p h : ℕ) (k : Option ℕ) (next : ℕ → ℕ) (heap was : Heap) (c : CellName) → IsWellFormed shape next heap → is_own (cell was c) ≡ true → is_some (find (holds (Hand p h)) heap.objects) ≡ true → total (held (cell was c)) heap.objects ≡ 0 → Fielded shape is_live was heap c → Turn shape p (acts.Swap c (Some h) k) next next heap (becomes (Hand p h) (cell was c) heap)
+abbrev pub in_turn : {shape : HeapShape} (p h : ℕ) (k : Option ℕ) (next : ℕ → ℕ) (heap was : Heap) (c : CellName) → IsWellFormed shape next heap → is_own (cell was c) ≡ true → is_some (find (holds (Hand p h)) heap.objects) ≡ true → total (held (cell was c)) heap.objects ≡ 0 → Fielded shape (is_live shape) was heap c → Turn shape p (acts.Swap c (Some h) k) next next heap (becomes (Hand p h) (cell was c) heap)
 in_turn p h k next heap was c f own some absent puts =
     rename_turn p (acts.Swap c (Some h) k) next next heap (Hand p h) (cell was c) f refl own some absent (λ r n e. no (sym (hand-cell r n was c) ∙ e)) (λ r n e. hand-ended r n p h e) (λ r. le-refl (next r)) puts (λ id g e. no e)
 
-abbrev pub swap_second : {shape : HeapShape} (p h k : ℕ) (c : CellName) (next : ℕ → ℕ) (heap : Heap) → IsWellFormed shape next heap → is_own (cell heap c) ≡ true → is_some (held_by (Hand p h) heap) ≡ true → k ≡ next p → is_some (held_by (cell heap c) heap) ≡ true → Fielded shape is_live heap heap c → Turn shape p (acts.Swap c (Some h) (Some k)) (advance true p next) (advance true p next) (becomes (cell heap c) (Hand p k) heap) (becomes (Hand p h) (cell heap c) (becomes (cell heap c) (Hand p k) heap))
+abbrev pub swap_second : {shape : HeapShape} (p h k : ℕ) (c : CellName) (next : ℕ → ℕ) (heap : Heap) → IsWellFormed shape next heap → is_own (cell heap c) ≡ true → is_some (held_by (Hand p h) heap) ≡ true → k ≡ next p → is_some (held_by (cell heap c) heap) ≡ true → Fielded shape (is_live shape) heap heap c → Turn shape p (acts.Swap c (Some h) (Some k)) (advance true p next) (advance true p next) (becomes (cell heap c) (Hand p k) heap) (becomes (Hand p h) (cell heap c) (becomes (cell heap c) (Hand p k) heap))
 swap_second p h k c next heap f own given came full reach =
     let mid = becomes (cell heap c) (Hand p k) heap in
     let first = out_turn p k (acts.Swap c (Some h) (Some k)) next heap c came f own full (is-open p heap heap c reach) in
@@ -317,7 +319,7 @@ swap_second p h k c next heap f own given came full reach =
     more-up true m n e h = omega arith
     more-up false m n e h = omega arith
 
-swap_course : {shape : HeapShape} (p : ℕ) (c : CellName) (h k : Option ℕ) (next : ℕ → ℕ) (heap : Heap) → IsWellFormed shape next heap → is_own (cell heap c) ≡ true → ((n : ℕ) → h ≡ Some n → is_some (held_by (Hand p n) heap) ≡ true) → ((n : ℕ) → k ≡ Some n → n ≡ next p) → same_bool (is_some k) (not (is_nil heap (cell heap c))) ≡ true → Fielded shape is_live heap heap c → Course shape p (acts.Swap c h k) next (advance (brings (acts.Swap c h k)) p next) heap (effect p (acts.Swap c h k) heap)
+swap_course : {shape : HeapShape} (p : ℕ) (c : CellName) (h k : Option ℕ) (next : ℕ → ℕ) (heap : Heap) → IsWellFormed shape next heap → is_own (cell heap c) ≡ true → ((n : ℕ) → h ≡ Some n → is_some (held_by (Hand p n) heap) ≡ true) → ((n : ℕ) → k ≡ Some n → n ≡ next p) → same_bool (is_some k) (not (is_nil heap (cell heap c))) ≡ true → Fielded shape (is_live shape) heap heap c → Course shape p (acts.Swap c h k) next (advance (brings (acts.Swap c h k)) p next) heap (effect p (acts.Swap c h k) heap)
 swap_course p c None None next heap f own given came nil reach = idle p (acts.Swap c None None) next heap f
 swap_course p c None (Some k) next heap f own given came nil reach = turn (out_turn p k (acts.Swap c None (Some k)) next heap c (came k refl) f own (twice (is_some (held_by (cell heap c) heap)) nil) (is-open p heap heap c reach))
 swap_course p c (Some h) None next heap f own given came nil reach = turn (in_turn p h None next heap heap c f own (given h refl) (not-held (cell heap c) heap.objects (opposite (is_some (held_by (cell heap c) heap)) (twice (is_nil heap (cell heap c)) nil))) reach)
@@ -330,9 +332,9 @@ load_course shape sight p h (got.Hand k) next is ok f =
     let m = met (needs shape sight p (acts.Load h (got.Hand k))) ok in
     let r = some-is (held_by (Hand p h) sight.heap) (passes-some (λ o. is_in (Hand p h) o.unowned || is_in (Hand p h) o.weak) (held_by (Hand p h) sight.heap) m.0) in
     let put = put-found (holds (Hand p h)) (with_list Strong (with_last (Hand p k))) sight.heap.objects r.0 r.1 in
-    let test = at_found (λ o. is_live o && has_room shape.caps.wide o.strong) (held_by (Hand p h) sight.heap) r.0 r.1 m.1.1.0 in
-    let live = opposite (is_empty r.0.strong) (and_parts (is_live r.0) (has_room shape.caps.wide r.0.strong) test).0 in
-    turn (join_turn p k (acts.Load h (got.Hand k)) next sight.heap (effect p (acts.Load h (got.Hand k)) sight.heap) r.0 (with_list Strong (with_last (Hand p k)) r.0) Strong (eqb-true k sight.next m.1.0 ∙ is) f put refl refl refl refl refl refl refl refl refl live tt (record { from = Hand p h; own = refl; mine = λ r n e. (hand-is r n p h e).0; inside = find-passes (holds (Hand p h)) sight.heap.objects r.0 r.1; list = inr (and_parts (is_live r.0) (has_room shape.caps.wide r.0.strong) test).0 }))
+    let test = at_found (λ o. is_live shape o && has_room shape o o.strong) (held_by (Hand p h) sight.heap) r.0 r.1 m.1.1.0 in
+    let live = opposite (is_empty (strong_holders shape r.0)) (and_parts (is_live shape r.0) (has_room shape r.0 r.0.strong) test).0 in
+    turn (join_turn p k (acts.Load h (got.Hand k)) next sight.heap (effect p (acts.Load h (got.Hand k)) sight.heap) r.0 (with_list Strong (with_last (Hand p k)) r.0) Strong (eqb-true k sight.next m.1.0 ∙ is) f put refl refl refl refl refl refl refl refl refl live tt (record { from = Hand p h; own = refl; mine = λ r n e. (hand-is r n p h e).0; inside = find-passes (holds (Hand p h)) sight.heap.objects r.0 r.1; list = inr (and_parts (is_live shape r.0) (has_room shape r.0 r.0.strong) test).0 }))
 load_course shape sight p h got.Dead next is ok f = idle p (acts.Load h got.Dead) next sight.heap f
 load_course shape sight p h got.Nil next is ok f = idle p (acts.Load h got.Nil) next sight.heap f
 
@@ -371,7 +373,7 @@ drop_course shape sight p h last next ok f =
     let r = some-is (held_by x sight.heap) m.0 in
     let put = put-found (holds x) (given_up p x last) sight.heap.objects r.0 r.1 in
     let has = find-passes (holds x) sight.heap.objects r.0 r.1 in
-    let alone = at_found (λ o. same_bool last (is_alone (list_with x o))) (held_by x sight.heap) r.0 r.1 m.1.0 in
+    let alone = at_found (λ o. same_bool last (is_alone (holders_with shape x o))) (held_by x sight.heap) r.0 r.1 m.1.0 in
     subst (λ n. Turn shape p (acts.Drop h last) next next sight.heap (entry_to p n (change (holds x) (given_up p x last) sight.heap))) (sym (ap (entry_left x last) r.1))
     (drop_turn p h last next sight.heap (at_first (holds x) (given_up p x last) sight.heap.objects) r.0 (kind_in x r.0) put (in-kind x r.0 has) alone (whole-of next sight.heap (at_first (holds x) (given_up p x last) sight.heap.objects) r.0 (given_up p x last r.0) f put))
 
@@ -390,8 +392,8 @@ course shape sight p (acts.UnownedOf h k) next is ok f =
     let put = put-found (holds (Hand p h)) (with_list Unowned (with_last (Hand p k))) sight.heap.objects r.0 r.1 in
     let inside = at_found (λ o. is_in (Hand p h) o.strong) (held_by (Hand p h) sight.heap) r.0 r.1 m.0 in
     let whole = whole-of next sight.heap (at_first (holds (Hand p h)) (with_list Unowned (with_last (Hand p k))) sight.heap.objects) r.0 (with_list Unowned (with_last (Hand p k)) r.0) f put in
-    let one = (live-facts r.0 whole (in-not_empty (Hand p h) r.0.strong inside)).strongs in
-    turn (join_turn p k (acts.UnownedOf h k) next sight.heap (effect p (acts.UnownedOf h k) sight.heap) r.0 (with_list Unowned (with_last (Hand p k)) r.0) Unowned (eqb-true k sight.next m.1.0 ∙ is) f put refl refl refl refl refl refl refl refl refl (in-not_empty Strongs r.0.unowned (tally-in Strongs r.0.unowned (omega arith))) tt (record { from = Hand p h; own = refl; mine = λ r n e. (hand-is r n p h e).0; inside = find-passes (holds (Hand p h)) sight.heap.objects r.0 r.1; list = inr (ap not (in-not_empty (Hand p h) r.0.strong inside)) }))
+    let one = (live-facts r.0 whole (in-strong shape (Hand p h) r.0 inside)).strongs in
+    turn (join_turn p k (acts.UnownedOf h k) next sight.heap (effect p (acts.UnownedOf h k) sight.heap) r.0 (with_list Unowned (with_last (Hand p k)) r.0) Unowned (eqb-true k sight.next m.1.0 ∙ is) f put refl refl refl refl refl refl refl refl refl (in-not_empty Strongs r.0.unowned (tally-in Strongs r.0.unowned (omega arith))) tt (record { from = Hand p h; own = refl; mine = λ r n e. (hand-is r n p h e).0; inside = find-passes (holds (Hand p h)) sight.heap.objects r.0 r.1; list = inr (ap not (in-strong shape (Hand p h) r.0 inside)) }))
 course shape sight p (acts.WeakOf h k) next is ok f =
     let m = met (needs shape sight p (acts.WeakOf h k)) ok in
     let r = some-is (held_by (Hand p h) sight.heap) (passes-some (λ o. is_in (Hand p h) o.strong) (held_by (Hand p h) sight.heap) m.0) in
@@ -399,8 +401,8 @@ course shape sight p (acts.WeakOf h k) next is ok f =
     let inside = at_found (λ o. is_in (Hand p h) o.strong) (held_by (Hand p h) sight.heap) r.0 r.1 m.0 in
     let entry = at_found (λ o. is_some o.entry) (held_by (Hand p h) sight.heap) r.0 r.1 m.1.0 in
     let whole = whole-of next sight.heap (at_first (holds (Hand p h)) (with_list Weak (with_last (Hand p k))) sight.heap.objects) r.0 (with_list Weak (with_last (Hand p k)) r.0) f put in
-    let one = (live-facts r.0 whole (in-not_empty (Hand p h) r.0.strong inside)).unowneds in
-    turn (join_turn p k (acts.WeakOf h k) next sight.heap (effect p (acts.WeakOf h k) sight.heap) r.0 (with_list Weak (with_last (Hand p k)) r.0) Weak (eqb-true k sight.next m.1.1.0 ∙ is) f put refl refl refl refl refl refl refl refl refl (in-not_empty Unowneds r.0.weak (tally-in Unowneds r.0.weak (omega arith))) (λ none _. clash (is_some r.0.entry) entry (ap is_some none)) (record { from = Hand p h; own = refl; mine = λ r n e. (hand-is r n p h e).0; inside = find-passes (holds (Hand p h)) sight.heap.objects r.0 r.1; list = inr (ap not (in-not_empty (Hand p h) r.0.strong inside)) }))
+    let one = (live-facts r.0 whole (in-strong shape (Hand p h) r.0 inside)).unowneds in
+    turn (join_turn p k (acts.WeakOf h k) next sight.heap (effect p (acts.WeakOf h k) sight.heap) r.0 (with_list Weak (with_last (Hand p k)) r.0) Weak (eqb-true k sight.next m.1.1.0 ∙ is) f put refl refl refl refl refl refl refl refl refl (in-not_empty Unowneds r.0.weak (tally-in Unowneds r.0.weak (omega arith))) (λ none _. clash (is_some r.0.entry) entry (ap is_some none)) (record { from = Hand p h; own = refl; mine = λ r n e. (hand-is r n p h e).0; inside = find-passes (holds (Hand p h)) sight.heap.objects r.0 r.1; list = inr (ap not (in-strong shape (Hand p h) r.0 inside)) }))
 course shape sight p (acts.Load h g) next is ok f = load_course shape sight p h g next is ok f
 course shape sight p (acts.Drop h last) next is ok f = turn (drop_course shape sight p h last next ok f)
 course shape sight p (acts.CountFull k from) next is ok f = idle p (acts.CountFull k from) next sight.heap f
@@ -408,9 +410,10 @@ course shape sight p (acts.Claim e) next is ok f = claim_course p e next sight.h
 course shape sight p acts.NoEntry next is ok f = idle p acts.NoEntry next sight.heap f
 course shape sight p (acts.Side s e why) next is ok f =
     let m = met (needs shape sight p (acts.Side s e why)) ok in
-    let r = some-is (find (in_slot s) sight.heap.objects) m.0 in
+    let r = some-is (find (in_slot s) sight.heap.objects) (passes-some (λ o. not (is_immortal shape o)) (find (in_slot s) sight.heap.objects) m.0) in
+    let mortal = opposite (is_immortal shape r.0) (at_found (λ o. not (is_immortal shape o)) (find (in_slot s) sight.heap.objects) r.0 r.1 m.0) in
     let free = opposite (is_some r.0.entry) (at_found (λ o. not (is_some o.entry)) (find (in_slot s) sight.heap.objects) r.0 r.1 m.1.1.0) in
-    turn (side_turn p s e (acts.Side s e why) next sight.heap r.0 r.1 f m.1.0 free)
+    turn (side_turn p s e (acts.Side s e why) next sight.heap r.0 r.1 f m.1.0 free mortal)
 course shape sight p (acts.Back e) next is ok f = back_course p e next sight.heap f (met (needs shape sight p (acts.Back e)) ok).0
 course shape sight p (acts.Swap c h k) next is ok f =
     let m = met-split (reachable shape sight.heap p c) _ (met (needs shape sight p (acts.Swap c h k)) ok) in
@@ -432,7 +435,7 @@ course shape sight p (acts.Swap c h k) next is ok f =
 course shape sight p (acts.Look c) next is ok f = idle p (acts.Look c) next sight.heap f
 course shape sight p (acts.Take s g k) next is ok f =
     let m = met (needs shape sight p (acts.Take s g k)) ok in
-    turn (out_turn p k (acts.Take s g k) next sight.heap (cells.Field s g) (eqb-true k sight.next m.1.1.1.1.0 ∙ is) f refl (twice (is_some (held_by (cell sight.heap (cells.Field s g)) sight.heap)) m.1.1.1.0) (fielded sight.heap s g (is_open_to p) m.1.0 (λ o e. or-right (is_live o) (owes_to p Deinit o) (and_parts (owes_to p Deinit o) (are_nil sight.heap g o) (at_found (λ o. owes_to p Deinit o && are_nil sight.heap g o) (at_slot s sight.heap) o e m.1.1.0)).0)))
+    turn (out_turn p k (acts.Take s g k) next sight.heap (cells.Field s g) (eqb-true k sight.next m.1.1.1.1.0 ∙ is) f refl (twice (is_some (held_by (cell sight.heap (cells.Field s g)) sight.heap)) m.1.1.1.0) (fielded sight.heap s g (is_open_to shape p) m.1.0 (λ o e. or-right (is_live shape o) (owes_to p Deinit o) (and_parts (owes_to p Deinit o) (are_nil sight.heap g o) (at_found (λ o. owes_to p Deinit o && are_nil sight.heap g o) (at_slot s sight.heap) o e m.1.1.0)).0)))
 course shape sight p (acts.Finish s last) next is ok f =
     let m = met (needs shape sight p (acts.Finish s last)) ok in
     let r = some-is (find (in_slot s) sight.heap.objects) m.0 in
@@ -473,6 +476,7 @@ course_after shape e h legal f = course shape (sight e.thread h) e.thread e.act 
 pub well_formed : WellFormedAfter
 well_formed shape [] legal = record {
   whole = λ i o e. absurd (None≢Some o e);
+  immortal = λ i o e. absurd (None≢Some o e);
   none_strays = λ i o e. absurd (None≢Some o e);
   once = λ z own. omega arith;
   fresh = λ p k h. refl;

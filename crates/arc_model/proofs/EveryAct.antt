@@ -8,11 +8,11 @@ use Rattle.arc_model.specs.declared.event.Event.{Event}
 use Rattle.arc_model.specs.declared.shape.Kind.TheVariants.{Strong, Unowned, Weak}
 use Rattle.arc_model.specs.Shapes.{HeapShape}
 use Rattle.arc_model.specs.History.{IsLegal}
-use Rattle.arc_model.proofs.Judged.{by_one, by_two, onto, legal_onto}
+use Rattle.arc_model.proofs.Judged.{mortal, by_one, by_two, onto, legal_onto}
 
 -- two slots, two entries, small caps; class 0 has a field of each kind and class 1 none; a global of each kind
 abbrev pub small : HeapShape
-small = record { slots = 2; entries = 2; caps = record { strong = 1; unowned = 2; wide = 3 }; classes = (record { kind = Strong; class = 1 } ∷ record { kind = Unowned; class = 0 } ∷ record { kind = Weak; class = 0 } ∷ []) ∷ [] ∷ []; globals = record { kind = Strong; class = 0 } ∷ record { kind = Unowned; class = 0 } ∷ record { kind = Weak; class = 0 } ∷ [] }
+small = record { slots = 2; entries = 2; caps = record { strong = 1; unowned = 2; wide = 3 }; classes = mortal (record { kind = Strong; class = 1 } ∷ record { kind = Unowned; class = 0 } ∷ record { kind = Weak; class = 0 } ∷ []) ∷ mortal [] ∷ []; globals = record { kind = Strong; class = 0 } ∷ record { kind = Unowned; class = 0 } ∷ record { kind = Weak; class = 0 } ∷ [] }
 
 -- each act with each outcome: copies from a hand, a global and a field, loads that give an object, dead and nil, drops that
 -- are the last of each list and that are not, an entry published for each list, swaps with and without a hand on each side

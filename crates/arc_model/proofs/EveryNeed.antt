@@ -10,7 +10,8 @@ use Rattle.arc_model.specs.declared.event.Illegal.TheVariants.{NotHeld, NoSuchOb
 use Rattle.arc_model.specs.declared.shape.Kind.TheVariants.{Strong, Unowned, Weak}
 use Rattle.arc_model.specs.declared.event.Illegal.{Illegal}
 use Rattle.arc_model.specs.History.{judge}
-use Rattle.arc_model.proofs.Judged.{by_one, by_two, onto, first, Fails}
+use Rattle.arc_model.specs.Shapes.{HeapShape}
+use Rattle.arc_model.proofs.Judged.{undying, by_one, by_two, onto, first, Fails}
 use Rattle.arc_model.proofs.EveryAct.{small, every_act}
 
 abbrev After : ℕ → Event → ℕ → Illegal → Type 0
@@ -215,3 +216,27 @@ pub looks_back :
     × (judge small (onto [] (first 39 every_act)) (by_one acts.NoEntry) ≡ None)
     × (judge small (onto [] (first 2 every_act)) (by_one acts.Full) ≡ None)
 looks_back = (refl, refl, refl)
+
+-- one slot, and one class, which is immortal
+abbrev immortal_shape : HeapShape
+immortal_shape = record { slots = 1; entries = 1; caps = record { strong = 0; unowned = 1; wide = 1 }; classes = undying ∷ []; globals = [] }
+
+-- an immortal object with an unowned hand, and an entry that is claimed
+abbrev immortal_early : List Event
+immortal_early =
+    by_one (acts.New 1 0 0) ∷
+    by_one (acts.UnownedOf 1 2) ∷
+    by_one (acts.Claim 0) ∷
+    []
+
+abbrev OfImmortal : Event → ℕ → Illegal → Type 0
+OfImmortal e i why = Fails immortal_shape immortal_early e i why
+
+-- what an immortal object isn't fit for: an entry, a full count, a last drop, and a load that doesn't give it
+pub immortal :
+    OfImmortal (by_one (acts.Side 0 0 Strong)) 0 NoSuchObject
+    × OfImmortal (by_one (acts.WeakOf 1 3)) 1 NoSuchObject
+    × OfImmortal (by_one (acts.CountFull Strong (origins.Hand 1))) 1 WrongAnswer
+    × OfImmortal (by_one (acts.Drop 1 true)) 1 WrongAnswer
+    × OfImmortal (by_one (acts.Load 2 got.Dead)) 1 WrongAnswer
+immortal = ((refl, refl), (refl, refl), (refl, refl), (refl, refl), (refl, refl))

@@ -7,8 +7,8 @@ use Rattle.arc_model.specs.declared.event.Act.{Act}
 use Rattle.arc_model.specs.declared.event.Event.{Event}
 use Rattle.arc_model.specs.Shapes.{HeapShape}
 use Rattle.arc_model.specs.Heaps.{Holder, Field, Deinit, Owed, Object, Heap}
-use Rattle.arc_model.specs.Holders.{made_by, same_id, is_empty, is_live, same_duty, is_duty, is_by, owes_to, held_by}
-use Rattle.arc_model.specs.Cells.{is_nil}
+use Rattle.arc_model.specs.Holders.{made_by, same_id, is_empty, same_duty, is_duty, is_by, owes_to, held_by}
+use Rattle.arc_model.specs.Cells.{is_nil, strong_holders, is_live}
 use Rattle.arc_model.specs.Effects.{made}
 use Rattle.arc_model.specs.History.{History, heap_after, next_hand, brings, IsLegal}
 use Rattle.arc_model.specs.WellFormed.{more, held, total, named_times, HasField, IsWellFormed}
@@ -69,14 +69,14 @@ total-nil x heap h = go (is_some (held_by x heap)) refl
     go false e = refl
 
 -- no field of an object that isn't live is filled
-not-filled : {shape : HeapShape} (p : ℕ) (act : Act) (next since : ℕ → ℕ) (old new : Heap) (t : Turn shape p act next since old new) → IsWellFormed shape next old → (i : ℕ) (o : Object) → slice_get old.objects i ≡ Some o → is_empty o.strong ≡ true → (f : ℕ) → comes t.edit (Field o.id f) ≡ true → ⊥
-not-filled p act next since old new t wf i o h empty f c =
+not-filled : {shape : HeapShape} (p : ℕ) (act : Act) (next since : ℕ → ℕ) (old new : Heap) (t : Turn shape p act next since old new) → IsWellFormed shape next old → (i : ℕ) (o : Object) → slice_get old.objects i ≡ Some o → is_empty (strong_holders shape o) ≡ true → (f : ℕ) → comes t.edit (Field o.id f) ≡ true → ⊥
+not-filled {shape = shape} p act next since old new t wf i o h empty f c =
     let has = t.puts_in o.id f c in
     let s = turn-step p act next since old new t i o h in
     let same = one-name o.id new.objects has.place i has.object s.q (names-once since new (kept-turn p act next since old new t wf) o.id) has.here has.named s.here s.id in
-    true≢false (sym has.passing ∙ ap is_live same ∙ ap not (still_empty p act i o new s empty))
+    true≢false (sym has.passing ∙ ap (is_live shape) same ∙ ap not (still_empty p act i o new s empty))
 
-nil-turn : {shape : HeapShape} (p : ℕ) (act : Act) (next since : ℕ → ℕ) (old new : Heap) → Turn shape p act next since old new → IsWellFormed shape next old → (i : ℕ) (o : Object) → slice_get old.objects i ≡ Some o → is_empty o.strong ≡ true → (f : ℕ) → total (held (Field o.id f)) old.objects ≡ 0 → total (held (Field o.id f)) new.objects ≡ 0
+nil-turn : {shape : HeapShape} (p : ℕ) (act : Act) (next since : ℕ → ℕ) (old new : Heap) → Turn shape p act next since old new → IsWellFormed shape next old → (i : ℕ) (o : Object) → slice_get old.objects i ≡ Some o → is_empty (strong_holders shape o) ≡ true → (f : ℕ) → total (held (Field o.id f)) old.objects ≡ 0 → total (held (Field o.id f)) new.objects ≡ 0
 nil-turn p act next since old new t wf i o h empty f none = go (goes t.edit (Field o.id f)) (comes t.edit (Field o.id f)) refl refl
   where
     go : (a b : Bool) → goes t.edit (Field o.id f) ≡ a → comes t.edit (Field o.id f) ≡ b → total (held (Field o.id f)) new.objects ≡ 0
@@ -84,7 +84,7 @@ nil-turn p act next since old new t wf i o h empty f none = go (goes t.edit (Fie
     go true false ga gb = let e = held-turn p act next since old new t (Field o.id f) true false ga gb in omega arith
     go false false ga gb = let e = held-turn p act next since old new t (Field o.id f) false false ga gb in omega arith
 
-nil-course : {shape : HeapShape} (p : ℕ) (act : Act) (next since : ℕ → ℕ) (old new : Heap) → Course shape p act next since old new → IsWellFormed shape next old → (i : ℕ) (o : Object) → slice_get old.objects i ≡ Some o → is_empty o.strong ≡ true → (f : ℕ) → total (held (Field o.id f)) old.objects ≡ 0 → total (held (Field o.id f)) new.objects ≡ 0
+nil-course : {shape : HeapShape} (p : ℕ) (act : Act) (next since : ℕ → ℕ) (old new : Heap) → Course shape p act next since old new → IsWellFormed shape next old → (i : ℕ) (o : Object) → slice_get old.objects i ≡ Some o → is_empty (strong_holders shape o) ≡ true → (f : ℕ) → total (held (Field o.id f)) old.objects ≡ 0 → total (held (Field o.id f)) new.objects ≡ 0
 nil-course p act next since old new (still same entries grows claims taken) wf i o h empty f none = ap (total (held (Field o.id f))) same ∙ none
 nil-course p act next since old new (makes k c s is is_next later grows free) wf i o h empty f none =
     ap (λ (heap : Heap). total (held (Field o.id f)) heap.objects) is
@@ -99,7 +99,7 @@ nil-course p act next since old new (turns between mid t u cell left came swaps)
 its-course : (shape : HeapShape) (e : Event) (h : History) → IsLegal shape (e ∷ h) → Course shape e.thread e.act (λ q. next_hand q h) (advance (brings e.act) e.thread (λ q. next_hand q h)) (heap_after h) (heap_after (e ∷ h))
 its-course shape e h legal = course_after shape e h legal (well_formed shape h legal.1)
 
-nil-after : (shape : HeapShape) (before after : History) (i : ℕ) (o : Object) (f : ℕ) → IsLegal shape (after ++ before) → slice_get (heap_after before).objects i ≡ Some o → is_empty o.strong ≡ true → total (held (Field o.id f)) (heap_after before).objects ≡ 0 → total (held (Field o.id f)) (heap_after (after ++ before)).objects ≡ 0
+nil-after : (shape : HeapShape) (before after : History) (i : ℕ) (o : Object) (f : ℕ) → IsLegal shape (after ++ before) → slice_get (heap_after before).objects i ≡ Some o → is_empty (strong_holders shape o) ≡ true → total (held (Field o.id f)) (heap_after before).objects ≡ 0 → total (held (Field o.id f)) (heap_after (after ++ before)).objects ≡ 0
 nil-after shape before [] i o f legal h empty none = none
 nil-after shape before (e ∷ after) i o f legal h empty none =
     let l = later shape i o before after legal.1 h in
@@ -108,8 +108,8 @@ nil-after shape before (e ∷ after) i o f legal h empty none =
     let b = nil-course e.thread e.act (λ q. next_hand q hs) (advance (brings e.act) e.thread (λ q. next_hand q hs)) (heap_after hs) (heap_after (e ∷ hs)) (its-course shape e hs legal) (well_formed shape hs legal.1) i l.q l.here (l.strong empty) f (ap (λ n. total (held (Field n f)) (heap_after hs).objects) l.id ∙ a) in
     ap (λ n. total (held (Field n f)) (heap_after (e ∷ hs)).objects) (sym l.id) ∙ b
 
-not-live : (o : Object) → is_live o ≡ false → is_empty o.strong ≡ true
-not-live o h = go (is_empty o.strong) h
+not-live : (shape : HeapShape) (o : Object) → is_live shape o ≡ false → is_empty (strong_holders shape o) ≡ true
+not-live shape o h = go (is_empty (strong_holders shape o)) h
   where
     go : (b : Bool) → not b ≡ false → b ≡ true
     go true e = refl
@@ -117,7 +117,7 @@ not-live o h = go (is_empty o.strong) h
 
 pub nil_fields_stay : NilFieldsStay
 nil_fields_stay shape before after i o f legal h dead nil =
-    total-nil (Field o.id f) (heap_after (after ++ before)) (nil-after shape before after i o f legal h (not-live o dead) (nil-total (Field o.id f) (heap_after before) nil))
+    total-nil (Field o.id f) (heap_after (after ++ before)) (nil-after shape before after i o f legal h (not-live shape o dead) (nil-total (Field o.id f) (heap_after before) nil))
 
 -- the deinit that p owes
 owes-duty : (p : ℕ) (m : Option Owed) → is_by p m ≡ true → is_duty Deinit m ≡ true → owed_by p m ≡ Some Deinit
@@ -143,10 +143,10 @@ field-turn {shape = shape} p r act next since old new other t wf i o f h owes =
     let empty = (dying-facts o (wf.whole i o h) mine.1).strong in
     spot-turn r act next since old new t (Field o.id f) (false-if (goes t.edit (Field o.id f)) (λ g. not-taken mine.0 empty (t.takes_out o.id f g))) (false-if (comes t.edit (Field o.id f)) (λ c. not-filled r act next since old new t wf i o h empty f c))
   where
-    not-taken : is_by p o.owed ≡ true → is_empty o.strong ≡ true → HasField shape (is_open_to r) o.id f old → ⊥
+    not-taken : is_by p o.owed ≡ true → is_empty (strong_holders shape o) ≡ true → HasField shape (is_open_to shape r) o.id f old → ⊥
     not-taken by empty has =
         let same = one-name o.id old.objects has.place i has.object o (names-once next old wf o.id) has.here has.named h refl in
-        let open' : (is_live o || owes_to r Deinit o) ≡ true = ap (is_open_to r) (sym same) ∙ has.passing in
+        let open' : (is_live shape o || owes_to r Deinit o) ≡ true = ap (is_open_to shape r) (sym same) ∙ has.passing in
         let owed : owes_to r Deinit o ≡ true = ap (λ b. not b || owes_to r Deinit o) (sym empty) ∙ open' in
         other (by-one p r o.owed by (and_parts (is_by r o.owed) (is_duty Deinit o.owed) owed).0)
 

@@ -1,11 +1,20 @@
 -- Histories that are judged by computing, written with the oldest event first.
-use Rattle.std.proofs.Common.{◌≡◌, drop, ℕ, zero, suc, cond, List, [], ◌∷◌, Option, Some, None, refl, sym}
+use Rattle.std.proofs.Common.{◌≡◌, drop, true, false, ℕ, zero, suc, cond, List, [], ◌∷◌, Option, Some, None, refl, sym}
 use Rattle.arc_model.specs.declared.event.Act.{Act}
 use Rattle.arc_model.specs.declared.event.Event.{Event}
 use Rattle.arc_model.specs.declared.event.Illegal.{Illegal}
-use Rattle.arc_model.specs.Shapes.{HeapShape}
+use Rattle.arc_model.specs.declared.shape.RefShape.{RefShape}
+use Rattle.arc_model.specs.Shapes.{HeapShape, ObjectClass}
 use Rattle.arc_model.specs.Needs.{Need, needs}
 use Rattle.arc_model.specs.History.{History, sight, judge, IsLegal}
+
+-- a class with these fields, whose objects are deinited
+abbrev pub mortal : List RefShape → ObjectClass
+mortal fields = record { fields = fields; immortal = false }
+
+-- a class without fields, whose objects never are
+abbrev pub undying : ObjectClass
+undying = record { fields = []; immortal = true }
 
 abbrev pub by_main : Act → Event
 by_main act = record { thread = 0; act = act }

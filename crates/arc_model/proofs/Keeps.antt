@@ -1,20 +1,21 @@
 -- A well-formed heap stays so through each form of change.
 use Rattle.std.proofs.Common.{◌≡◌, ◌≢◌, ℕ, zero, suc, ◌+◌, ◌≤◌, Bool, true, false, cond, eqb, List, [], ◌∷◌, ◌++◌, Option, Some, ◌⊎◌, inl, inr, refl, sym, ap, ◌∙◌, subst, arith}
-use Rattle.std.specs.Prelude.{find, slice_get, slice_index_or, is_some, nat_lt, length, ◌||◌}
+use Rattle.std.specs.Prelude.{find, slice_get, is_some, nat_lt, length, ◌||◌}
 use Rattle.std.proofs.lemmas.Bool.{and_parts, cases_eq, eq-eqb, ne_eqb, eqb-true}
 use Rattle.std.proofs.lemmas.List.Sums.{sum_by-cons}
-use Rattle.arc_model.specs.Shapes.{HeapShape}
+use Rattle.arc_model.specs.Shapes.{HeapShape, class_at}
 use Rattle.arc_model.specs.declared.event.ObjectId.{ObjectId}
 use Rattle.arc_model.specs.declared.event.CellName.{CellName}
 use Rattle.arc_model.specs.declared.event.Act.{Act}
 use Rattle.arc_model.specs.declared.event.Act.TheVariants as acts
 use Rattle.arc_model.proofs.Basics.{true≢false, None≢Some}
+use Rattle.arc_model.proofs.Stages.{immortal-slot}
 use Rattle.arc_model.proofs.Tally.{no, clash, both, same-eq}
 use Rattle.arc_model.proofs.Turns.{Turn, goes, comes, total-append, total-put, at-put, old-put, place-put, held-turn, fewer-turn}
 use Rattle.arc_model.specs.Effects.{effect, made}
-use Rattle.arc_model.specs.Heaps.{Holder, Hand, Field, Global, Strongs, Unowneds, Deinit, Object, Heap}
-use Rattle.arc_model.specs.Cells.{has_field}
-use Rattle.arc_model.specs.Holders.{same_holder, same_id, is_live, is_duty, made_by, in_slot, is_claimed_by}
+use Rattle.arc_model.specs.Heaps.{Holder, Hand, Field, Global, Strongs, Unowneds, Forever, Deinit, Object, Heap}
+use Rattle.arc_model.specs.Cells.{has_field, is_immortal, is_live}
+use Rattle.arc_model.specs.Holders.{same_holder, same_id, is_duty, made_by, in_slot, is_claimed_by}
 use Rattle.arc_model.specs.WellFormed.{more, held, total, in_slot_times, has_entry_times, named_times, claimed_times, stray, is_own, IsWhole, live, keeps_fields, HasField, IsWellFormed}
 
 -- the objects that thread p made, as a total
@@ -30,20 +31,30 @@ made-total p (o ∷ os) = sum_by-cons (λ (q : Object). cond (eqb q.id.thread p)
     go false ih = ap (λ n. 0 + n) ih
 
 -- a live object keeps its fields
-pub live-keeps : (o : Object) → is_live o ≡ true → keeps_fields o ≡ true
-live-keeps o h = ap (λ b. b || is_duty Deinit o.owed) h
+pub live-keeps : (shape : HeapShape) (o : Object) → is_live shape o ≡ true → keeps_fields shape o ≡ true
+live-keeps shape o h = ap (λ b. b || is_duty Deinit o.owed) h
 
 pub kept-turn : {shape : HeapShape} (p : ℕ) (act : Act) (next since : ℕ → ℕ) (old new : Heap) → Turn shape p act next since old new → IsWellFormed shape next old → IsWellFormed shape since new
 kept-turn {shape = shape} p act next since old new t f = record {
   whole = λ i r h. elim (at-put old.objects new.objects t.o t.q t.put i r h) [
-    | inl e ↦ subst IsWhole (sym e) t.whole
+    | inl e ↦ subst (IsWhole shape) (sym e) t.whole
     | inr e ↦ f.whole i r e
+  ];
+  immortal = λ i r h forever. elim (at-put old.objects new.objects t.o t.q t.put i r h) [
+    | inl e ↦
+        let its : is_immortal shape t.o ≡ true = ap (λ c. (class_at shape c).immortal) (sym t.class) ∙ ap (is_immortal shape) (sym e) ∙ forever in
+        let place = place-put old.objects new.objects t.o t.q t.put in (
+          ap (λ (o : Object). is_some o.slot) e ∙ immortal-slot t.q t.whole (ap (is_immortal shape) (sym e) ∙ forever),
+          ap (λ (o : Object). o.entry) e ∙ t.unentered its (f.immortal place.0 t.o place.1 its).1,
+        )
+    | inr e ↦ f.immortal i r e forever
   ];
   none_strays = λ i r h. elim (at-put old.objects new.objects t.o t.q t.put i r h) [
     | inl e ↦
         let a = fewer-turn p act next since old new t Strongs t.no_strongs in
         let b = fewer-turn p act next since old new t Unowneds t.no_unowneds in
-        let a0 = a.0 in let a2 = a.2 in let b0 = b.0 in let b1 = b.1 in
+        let d = fewer-turn p act next since old new t Forever t.no_forever in
+        let a0 = a.0 in let a2 = a.2 in let b0 = b.0 in let b1 = b.1 in let d0 = d.0 in let d1 = d.1 in let d2 = d.2 in
         let place = place-put old.objects new.objects t.o t.q t.put in
         let c = f.none_strays place.0 t.o place.1 in
         ap stray e ∙ (let g : stray t.q ≡ 0 = omega arith in g)
@@ -59,26 +70,26 @@ kept-turn {shape = shape} p act next since old new t f = record {
   owned = λ id g h. owned id g h (goes t.edit (Field id g)) (comes t.edit (Field id g)) refl refl;
 }
   where
-    stays : (id : ObjectId) (g : ℕ) → HasField shape keeps_fields id g old → 1 ≤ total (held (Field id g)) old.objects → HasField shape keeps_fields id g new
+    stays : (id : ObjectId) (g : ℕ) → HasField shape (keeps_fields shape) id g old → 1 ≤ total (held (Field id g)) old.objects → HasField shape (keeps_fields shape) id g new
     stays id g has one = elim (old-put old.objects new.objects t.o t.q t.put has.place has.object has.here) [
       | inl same ↦ record { place = has.place; object = has.object; here = same; named = has.named; field = has.field; passing = has.passing }
       | inr turned ↦
           let its : has_field shape g t.o ≡ true = ap (has_field shape g) (sym turned.0) ∙ has.field in
-          elim (t.fields (ap keeps_fields (sym turned.0) ∙ has.passing)) [
+          elim (t.fields (ap (keeps_fields shape) (sym turned.0) ∙ has.passing)) [
             | inl keeps ↦ record {
               place = has.place;
               object = t.q;
               here = turned.1;
               named = t.id ∙ ap (λ (o : Object). o.id) (sym turned.0) ∙ has.named;
-              field = ap (λ c. nat_lt g (length (slice_index_or shape.classes c []))) t.class ∙ its;
+              field = ap (λ c. nat_lt g (length (class_at shape c).fields)) t.class ∙ its;
               passing = keeps;
             }
             | inr nil ↦ let a : total (held (Field id g)) old.objects ≡ 0 = ap (λ n. total (held (Field n g)) old.objects) (sym has.named ∙ ap (λ (o : Object). o.id) turned.0) ∙ nil g its in absurd (omega arith)
           ]
     ]
 
-    owned : (id : ObjectId) (g : ℕ) → 1 ≤ total (held (Field id g)) new.objects → (a b : Bool) → goes t.edit (Field id g) ≡ a → comes t.edit (Field id g) ≡ b → HasField shape keeps_fields id g new
-    owned id g h a true ga gb = let has = t.puts_in id g gb in record { place = has.place; object = has.object; here = has.here; named = has.named; field = has.field; passing = live-keeps has.object has.passing }
+    owned : (id : ObjectId) (g : ℕ) → 1 ≤ total (held (Field id g)) new.objects → (a b : Bool) → goes t.edit (Field id g) ≡ a → comes t.edit (Field id g) ≡ b → HasField shape (keeps_fields shape) id g new
+    owned id g h a true ga gb = let has = t.puts_in id g gb in record { place = has.place; object = has.object; here = has.here; named = has.named; field = has.field; passing = live-keeps shape has.object has.passing }
     owned id g h true false ga gb = let e = held-turn p act next since old new t (Field id g) true false ga gb in let one : 1 ≤ total (held (Field id g)) old.objects = omega arith in stays id g (f.owned id g one) one
     owned id g h false false ga gb = let e = held-turn p act next since old new t (Field id g) false false ga gb in let one : 1 ≤ total (held (Field id g)) old.objects = omega arith in stays id g (f.owned id g one) one
 
@@ -136,12 +147,17 @@ held-made (Field o f) p k c s os own = refl
 held-made (Global g) p k c s os own = refl
 held-made Strongs p k c s os own = no own
 held-made Unowneds p k c s os own = no own
+held-made Forever p k c s os own = no own
 
 pub kept-made : {shape : HeapShape} (p k c s : ℕ) (next since : ℕ → ℕ) (old : Heap) → k ≡ next p → suc k ≤ since p → ((r : ℕ) → next r ≤ since r) → is_some (find (in_slot s) old.objects) ≡ false → IsWellFormed shape next old → IsWellFormed shape since (effect p (acts.New k c s) old)
-kept-made p k c s next since old is_next later grows free f = record {
+kept-made {shape = shape} p k c s next since old is_next later grows free f = record {
   whole = λ i r h. elim (at-end old.objects it i r h) [
-    | inl e ↦ subst IsWhole (sym e) (live refl refl refl refl refl (λ _. refl))
+    | inl e ↦ subst (IsWhole shape) (sym e) (live refl refl refl refl refl (λ _. refl))
     | inr e ↦ f.whole i r e
+  ];
+  immortal = λ i r h forever. elim (at-end old.objects it i r h) [
+    | inl e ↦ (ap (λ (o : Object). is_some o.slot) e, ap (λ (o : Object). o.entry) e)
+    | inr e ↦ f.immortal i r e forever
   ];
   none_strays = λ i r h. elim (at-end old.objects it i r h) [
     | inl e ↦ ap stray e
@@ -245,6 +261,7 @@ pub kept-still : {shape : HeapShape} (next since : ℕ → ℕ) (os : List Objec
 kept-still next since os old new was is entries grows f =
     let same : new.objects ≡ old.objects = is ∙ sym was in record {
       whole = λ i o h. f.whole i o (ap (λ qs. slice_get qs i) (sym same) ∙ h);
+      immortal = λ i o h. f.immortal i o (ap (λ qs. slice_get qs i) (sym same) ∙ h);
       none_strays = λ i o h. f.none_strays i o (ap (λ qs. slice_get qs i) (sym same) ∙ h);
       once = λ z own. let a : total (held z) new.objects ≡ total (held z) old.objects = ap (total (held z)) same in let b = f.once z own in omega arith;
       fresh = λ r k h. ap (total (held (Hand r k))) same ∙ f.fresh r k (let g = grows r in omega arith);

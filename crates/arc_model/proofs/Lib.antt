@@ -21,6 +21,7 @@ pub mod Builds
 pub mod Courses
 pub mod Steps
 pub mod Ends
+pub mod Immortals
 pub mod Slots
 pub mod Others
 pub mod Own

@@ -19,11 +19,11 @@ use Rattle.arc_model.proofs.Others.{only_in, spot-find, none-is, spot-held, own-
 use Rattle.arc_model.proofs.Stages.{in-kind}
 use Rattle.arc_model.proofs.Tally.{no, in-tally, tally-in, tally-push, tally-renamed, same-refl, gains-present}
 use Rattle.arc_model.proofs.Turns.{put-found, total-put, Turn, leave, edited, goes, comes, Fits, tally-edited, held_one, held-turn}
-use Rattle.arc_model.specs.Cells.{cell, origin, is_nil}
+use Rattle.arc_model.specs.Cells.{is_live, cell, origin, is_nil}
 use Rattle.arc_model.specs.Effects.{becomes, effect, made, given_up, ended_if, entry_left}
 use Rattle.arc_model.specs.Heaps.{Holder, Hand, Object, Heap}
 use Rattle.arc_model.specs.History.{next_hand, sight}
-use Rattle.arc_model.specs.Holders.{is_live, same_holder, is_in, holds, kind_in, list_of, lists, with_list, at_first, gains, renamed, without, change, with_last, held_by}
+use Rattle.arc_model.specs.Holders.{same_holder, is_in, holds, kind_in, list_of, lists, with_list, at_first, gains, renamed, without, change, with_last, held_by}
 use Rattle.arc_model.specs.Lookup.{Spot, spot_in, spot}
 use Rattle.arc_model.specs.Own.{ends_hand, brings_hand, in_list, brought, OwnGains, OwnEnds}
 use Rattle.arc_model.specs.Needs.{Sight, first_failing, needs, has, puts, reachable, passes}
@@ -108,7 +108,7 @@ became x y heap apart one one' some =
 pub option-inj : {a b : ℕ} → Some a ≡ Some b → a ≡ b
 option-inj e = cc
 
-swap_gains : {shape : HeapShape} (p n : ℕ) (c : CellName) (h : Option ℕ) (next : ℕ → ℕ) (heap : Heap) → IsWellFormed shape next heap → total (held (Hand p n)) (effect p (acts.Swap c h (Some n)) heap).objects ≤ 1 → is_own (cell heap c) ≡ true → ((m : ℕ) → h ≡ Some m → is_some (held_by (Hand p m) heap) ≡ true) → n ≡ next p → is_some (held_by (cell heap c) heap) ≡ true → Fielded shape is_live heap heap c → spot (Hand p n) (effect p (acts.Swap c h (Some n)) heap) ≡ spot (cell heap c) heap
+swap_gains : {shape : HeapShape} (p n : ℕ) (c : CellName) (h : Option ℕ) (next : ℕ → ℕ) (heap : Heap) → IsWellFormed shape next heap → total (held (Hand p n)) (effect p (acts.Swap c h (Some n)) heap).objects ≤ 1 → is_own (cell heap c) ≡ true → ((m : ℕ) → h ≡ Some m → is_some (held_by (Hand p m) heap) ≡ true) → n ≡ next p → is_some (held_by (cell heap c) heap) ≡ true → Fielded shape (is_live shape) heap heap c → spot (Hand p n) (effect p (acts.Swap c h (Some n)) heap) ≡ spot (cell heap c) heap
 swap_gains p n c None next heap f one own given came full reach = became (cell heap c) (Hand p n) heap (hand-cell p n heap c) (f.once (cell heap c) own) one full
 swap_gains p n c (Some h) next heap f one own given came full reach =
     let mid = becomes (cell heap c) (Hand p n) heap in

@@ -9,6 +9,7 @@ use Rattle.arc_model.specs.Holders.{in_slot, is_number}
 use Rattle.arc_model.specs.Effects.{effect, made}
 use Rattle.arc_model.specs.Needs.{first_failing, needs}
 use Rattle.arc_model.specs.History.{History, heap_after, sight, IsLegal}
+use Rattle.arc_model.specs.Cells.{strong_holders}
 use Rattle.arc_model.specs.Laws.{strong_in, unowned_in, IsVacated, SlotVacatedBetween}
 use Rattle.arc_model.proofs.Basics.{true≢false, None≢Some, Some-inj, empty-is, opposite, met}
 use Rattle.arc_model.proofs.Steps.{step_after}
@@ -30,7 +31,7 @@ find-some p (q ∷ os) (suc i) o h t = go (p q) (find-some p os i o h t)
 abbrev IsAt : ℕ → ℕ → Heap → Type 0
 IsAt i slot heap = (o : Object) × (slice_get heap.objects i ≡ Some o) × (o.slot ≡ Some slot)
 
-kept_or_vacated : (shape : HeapShape) (i slot : ℕ) (before between : History) → IsLegal shape (between ++ before) → IsAt i slot (heap_after before) → IsAt i slot (heap_after (between ++ before)) ⊎ IsVacated i slot before between
+kept_or_vacated : (shape : HeapShape) (i slot : ℕ) (before between : History) → IsLegal shape (between ++ before) → IsAt i slot (heap_after before) → IsAt i slot (heap_after (between ++ before)) ⊎ IsVacated shape i slot before between
 kept_or_vacated shape i slot before [] legal here = inl here
 kept_or_vacated shape i slot before (e ∷ between) legal here =
     elim (kept_or_vacated shape i slot before between legal.1 here) [
@@ -44,7 +45,7 @@ kept_or_vacated shape i slot before (e ∷ between) legal here =
               event = e;
               split = refl;
               act = leaves.1 ∙ ap acts.Vacate (Some-inj (sym leaves.2 ∙ kept.2));
-              strong = ap strong_in kept.1 ∙ empty-is kept.0.strong leaves.3;
+              strong = ap (strong_in shape) kept.1 ∙ empty-is (strong_holders shape kept.0) leaves.3;
               unowned = ap unowned_in kept.1 ∙ empty-is kept.0.unowned leaves.4;
             })
           ]

@@ -6,13 +6,14 @@ use Rattle.arc_model.specs.declared.shape.Kind.{Kind}
 use Rattle.arc_model.specs.declared.shape.Kind.TheVariants.{Strong, Unowned, Weak}
 use Rattle.arc_model.specs.Shapes.{HeapShape}
 use Rattle.arc_model.specs.Heaps.{Holder, Hand, Strongs, Unowneds, Object, Heap}
-use Rattle.arc_model.specs.Holders.{same_holder, is_in, is_empty, is_live, holds, list_of, with_list}
+use Rattle.arc_model.specs.Cells.{strong_holders, is_live}
+use Rattle.arc_model.specs.Holders.{same_holder, is_in, is_empty, holds, list_of, with_list}
 use Rattle.arc_model.specs.Effects.{made}
 use Rattle.arc_model.specs.History.{History, heap_after, next_hand, brings, share, IsLegal}
 use Rattle.arc_model.specs.WellFormed.{more, tally, is_own, IsWhole, IsWellFormed}
 use Rattle.arc_model.specs.Lookup.{list_in}
 use Rattle.arc_model.specs.Others.{SoleHolderStays, IsUnshared, UnsharedStays}
-use Rattle.arc_model.proofs.Basics.{true≢false, live-not_empty}
+use Rattle.arc_model.proofs.Basics.{true≢false, live-not_empty, some-strong}
 use Rattle.arc_model.proofs.Tally.{no, clash, same-eq, same-refl}
 use Rattle.arc_model.proofs.Turns.{old-put, Edit, keep, join, rename, leave, edited, goes, comes, Fits, is_join, tally-edited, Source, Turn}
 use Rattle.arc_model.proofs.Keeps.{end-at, kept-turn, Course, still, makes, turn, turns}
@@ -98,29 +99,29 @@ turned-list Weak Unowned f o q s u w = inl w
 turned-list Weak Weak f o q s u w = inr (refl, w)
 
 -- beside the extra holder that stands for it, a live object's list isn't one hand alone
-live-more : {A : Type 0} (p k : ℕ) (j : Kind) (o : Object) → IsWhole o → is_live o ≡ true → (j ≡ Strong → ⊥) → list_of j o ≡ Hand p k ∷ [] → A
+live-more : {A : Type 0} {shape : HeapShape} (p k : ℕ) (j : Kind) (o : Object) → IsWhole shape o → is_live shape o ≡ true → (j ≡ Strong → ⊥) → list_of j o ≡ Hand p k ∷ [] → A
 live-more p k Strong o wh live apart is = absurd (apart refl)
-live-more p k Unowned o wh live apart is =
-    let a = (live-facts o wh (live-not_empty o live)).strongs in
+live-more {shape = shape} p k Unowned o wh live apart is =
+    let a = (live-facts o wh (live-not_empty shape o live)).strongs in
     let b : tally Strongs o.unowned ≡ 0 = ap (tally Strongs) is in absurd (omega arith)
-live-more p k Weak o wh live apart is =
-    let a = (live-facts o wh (live-not_empty o live)).unowneds in
+live-more {shape = shape} p k Weak o wh live apart is =
+    let a = (live-facts o wh (live-not_empty shape o live)).unowneds in
     let b : tally Unowneds o.weak ≡ 0 = ap (tally Unowneds) is in absurd (omega arith)
 
 abbrev IsSole : ℕ → ℕ → Kind → Object → Type 0
 IsSole p k j o = list_of j o ≡ Hand p k ∷ []
 
 sole-turn : {shape : HeapShape} (p k : ℕ) (j : Kind) → (j ≡ Strong → ⊥) → (r : ℕ) → (r ≡ p → ⊥) → (act : Act) (next since : ℕ → ℕ) (old new : Heap) → Turn shape r act next since old new → IsWellFormed shape next old → (i : ℕ) → At (IsSole p k j) i old → At (IsSole p k j) i new
-sole-turn p k j apart r other act next since old new t wf i here = at-turn (IsSole p k j) r act next since old new t i here keeps
+sole-turn {shape = shape} p k j apart r other act next since old new t wf i here = at-turn (IsSole p k j) r act next since old new t i here keeps
   where
-    its : (t.kind ≡ j) → IsSole p k j t.o → IsWhole t.o → edited t.edit (Hand p k ∷ []) ≡ Hand p k ∷ []
+    its : (t.kind ≡ j) → IsSole p k j t.o → IsWhole shape t.o → edited t.edit (Hand p k ∷ []) ≡ Hand p k ∷ []
     its same sole wh =
         let list : list_of t.kind t.o ≡ Hand p k ∷ [] = ap (λ l. list_of l t.o) same ∙ sole in
         edited-one t.edit (Hand p k) (subst (Fits t.edit) list t.fits)
         (false-if (is_join t.edit) (λ joins. joined (t.joins joins) list sole wh))
         (false-if (goes t.edit (Hand p k)) (λ g. other (sym (t.was_mine p k g).0)))
       where
-        joined : Source r t.o t.kind → list_of t.kind t.o ≡ Hand p k ∷ [] → IsSole p k j t.o → IsWhole t.o → ⊥
+        joined : Source shape r t.o t.kind → list_of t.kind t.o ≡ Hand p k ∷ [] → IsSole p k j t.o → IsWhole shape t.o → ⊥
         joined source list sole wh = elim source.list [
           | inl inside ↦ other (sym (source.mine p k (ap (same_holder (Hand p k)) (one-in source.from (Hand p k) (sym (ap (is_in source.from) list) ∙ inside)) ∙ same-refl (Hand p k))))
           | inr live ↦ live-more p k j t.o wh live apart sole
@@ -159,7 +160,7 @@ list-of p k o u Unowned = u.unowned
 list-of p k o u Weak = u.weak
 
 unshared-turn : {shape : HeapShape} (p k : ℕ) (r : ℕ) → (r ≡ p → ⊥) → (act : Act) (next since : ℕ → ℕ) (old new : Heap) → Turn shape r act next since old new → IsWellFormed shape next old → (i : ℕ) → At (IsUnshared p k) i old → At (IsUnshared p k) i new
-unshared-turn p k r other act next since old new t wf i here = at-turn (IsUnshared p k) r act next since old new t i here keeps
+unshared-turn {shape = shape} p k r other act next since old new t wf i here = at-turn (IsUnshared p k) r act next since old new t i here keeps
   where
     -- what one of its holders is
     its-own : (x : Holder) (o : Object) → IsUnshared p k o → is_own x ≡ true → holds x o ≡ true → x ≡ Hand p k
@@ -190,8 +191,8 @@ unshared-turn p k r other act next since old new t wf i here = at-turn (IsUnshar
         let one = list-of p k t.o u j in
         is ∙ ap (edited t.edit) one ∙ edited-one t.edit (sole_of p k j) (subst (Fits t.edit) (ap (λ l. list_of l t.o) same ∙ one) t.fits) (false-if (is_join t.edit) (not-joined u)) g ∙ sym one
 
-    still-live : IsUnshared p k t.o → t.q.strong ≡ t.o.strong → is_empty t.q.strong ≡ false
-    still-live u s = ap is_empty (s ∙ u.strong)
+    still-live : IsUnshared p k t.o → t.q.strong ≡ t.o.strong → is_empty (strong_holders shape t.q) ≡ false
+    still-live u s = some-strong shape t.q (ap is_empty (s ∙ u.strong))
 
     same-lists : (j : Kind) → t.kind ≡ j → IsUnshared p k t.o → (t.q.strong ≡ t.o.strong) × (t.q.unowned ≡ t.o.unowned) × (t.q.weak ≡ t.o.weak)
     same-lists Strong same u =

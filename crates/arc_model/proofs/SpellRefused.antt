@@ -20,7 +20,7 @@ use Rattle.arc_model.specs.SpellingTies.Causes.{Judged}
 use Rattle.arc_model.specs.SpellingLaws.{is_claim, is_settling, claims_in, settled_in}
 use Rattle.arc_model.proofs.SpellLaws.{deinits_whole, claims_settled}
 use Rattle.arc_model.proofs.SpellHands.{hands_dropped}
-use Rattle.arc_model.proofs.Judged.{by_one}
+use Rattle.arc_model.proofs.Judged.{mortal, by_one}
 use Rattle.arc_model.proofs.SpellTies.{fact_now}
 
 -- of two lists that differ in one name at the front, the front is that name
@@ -76,7 +76,7 @@ weak_claim list slot entry before after (claimed r e) = absurd cc
 
 -- one slot, one entry, one class with a strong field
 abbrev one_field : HeapShape
-one_field = record { slots = 2; entries = 1; caps = record { strong = 10; unowned = 10; wide = 11 }; classes = (record { kind = Strong; class = 0 } ∷ []) ∷ []; globals = [] }
+one_field = record { slots = 2; entries = 1; caps = record { strong = 10; unowned = 10; wide = 11 }; classes = mortal (record { kind = Strong; class = 0 } ∷ []) ∷ []; globals = [] }
 
 abbrev alone : History
 alone = by_one (acts.New 1 0 0) ∷ []

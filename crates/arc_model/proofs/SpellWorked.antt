@@ -5,6 +5,7 @@ use Rattle.arc_model.specs.declared.event.ObjectName.{ObjectName}
 use Rattle.arc_model.specs.declared.event.Origin.TheVariants as origins
 use Rattle.arc_model.specs.declared.event.Act.TheVariants as acts
 use Rattle.arc_model.specs.declared.shape.Kind.TheVariants.{Strong, Weak}
+use Rattle.arc_model.proofs.Judged.{mortal, undying}
 use Rattle.arc_model.specs.Shapes.{HeapShape}
 use Rattle.arc_model.specs.History.{History, IsLegal}
 use Rattle.arc_model.specs.Spelling.{Note}
@@ -26,7 +27,7 @@ use Rattle.arc_model.proofs.SpellSteps.Step.{Mine, Note as Noted}
 
 -- one slot, one entry, one class without fields; the greatest caps
 abbrev pub plain : HeapShape
-plain = record { slots = 1; entries = 1; caps = record { strong = 1073741823; unowned = 2147483647; wide = 4294967295 }; classes = [] ∷ []; globals = [] }
+plain = record { slots = 1; entries = 1; caps = record { strong = 1073741823; unowned = 2147483647; wide = 4294967295 }; classes = mortal [] ∷ []; globals = [] }
 
 abbrev pub node : ObjectName
 node = record { class = 0; thread = 1; number = 1 }
@@ -160,7 +161,7 @@ both_dropped_legal = (refl, (refl, (refl, (refl, (refl, (refl, tt))))))
 -- A strong cap of 1: the second copy moves the object to an entry, and the last drop ends the slot and the entry.
 
 abbrev strong_cap_one : HeapShape
-strong_cap_one = record { slots = 1; entries = 1; caps = record { strong = 1; unowned = 10; wide = 10 }; classes = [] ∷ []; globals = [] }
+strong_cap_one = record { slots = 1; entries = 1; caps = record { strong = 1; unowned = 10; wide = 10 }; classes = mortal [] ∷ []; globals = [] }
 
 abbrev two_strong_steps : List Step
 two_strong_steps = Mine (acts.New 1 0 0) ∷ Mine (acts.Copy (origins.Hand 1) 2) ∷ []
@@ -253,7 +254,7 @@ none_strong_legal = (refl, (refl, (refl, (refl, (refl, (refl, (refl, (refl, (ref
 -- Counts of one: the copy's claim is published and the count is full all the same; the weak reference needs no claim.
 
 abbrev counts_of_one : HeapShape
-counts_of_one = record { slots = 1; entries = 1; caps = record { strong = 0; unowned = 1; wide = 1 }; classes = [] ∷ []; globals = [] }
+counts_of_one = record { slots = 1; entries = 1; caps = record { strong = 0; unowned = 1; wide = 1 }; classes = mortal [] ∷ []; globals = [] }
 
 abbrev only_one_steps : List Step
 only_one_steps = Mine (acts.New 1 0 0) ∷ []
@@ -315,7 +316,7 @@ weak_full_legal = (refl, (refl, (refl, (refl, (refl, tt)))))
 -- One entry for two objects: the second weak reference is refused.
 
 abbrev one_entry : HeapShape
-one_entry = record { slots = 2; entries = 1; caps = record { strong = 10; unowned = 10; wide = 11 }; classes = [] ∷ []; globals = [] }
+one_entry = record { slots = 2; entries = 1; caps = record { strong = 10; unowned = 10; wide = 11 }; classes = mortal [] ∷ []; globals = [] }
 
 abbrev entry_taken_steps : List Step
 entry_taken_steps =
@@ -353,3 +354,45 @@ no_entry_left = no_entry ready refl
 
 weak_refused_legal : IsLegal one_entry weak_refused
 weak_refused_legal = (refl, (refl, (refl, (refl, (refl, (refl, tt))))))
+
+-- An immortal object: past the caps a copy claims nothing, and its references are dropped without a deinit line.
+
+abbrev immortal : HeapShape
+immortal = record { slots = 1; entries = 1; caps = record { strong = 0; unowned = 1; wide = 1 }; classes = undying ∷ []; globals = [] }
+
+immortal_made_tied : Ties Judged immortal 1 made_notes made
+immortal_made_tied = tied_by immortal 1 made_steps tt start
+
+immortal_copied_tied : Ties Judged immortal 1 copied_notes copied
+immortal_copied_tied = tied_by immortal 1 copied_steps tt immortal_made_tied
+
+immortal_first_tied : Ties Judged immortal 1 first_dropped_notes first_dropped
+immortal_first_tied = tied_by immortal 1 first_dropped_steps tt immortal_copied_tied
+
+abbrev immortal_left_steps : List Step
+immortal_left_steps = Mine (acts.Drop 2 false) ∷ []
+
+abbrev immortal_left : History
+immortal_left = history_by 1 immortal_left_steps first_dropped
+
+abbrev immortal_left_notes : List Note
+immortal_left_notes = notes_by immortal_left_steps first_dropped_notes
+
+immortal_left_tied : Ties Judged immortal 1 immortal_left_notes immortal_left
+immortal_left_tied = tied_by immortal 1 immortal_left_steps tt immortal_first_tied
+
+immortal_drop : IsDropIn immortal 1 2 first_dropped immortal_left []
+immortal_drop =
+    record {
+      reference = record { kind = Strong; place = 0 };
+      refers = refl;
+      earlier = first_dropped_notes;
+      notes = immortal_left_notes;
+      tied_before = immortal_first_tied;
+      tied = immortal_left_tied;
+      spelled = more;
+      told = refl;
+    }
+
+immortal_left_legal : IsLegal immortal immortal_left
+immortal_left_legal = (refl, (refl, (refl, (refl, tt))))

@@ -22,7 +22,7 @@ use Rattle.arc_model.specs.SpellingGains.IsSettled.{unclaimed, published as stay
 use Rattle.arc_model.specs.SpellingTies.{Ties, IsDropIn}
 use Rattle.arc_model.specs.SpellingTies.Causes.{Judged}
 use Rattle.arc_model.specs.SpellingTies.Ties.{start}
-use Rattle.arc_model.proofs.Judged.{by_one, by_two}
+use Rattle.arc_model.proofs.Judged.{mortal, by_one, by_two}
 use Rattle.arc_model.proofs.SpellSteps.{Step, history_by, notes_by, tied_by}
 use Rattle.arc_model.proofs.SpellSteps.Step.{Mine, Other, Note as Noted}
 use Rattle.arc_model.proofs.SpellWorked.{node}
@@ -30,7 +30,7 @@ use Rattle.arc_model.proofs.SpellWorked.{node}
 -- A weak load of one thread beside the drop of another: the loader drops the last strong reference.
 
 abbrev weak_global : HeapShape
-weak_global = record { slots = 1; entries = 1; caps = record { strong = 1073741823; unowned = 2147483647; wide = 4294967295 }; classes = [] ∷ []; globals = record { kind = Weak; class = 0 } ∷ [] }
+weak_global = record { slots = 1; entries = 1; caps = record { strong = 1073741823; unowned = 2147483647; wide = 4294967295 }; classes = mortal [] ∷ []; globals = record { kind = Weak; class = 0 } ∷ [] }
 
 abbrev weak_in_global_steps : List Step
 weak_in_global_steps =
@@ -145,7 +145,7 @@ loader_dropped_legal = (refl, (refl, (refl, (refl, (refl, (refl, (refl, (refl, (
 -- still referred to; the apartment's drops a weak one.
 
 abbrev tenancy : HeapShape
-tenancy = record { slots = 8; entries = 8; caps = record { strong = 1073741823; unowned = 2147483647; wide = 4294967295 }; classes = (record { kind = Strong; class = 1 } ∷ []) ∷ (record { kind = Weak; class = 0 } ∷ []) ∷ []; globals = [] }
+tenancy = record { slots = 8; entries = 8; caps = record { strong = 1073741823; unowned = 2147483647; wide = 4294967295 }; classes = mortal (record { kind = Strong; class = 1 } ∷ []) ∷ mortal (record { kind = Weak; class = 0 } ∷ []) ∷ []; globals = [] }
 
 abbrev person : ObjectName
 person = record { class = 0; thread = 1; number = 1 }
@@ -338,7 +338,7 @@ entry_given_back_legal = (refl, (refl, (refl, (refl, (refl, (refl, (refl, (refl,
 -- Two threads claim an entry for one object: the one whose claim isn't published gives it back behind its deciding event.
 
 abbrev two_entries : HeapShape
-two_entries = record { slots = 1; entries = 2; caps = record { strong = 1073741823; unowned = 2147483647; wide = 4294967295 }; classes = [] ∷ []; globals = record { kind = Strong; class = 0 } ∷ [] }
+two_entries = record { slots = 1; entries = 2; caps = record { strong = 1073741823; unowned = 2147483647; wide = 4294967295 }; classes = mortal [] ∷ []; globals = record { kind = Strong; class = 0 } ∷ [] }
 
 abbrev shared_steps : List Step
 shared_steps =
@@ -395,7 +395,7 @@ claim_given_back_legal = (refl, (refl, (refl, (refl, (refl, (refl, (refl, (refl,
 -- A chain of three with nil fields between: the deinits follow one another down, and each is told once.
 
 abbrev chain : HeapShape
-chain = record { slots = 3; entries = 1; caps = record { strong = 1073741823; unowned = 2147483647; wide = 4294967295 }; classes = (record { kind = Strong; class = 0 } ∷ record { kind = Strong; class = 0 } ∷ []) ∷ []; globals = [] }
+chain = record { slots = 3; entries = 1; caps = record { strong = 1073741823; unowned = 2147483647; wide = 4294967295 }; classes = mortal (record { kind = Strong; class = 0 } ∷ record { kind = Strong; class = 0 } ∷ []) ∷ []; globals = [] }
 
 abbrev link : ℕ → ObjectName
 link n = record { class = 0; thread = 1; number = n }

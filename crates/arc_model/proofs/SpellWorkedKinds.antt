@@ -5,6 +5,7 @@ use Rattle.arc_model.specs.declared.event.Origin.TheVariants as origins
 use Rattle.arc_model.specs.declared.event.Got.TheVariants as got
 use Rattle.arc_model.specs.declared.event.Act.TheVariants as acts
 use Rattle.arc_model.specs.declared.shape.Kind.TheVariants.{Strong, Unowned, Weak}
+use Rattle.arc_model.proofs.Judged.{mortal}
 use Rattle.arc_model.specs.Shapes.{HeapShape}
 use Rattle.arc_model.specs.History.{History, IsLegal}
 use Rattle.arc_model.specs.Spelling.{Note}
@@ -28,7 +29,7 @@ use Rattle.arc_model.proofs.SpellWorked.{plain, node}
 -- and the entry.
 
 abbrev unowned_cap_two : HeapShape
-unowned_cap_two = record { slots = 1; entries = 1; caps = record { strong = 10; unowned = 2; wide = 11 }; classes = [] ∷ []; globals = [] }
+unowned_cap_two = record { slots = 1; entries = 1; caps = record { strong = 10; unowned = 2; wide = 11 }; classes = mortal [] ∷ []; globals = [] }
 
 abbrev unowned_formed_steps : List Step
 unowned_formed_steps = Mine (acts.New 1 0 0) ∷ Mine (acts.UnownedOf 1 2) ∷ []

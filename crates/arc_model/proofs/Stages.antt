@@ -1,12 +1,14 @@
 -- What a stage of an object says, and which changes of an object keep it at its stage.
-use Rattle.std.proofs.Common.{◌≡◌, ℕ, zero, suc, ◌+◌, ◌≤◌, Bool, true, false, cond, List, [], ◌∷◌, Option, Some, None, refl, sym, ap, ◌∙◌, arith}
+use Rattle.std.proofs.Common.{◌≡◌, ℕ, zero, suc, ◌+◌, ◌≤◌, Bool, true, false, cond, List, [], ◌∷◌, ◌++◌, Option, Some, None, refl, sym, ap, ◌∙◌, arith}
 use Rattle.std.specs.Prelude.{◌||◌, is_some, ⊤}
 use Rattle.std.proofs.lemmas.Bool.{eqb-true}
 use Rattle.arc_model.specs.declared.shape.Kind.{Kind}
 use Rattle.arc_model.specs.declared.shape.Kind.TheVariants.{Strong, Unowned, Weak}
-use Rattle.arc_model.proofs.Basics.{None≢Some}
+use Rattle.arc_model.proofs.Basics.{None≢Some, same-holders}
 use Rattle.arc_model.proofs.Tally.{no, clash, is_pos, is_in-tally, in-tally}
-use Rattle.arc_model.specs.Heaps.{Holder, Hand, Field, Global, Strongs, Unowneds, Duty, Deinit, Vacating, Gone, Owed, Object}
+use Rattle.arc_model.specs.Shapes.{HeapShape}
+use Rattle.arc_model.specs.Cells.{is_immortal, forever_if, strong_holders, holders_of}
+use Rattle.arc_model.specs.Heaps.{Holder, Hand, Field, Global, Strongs, Unowneds, Forever, Duty, Deinit, Vacating, Gone, Owed, Object}
 use Rattle.arc_model.specs.Holders.{same_holder, is_in, is_empty, holds, kind_in, list_of, with_list, is_duty, is_by, same_duty}
 use Rattle.arc_model.specs.WellFormed.{tally, held, is_own, IsWhole, live, deiniting, deinited, vacating, going, freed, dead}
 
@@ -51,23 +53,34 @@ pub record LiveFacts (o : Object) : Type 0 where
   pub unowneds : tally Unowneds o.weak ≡ 1
   pub plain : o.entry ≡ None → o.weak ≡ Unowneds ∷ []
 
-pub live-facts : (o : Object) → IsWhole o → is_empty o.strong ≡ false → LiveFacts o
+pub live-facts : {shape : HeapShape} (o : Object) → IsWhole shape o → is_empty (strong_holders shape o) ≡ false → LiveFacts o
 live-facts o (live s d l a b p) h = record { owed = d; slot = l; strongs = a; unowneds = b; plain = p }
-live-facts o (deiniting s d l a b p) h = clash (is_empty o.strong) s h
-live-facts o (deinited s d l a u b p) h = clash (is_empty o.strong) s h
-live-facts o (vacating s d l u b p) h = clash (is_empty o.strong) s h
-live-facts o (going s d l u b e) h = clash (is_empty o.strong) s h
-live-facts o (freed s d l u b w e) h = clash (is_empty o.strong) s h
-live-facts o (dead s d l u w e) h = clash (is_empty o.strong) s h
+live-facts {shape = shape} o (deiniting s d l a b p) h = clash (is_empty (strong_holders shape o)) s h
+live-facts {shape = shape} o (deinited s d l a u b p) h = clash (is_empty (strong_holders shape o)) s h
+live-facts {shape = shape} o (vacating s d l u b p) h = clash (is_empty (strong_holders shape o)) s h
+live-facts {shape = shape} o (going s d l u b e) h = clash (is_empty (strong_holders shape o)) s h
+live-facts {shape = shape} o (freed s d l u b w e) h = clash (is_empty (strong_holders shape o)) s h
+live-facts {shape = shape} o (dead s d l u w e) h = clash (is_empty (strong_holders shape o)) s h
 
-pub record DyingFacts (o : Object) : Type 0 where
-  pub strong : is_empty o.strong ≡ true
+-- an immortal object is live
+pub immortal-live : (shape : HeapShape) (o : Object) → is_immortal shape o ≡ true → is_empty (strong_holders shape o) ≡ false
+immortal-live shape o forever = ap (λ b. is_empty (o.strong ++ forever_if b)) forever ∙ go o.strong
+  where
+    go : (xs : List Holder) → is_empty (xs ++ Forever ∷ []) ≡ false
+    go [] = refl
+    go (x ∷ xs) = refl
+
+pub immortal-slot : {shape : HeapShape} (o : Object) → IsWhole shape o → is_immortal shape o ≡ true → is_some o.slot ≡ true
+immortal-slot {shape = shape} o whole forever = (live-facts o whole (immortal-live shape o forever)).slot
+
+pub record DyingFacts (shape : HeapShape) (o : Object) : Type 0 where
+  pub strong : is_empty (strong_holders shape o) ≡ true
   pub slot : is_some o.slot ≡ true
   pub strongs : tally Strongs o.unowned ≡ 1
   pub unowneds : tally Unowneds o.weak ≡ 1
   pub plain : o.entry ≡ None → o.weak ≡ Unowneds ∷ []
 
-pub dying-facts : (o : Object) → IsWhole o → is_duty Deinit o.owed ≡ true → DyingFacts o
+pub dying-facts : {shape : HeapShape} (o : Object) → IsWhole shape o → is_duty Deinit o.owed ≡ true → DyingFacts shape o
 dying-facts o (live s d l a b p) h = duty-none Deinit o.owed h d
 dying-facts o (deiniting s d l a b p) h = record { strong = s; slot = l; strongs = a; unowneds = b; plain = p }
 dying-facts o (deinited s d l a u b p) h = duty-none Deinit o.owed h d
@@ -76,13 +89,13 @@ dying-facts o (going s d l u b e) h = no (duty-apart Deinit Gone o.owed h d)
 dying-facts o (freed s d l u b w e) h = duty-none Deinit o.owed h d
 dying-facts o (dead s d l u w e) h = duty-none Deinit o.owed h d
 
-pub record VacatingFacts (o : Object) : Type 0 where
-  pub strong : is_empty o.strong ≡ true
+pub record VacatingFacts (shape : HeapShape) (o : Object) : Type 0 where
+  pub strong : is_empty (strong_holders shape o) ≡ true
   pub unowned : is_empty o.unowned ≡ true
   pub unowneds : tally Unowneds o.weak ≡ 1
   pub plain : o.entry ≡ None → o.weak ≡ Unowneds ∷ []
 
-pub vacating-facts : (o : Object) → IsWhole o → is_duty Vacating o.owed ≡ true → VacatingFacts o
+pub vacating-facts : {shape : HeapShape} (o : Object) → IsWhole shape o → is_duty Vacating o.owed ≡ true → VacatingFacts shape o
 vacating-facts o (live s d l a b p) h = duty-none Vacating o.owed h d
 vacating-facts o (deiniting s d l a b p) h = no (duty-apart Vacating Deinit o.owed h d)
 vacating-facts o (deinited s d l a u b p) h = duty-none Vacating o.owed h d
@@ -91,14 +104,14 @@ vacating-facts o (going s d l u b e) h = no (duty-apart Vacating Gone o.owed h d
 vacating-facts o (freed s d l u b w e) h = duty-none Vacating o.owed h d
 vacating-facts o (dead s d l u w e) h = duty-none Vacating o.owed h d
 
-pub record GoneFacts (o : Object) : Type 0 where
-  pub strong : is_empty o.strong ≡ true
+pub record GoneFacts (shape : HeapShape) (o : Object) : Type 0 where
+  pub strong : is_empty (strong_holders shape o) ≡ true
   pub unowned : is_empty o.unowned ≡ true
   pub slot : o.slot ≡ None
   pub unowneds : tally Unowneds o.weak ≡ 1
   pub entry : is_some o.entry ≡ true
 
-pub gone-facts : (o : Object) → IsWhole o → is_duty Gone o.owed ≡ true → GoneFacts o
+pub gone-facts : {shape : HeapShape} (o : Object) → IsWhole shape o → is_duty Gone o.owed ≡ true → GoneFacts shape o
 gone-facts o (live s d l a b p) h = duty-none Gone o.owed h d
 gone-facts o (deiniting s d l a b p) h = no (duty-apart Gone Deinit o.owed h d)
 gone-facts o (deinited s d l a u b p) h = duty-none Gone o.owed h d
@@ -108,7 +121,7 @@ gone-facts o (freed s d l u b w e) h = duty-none Gone o.owed h d
 gone-facts o (dead s d l u w e) h = duty-none Gone o.owed h d
 
 -- the same stage
-pub whole-same : (o q : Object) → is_empty q.strong ≡ is_empty o.strong → is_empty q.unowned ≡ is_empty o.unowned → is_empty q.weak ≡ is_empty o.weak → tally Strongs q.unowned ≡ tally Strongs o.unowned → tally Unowneds q.weak ≡ tally Unowneds o.weak → q.owed ≡ o.owed → q.slot ≡ o.slot → q.entry ≡ o.entry → ((o.entry ≡ None → o.weak ≡ Unowneds ∷ []) → q.entry ≡ None → q.weak ≡ Unowneds ∷ []) → IsWhole o → IsWhole q
+pub whole-same : {shape : HeapShape} (o q : Object) → is_empty (strong_holders shape q) ≡ is_empty (strong_holders shape o) → is_empty q.unowned ≡ is_empty o.unowned → is_empty q.weak ≡ is_empty o.weak → tally Strongs q.unowned ≡ tally Strongs o.unowned → tally Unowneds q.weak ≡ tally Unowneds o.weak → q.owed ≡ o.owed → q.slot ≡ o.slot → q.entry ≡ o.entry → ((o.entry ≡ None → o.weak ≡ Unowneds ∷ []) → q.entry ≡ None → q.weak ≡ Unowneds ∷ []) → IsWhole shape o → IsWhole shape q
 whole-same o q es eu ew ss uu ed el ee pl (live s d l a b p) = live (es ∙ s) (ed ∙ d) (ap is_some el ∙ l) (ss ∙ a) (uu ∙ b) (pl p)
 whole-same o q es eu ew ss uu ed el ee pl (deiniting s d l a b p) = deiniting (es ∙ s) (ap (is_duty Deinit) ed ∙ d) (ap is_some el ∙ l) (ss ∙ a) (uu ∙ b) (pl p)
 whole-same o q es eu ew ss uu ed el ee pl (deinited s d l a u b p) = deinited (es ∙ s) (ed ∙ d) (ap is_some el ∙ l) (ss ∙ a) (eu ∙ u) (uu ∙ b) (pl p)
@@ -118,7 +131,7 @@ whole-same o q es eu ew ss uu ed el ee pl (freed s d l u b w e) = freed (es ∙ 
 whole-same o q es eu ew ss uu ed el ee pl (dead s d l u w e) = dead (es ∙ s) (ed ∙ d) (el ∙ l) (eu ∙ u) (ew ∙ w) (ee ∙ e)
 
 -- an object in a slot gets an entry
-pub whole-entered : (o : Object) (e : ℕ) → is_some o.slot ≡ true → IsWhole o → IsWhole (record o { entry = Some e })
+pub whole-entered : {shape : HeapShape} (o : Object) (e : ℕ) → is_some o.slot ≡ true → IsWhole shape o → IsWhole shape (record o { entry = Some e })
 whole-entered o e h (live s d l a b p) = live s d l a b (λ n. absurd (None≢Some e (sym n)))
 whole-entered o e h (deiniting s d l a b p) = deiniting s d l a b (λ n. absurd (None≢Some e (sym n)))
 whole-entered o e h (deinited s d l a u b p) = deinited s d l a u b (λ n. absurd (None≢Some e (sym n)))
@@ -133,11 +146,11 @@ PlainKept Strong h o = ⊤
 PlainKept Unowned h o = ⊤
 PlainKept Weak h o = o.entry ≡ None → o.weak ≡ Unowneds ∷ [] → h o.weak ≡ Unowneds ∷ []
 
-pub whole-edited : (o q : Object) (k : Kind) (h : List Holder → List Holder) → q.strong ≡ (with_list k h o).strong → q.unowned ≡ (with_list k h o).unowned → q.weak ≡ (with_list k h o).weak → q.owed ≡ o.owed → q.slot ≡ o.slot → q.entry ≡ o.entry →
-    is_empty (h (list_of k o)) ≡ is_empty (list_of k o) → tally Strongs (h (list_of k o)) ≡ tally Strongs (list_of k o) → tally Unowneds (h (list_of k o)) ≡ tally Unowneds (list_of k o) → PlainKept k h o → IsWhole o → IsWhole q
-whole-edited o q Strong h s u w d l e em ts tu pl wh = whole-same o q (ap is_empty s ∙ em) (ap is_empty u) (ap is_empty w) (ap (tally Strongs) u) (ap (tally Unowneds) w) d l e (λ p n. w ∙ p (sym e ∙ n)) wh
-whole-edited o q Unowned h s u w d l e em ts tu pl wh = whole-same o q (ap is_empty s) (ap is_empty u ∙ em) (ap is_empty w) (ap (tally Strongs) u ∙ ts) (ap (tally Unowneds) w) d l e (λ p n. w ∙ p (sym e ∙ n)) wh
-whole-edited o q Weak h s u w d l e em ts tu pl wh = whole-same o q (ap is_empty s) (ap is_empty u) (ap is_empty w ∙ em) (ap (tally Strongs) u) (ap (tally Unowneds) w ∙ tu) d l e (λ p n. w ∙ pl (sym e ∙ n) (p (sym e ∙ n))) wh
+pub whole-edited : {shape : HeapShape} (o q : Object) (k : Kind) (h : List Holder → List Holder) → q.class ≡ o.class → q.strong ≡ (with_list k h o).strong → q.unowned ≡ (with_list k h o).unowned → q.weak ≡ (with_list k h o).weak → q.owed ≡ o.owed → q.slot ≡ o.slot → q.entry ≡ o.entry →
+    is_empty (holders_of shape k (with_list k h o)) ≡ is_empty (holders_of shape k o) → tally Strongs (h (list_of k o)) ≡ tally Strongs (list_of k o) → tally Unowneds (h (list_of k o)) ≡ tally Unowneds (list_of k o) → PlainKept k h o → IsWhole shape o → IsWhole shape q
+whole-edited {shape = shape} o q Strong h c s u w d l e em ts tu pl wh = whole-same o q (ap is_empty (same-holders shape (with_list Strong h o) q c s) ∙ em) (ap is_empty u) (ap is_empty w) (ap (tally Strongs) u) (ap (tally Unowneds) w) d l e (λ p n. w ∙ p (sym e ∙ n)) wh
+whole-edited {shape = shape} o q Unowned h c s u w d l e em ts tu pl wh = whole-same o q (ap is_empty (same-holders shape o q c s)) (ap is_empty u ∙ em) (ap is_empty w) (ap (tally Strongs) u ∙ ts) (ap (tally Unowneds) w) d l e (λ p n. w ∙ p (sym e ∙ n)) wh
+whole-edited {shape = shape} o q Weak h c s u w d l e em ts tu pl wh = whole-same o q (ap is_empty (same-holders shape o q c s)) (ap is_empty u) (ap is_empty w ∙ em) (ap (tally Strongs) u) (ap (tally Unowneds) w ∙ tu) d l e (λ p n. w ∙ pl (sym e ∙ n) (p (sym e ∙ n))) wh
 
 -- a hand or a cell among the weak holders: then there is an entry
 own-weak : {A : Type 0} (x : Holder) (xs : List Holder) → is_own x ≡ true → is_in x xs ≡ true → xs ≡ Unowneds ∷ [] → A
@@ -146,6 +159,7 @@ own-weak (Field o f) xs own held e = no (sym (ap (is_in (Field o f)) e) ∙ held
 own-weak (Global g) xs own held e = no (sym (ap (is_in (Global g)) e) ∙ held)
 own-weak Strongs xs own held e = no own
 own-weak Unowneds xs own held e = no own
+own-weak Forever xs own held e = no own
 
 pub plain-own : (x : Holder) (k : Kind) (h : List Holder → List Holder) (o : Object) → is_own x ≡ true → is_in x (list_of k o) ≡ true → PlainKept k h o
 plain-own x Strong h o own held = tt
@@ -158,6 +172,7 @@ strongs-apart (Field o f) own = refl
 strongs-apart (Global g) own = refl
 strongs-apart Strongs own = no own
 strongs-apart Unowneds own = no own
+strongs-apart Forever own = no own
 
 pub unowneds-apart : (x : Holder) → is_own x ≡ true → same_holder Unowneds x ≡ false
 unowneds-apart (Hand p k) own = refl
@@ -165,6 +180,15 @@ unowneds-apart (Field o f) own = refl
 unowneds-apart (Global g) own = refl
 unowneds-apart Strongs own = no own
 unowneds-apart Unowneds own = no own
+unowneds-apart Forever own = no own
+
+pub forever-apart : (x : Holder) → is_own x ≡ true → same_holder Forever x ≡ false
+forever-apart (Hand p k) own = refl
+forever-apart (Field o f) own = refl
+forever-apart (Global g) own = refl
+forever-apart Strongs own = no own
+forever-apart Unowneds own = no own
+forever-apart Forever own = no own
 
 -- the list that a holder is in
 pub in-kind : (x : Holder) (o : Object) → holds x o ≡ true → is_in x (list_of (kind_in x o) o) ≡ true

@@ -4,7 +4,7 @@ use Rattle.std.specs.Prelude.{◌&&◌, ◌||◌}
 use Rattle.std.proofs.lemmas.Bool.{and_parts, eqb-true, eq-eqb}
 use Rattle.arc_model.specs.declared.event.ObjectId.{ObjectId}
 use Rattle.arc_model.proofs.Basics.{true≢false}
-use Rattle.arc_model.specs.Heaps.{Holder, Hand, Field, Global, Strongs, Unowneds}
+use Rattle.arc_model.specs.Heaps.{Holder, Hand, Field, Global, Strongs, Unowneds, Forever}
 use Rattle.arc_model.specs.Holders.{same_holder, same_id, is_in, is_alone, gains, renamed, without}
 use Rattle.arc_model.specs.WellFormed.{more, tally}
 
@@ -32,6 +32,7 @@ same-eq (Field o f) (Field q g) h = let e = and_parts (same_id o q) (eqb f g) h 
 same-eq (Global g) (Global n) h = ap Global (eqb-true g n h)
 same-eq Strongs Strongs h = refl
 same-eq Unowneds Unowneds h = refl
+same-eq Forever Forever h = refl
 same-eq _ _ h = no h
 
 pub same-refl : (x : Holder) → same_holder x x ≡ true
@@ -40,6 +41,7 @@ same-refl (Field o f) = both (same_id o o) (eqb f f) (id-refl o) (eq-eqb f f ref
 same-refl (Global g) = eq-eqb g g refl
 same-refl Strongs = refl
 same-refl Unowneds = refl
+same-refl Forever = refl
 
 pub more-swap : (a b : Bool) (n : ℕ) → more a (more b n) ≡ more b (more a n)
 more-swap true true n = refl

@@ -1,5 +1,5 @@
 -- The form that each change of a heap's objects has: one object is put in the place of another, with one list edited.
-use Rattle.std.proofs.Common.{◌≡◌, ℕ, zero, suc, ◌+◌, ◌≤◌, Bool, true, false, cond, List, [], ◌∷◌, ◌++◌, Option, Some, ◌⊎◌, inl, inr, refl, sym, ap, ◌∙◌, arith}
+use Rattle.std.proofs.Common.{◌≡◌, ℕ, zero, suc, ◌+◌, ◌≤◌, Bool, true, false, cond, List, [], ◌∷◌, ◌++◌, Option, Some, None, ◌⊎◌, inl, inr, refl, sym, ap, ◌∙◌, arith}
 use Rattle.std.specs.Prelude.{find, slice_get, ◌||◌, ⊤}
 use Rattle.arc_model.specs.declared.event.ObjectId.{ObjectId}
 use Rattle.arc_model.specs.Shapes.{HeapShape}
@@ -9,12 +9,12 @@ use Rattle.arc_model.specs.declared.shape.Kind.{Kind}
 use Rattle.arc_model.specs.declared.shape.Kind.TheVariants.{Strong, Unowned, Weak}
 use Rattle.arc_model.proofs.Basics.{None≢Some, Some-inj}
 use Rattle.arc_model.proofs.Tally.{tally-push, tally-without, tally-renamed}
-use Rattle.arc_model.specs.Heaps.{Holder, Hand, Field, Strongs, Unowneds, Deinit, Owed, Object, Heap}
-use Rattle.arc_model.specs.Holders.{same_holder, is_in, is_empty, is_live, owes_to, holds, kind_in, list_of, with_list, at_first, renamed, without, with_last, is_claimed_by}
+use Rattle.arc_model.specs.Heaps.{Holder, Hand, Field, Strongs, Unowneds, Forever, Deinit, Owed, Object, Heap}
+use Rattle.arc_model.specs.Holders.{same_holder, is_in, is_empty, owes_to, holds, kind_in, list_of, with_list, at_first, renamed, without, with_last, is_claimed_by}
 use Rattle.arc_model.specs.Lookup.{spot_in, further, owed_by}
 use Rattle.arc_model.specs.Own.{ends, ends_hand}
 use Rattle.arc_model.specs.WellFormed.{more, tally, held, total, in_slot_times, has_entry_times, claimed_times, is_own, IsWhole, keeps_fields, HasField}
-use Rattle.arc_model.specs.Cells.{has_field}
+use Rattle.arc_model.specs.Cells.{has_field, is_immortal, strong_holders, is_live}
 
 -- rest is os with q in the place of o
 pub record IsPut (os rest : List Object) (o q : Object) : Type 0 where
@@ -133,24 +133,24 @@ is_join _ = false
 
 -- What joins a list of an object is taken from a hand of p or a cell that refers to the object: from that very list, or
 -- from another one of a live object.
-pub record Source (p : ℕ) (o : Object) (k : Kind) : Type 0 where
+pub record Source (shape : HeapShape) (p : ℕ) (o : Object) (k : Kind) : Type 0 where
   pub from : Holder
   pub own : is_own from ≡ true
   pub mine : (r n : ℕ) → same_holder (Hand r n) from ≡ true → r ≡ p
   pub inside : holds from o ≡ true
-  pub list : (is_in from (list_of k o) ≡ true) ⊎ (is_live o ≡ true)
+  pub list : (is_in from (list_of k o) ≡ true) ⊎ (is_live shape o ≡ true)
 
 -- the drop of the object's last strong holder
-abbrev pub IsLastDrop : ℕ → Act → Object → Object → Type 0
-IsLastDrop p act o q = (h : ℕ) × (act ≡ acts.Drop h true) × (is_in (Hand p h) o.strong ≡ true) × (is_empty q.strong ≡ true)
+abbrev pub IsLastDrop : HeapShape → ℕ → Act → Object → Object → Type 0
+IsLastDrop shape p act o q = (h : ℕ) × (act ≡ acts.Drop h true) × (is_in (Hand p h) o.strong ≡ true) × (is_empty (strong_holders shape q) ≡ true)
 
 -- the `vacate` of the object's slot, where it has no strong and no unowned holder
-abbrev pub IsLeaving : Act → Object → Type 0
-IsLeaving act o = (s : ℕ) × (act ≡ acts.Vacate s) × (o.slot ≡ Some s) × (is_empty o.strong ≡ true) × (is_empty o.unowned ≡ true)
+abbrev pub IsLeaving : HeapShape → Act → Object → Type 0
+IsLeaving shape act o = (s : ℕ) × (act ≡ acts.Vacate s) × (o.slot ≡ Some s) × (is_empty (strong_holders shape o) ≡ true) × (is_empty o.unowned ≡ true)
 
 -- p may take references out of the object's fields
-abbrev pub is_open_to : ℕ → Object → Bool
-is_open_to p o = is_live o || owes_to p Deinit o
+abbrev pub is_open_to : HeapShape → ℕ → Object → Bool
+is_open_to shape p o = is_live shape o || owes_to p Deinit o
 
 -- thread p's act puts an object in the place of another, with one list edited
 pub record Turn (shape : HeapShape) (p : ℕ) (act : Act) (next since : ℕ → ℕ) (old new : Heap) : Type 0 where
@@ -164,9 +164,10 @@ pub record Turn (shape : HeapShape) (p : ℕ) (act : Act) (next since : ℕ → 
   pub unowned : q.unowned ≡ (with_list kind (edited edit) o).unowned
   pub weak : q.weak ≡ (with_list kind (edited edit) o).weak
   pub id : q.id ≡ o.id
-  pub whole : IsWhole q
+  pub whole : IsWhole shape q
   pub no_strongs : comes edit Strongs ≡ false
   pub no_unowneds : comes edit Unowneds ≡ false
+  pub no_forever : comes edit Forever ≡ false
   pub absent : (z : Holder) → is_own z ≡ true → comes edit z ≡ true → total (held z) old.objects ≡ 0
   pub mine : (r k : ℕ) → comes edit (Hand r k) ≡ true → (r ≡ p) × (suc k ≤ since r)
   pub was_mine : (r k : ℕ) → goes edit (Hand r k) ≡ true → (r ≡ p) × (ends_hand k act ≡ true)
@@ -175,16 +176,17 @@ pub record Turn (shape : HeapShape) (p : ℕ) (act : Act) (next since : ℕ → 
   pub entries : (e : ℕ) → has_entry_times e q + claimed_times e new.claims ≡ has_entry_times e o + claimed_times e old.claims
   pub weak_stays : is_empty o.weak ≡ true → is_empty q.weak ≡ true
   pub entry_stays : (n : ℕ) → o.entry ≡ Some n → (q.entry ≡ Some n) ⊎ (is_empty q.weak ≡ true)
+  pub unentered : is_immortal shape o ≡ true → o.entry ≡ None → q.entry ≡ None
   pub owed : (r : ℕ) → (r ≡ p → ⊥) → owed_by r q.owed ≡ owed_by r o.owed
   pub stays : (d : Owed) → o.owed ≡ Some d → (q.owed ≡ Some d) ⊎ ((d.thread ≡ p) × (ends d.duty act ≡ true))
   pub claims : (r : ℕ) → (r ≡ p → ⊥) → (e : ℕ) → is_claimed_by r e new ≡ is_claimed_by r e old
   pub class : q.class ≡ o.class
-  pub life : (is_empty q.strong ≡ is_empty o.strong) ⊎ IsLastDrop p act o q
-  pub place : (q.slot ≡ o.slot) ⊎ IsLeaving act o
-  pub joins : is_join edit ≡ true → Source p o kind
-  pub puts_in : (id : ObjectId) (f : ℕ) → comes edit (Field id f) ≡ true → HasField shape is_live id f new
-  pub takes_out : (id : ObjectId) (f : ℕ) → goes edit (Field id f) ≡ true → HasField shape (is_open_to p) id f old
-  pub fields : keeps_fields o ≡ true → (keeps_fields q ≡ true) ⊎ ((f : ℕ) → has_field shape f o ≡ true → total (held (Field o.id f)) old.objects ≡ 0)
+  pub life : (is_empty (strong_holders shape q) ≡ is_empty (strong_holders shape o)) ⊎ IsLastDrop shape p act o q
+  pub place : (q.slot ≡ o.slot) ⊎ IsLeaving shape act o
+  pub joins : is_join edit ≡ true → Source shape p o kind
+  pub puts_in : (id : ObjectId) (f : ℕ) → comes edit (Field id f) ≡ true → HasField shape (is_live shape) id f new
+  pub takes_out : (id : ObjectId) (f : ℕ) → goes edit (Field id f) ≡ true → HasField shape (is_open_to shape p) id f old
+  pub fields : keeps_fields shape o ≡ true → (keeps_fields shape q ≡ true) ⊎ ((f : ℕ) → has_field shape f o ≡ true → total (held (Field o.id f)) old.objects ≡ 0)
 
 -- how often z stands in the object
 pub held_one : (z : Holder) (e : Edit) (o q : Object) (k : Kind) → Fits e (list_of k o) → q.strong ≡ (with_list k (edited e) o).strong → q.unowned ≡ (with_list k (edited e) o).unowned → q.weak ≡ (with_list k (edited e) o).weak → (a b : Bool) → goes e z ≡ a → comes e z ≡ b → more a (held z q) ≡ more b (held z o)

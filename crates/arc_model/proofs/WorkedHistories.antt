@@ -1,5 +1,5 @@
 -- Worked histories, each legal, and each refused with one event left out or out of its place, judged by computing.
-use Rattle.std.proofs.Common.{List, [], ◌∷◌, Some, None, refl, true, false}
+use Rattle.std.proofs.Common.{◌≡◌, List, [], ◌∷◌, Some, None, refl, true, false}
 use Rattle.arc_model.specs.declared.event.CellName.TheVariants as cells
 use Rattle.arc_model.specs.declared.event.Origin.TheVariants as origins
 use Rattle.arc_model.specs.declared.event.Got.TheVariants as got
@@ -8,12 +8,18 @@ use Rattle.arc_model.specs.declared.event.Event.{Event}
 use Rattle.arc_model.specs.declared.event.Illegal.TheVariants.{NotHeld, NoSuchObject, NotTaken, WrongAnswer, Duty}
 use Rattle.arc_model.specs.declared.shape.Kind.TheVariants.{Strong, Unowned, Weak}
 use Rattle.arc_model.specs.Shapes.{HeapShape}
-use Rattle.arc_model.specs.History.{IsLegal}
-use Rattle.arc_model.proofs.Judged.{by_main, by_one, by_two, onto, without, exchanged, moved, Refused, legal_onto}
+use Rattle.arc_model.specs.declared.event.Life.TheVariants.{Live}
+use Rattle.std.specs.Prelude.{option_map}
+use Rattle.arc_model.specs.Heaps.{Forever}
+use Rattle.arc_model.specs.Holders.{at_slot}
+use Rattle.arc_model.specs.Life.{life_of}
+use Rattle.arc_model.specs.Laws.{strong_list}
+use Rattle.arc_model.specs.History.{heap_after, IsLegal}
+use Rattle.arc_model.proofs.Judged.{mortal, undying, by_main, by_one, by_two, onto, without, exchanged, moved, Refused, legal_onto}
 
 -- one slot, one entry, one class without fields; the greatest caps
 abbrev plain : HeapShape
-plain = record { slots = 1; entries = 1; caps = record { strong = 1073741823; unowned = 2147483647; wide = 4294967295 }; classes = [] ∷ []; globals = [] }
+plain = record { slots = 1; entries = 1; caps = record { strong = 1073741823; unowned = 2147483647; wide = 4294967295 }; classes = mortal [] ∷ []; globals = [] }
 
 -- One object, made and dropped.
 abbrev smallest_life : List Event
@@ -36,7 +42,7 @@ pub smallest_life_changed : Refused plain (exchanged 2 smallest_life) 3 Duty
 smallest_life_changed = refl
 
 abbrev strong_cap_one_shape : HeapShape
-strong_cap_one_shape = record { slots = 1; entries = 1; caps = record { strong = 1; unowned = 10; wide = 10 }; classes = [] ∷ []; globals = [] }
+strong_cap_one_shape = record { slots = 1; entries = 1; caps = record { strong = 1; unowned = 10; wide = 10 }; classes = mortal [] ∷ []; globals = [] }
 
 -- A strong cap of 1: the second copy moves the object to an entry.
 abbrev strong_cap_one : List Event
@@ -67,7 +73,7 @@ pub strong_cap_one_changed : Refused strong_cap_one_shape (exchanged 3 strong_ca
 strong_cap_one_changed = refl
 
 abbrev unowned_cap_after_deinit_shape : HeapShape
-unowned_cap_after_deinit_shape = record { slots = 1; entries = 1; caps = record { strong = 10; unowned = 2; wide = 11 }; classes = [] ∷ []; globals = [] }
+unowned_cap_after_deinit_shape = record { slots = 1; entries = 1; caps = record { strong = 10; unowned = 2; wide = 11 }; classes = mortal [] ∷ []; globals = [] }
 
 -- The unowned cap is met after deinit: the object moves to an entry while it is no longer live.
 abbrev unowned_cap_after_deinit : List Event
@@ -151,7 +157,7 @@ pub unowned_load_after_deinit_changed : Refused plain (moved 5 0 unowned_load_af
 unowned_load_after_deinit_changed = refl
 
 abbrev weak_load_of_another_thread_shape : HeapShape
-weak_load_of_another_thread_shape = record { slots = 1; entries = 1; caps = record { strong = 1073741823; unowned = 2147483647; wide = 4294967295 }; classes = [] ∷ []; globals = record { kind = Weak; class = 0 } ∷ [] }
+weak_load_of_another_thread_shape = record { slots = 1; entries = 1; caps = record { strong = 1073741823; unowned = 2147483647; wide = 4294967295 }; classes = mortal [] ∷ []; globals = record { kind = Weak; class = 0 } ∷ [] }
 
 -- One thread loads a weak reference while another drops: the loader drops the last strong reference.
 abbrev weak_load_of_another_thread : List Event
@@ -186,7 +192,7 @@ pub weak_load_of_another_thread_changed : Refused weak_load_of_another_thread_sh
 weak_load_of_another_thread_changed = refl
 
 abbrev lost_publish_shape : HeapShape
-lost_publish_shape = record { slots = 1; entries = 2; caps = record { strong = 1073741823; unowned = 2147483647; wide = 4294967295 }; classes = [] ∷ []; globals = record { kind = Strong; class = 0 } ∷ [] }
+lost_publish_shape = record { slots = 1; entries = 2; caps = record { strong = 1073741823; unowned = 2147483647; wide = 4294967295 }; classes = mortal [] ∷ []; globals = record { kind = Strong; class = 0 } ∷ [] }
 
 -- Two threads claim an entry for one object; one publishes its own and the other gives its own back.
 abbrev lost_publish : List Event
@@ -225,7 +231,7 @@ pub lost_publish_changed : Refused lost_publish_shape (without 2 lost_publish) 3
 lost_publish_changed = refl
 
 abbrev swap_beside_copy_shape : HeapShape
-swap_beside_copy_shape = record { slots = 1; entries = 1; caps = record { strong = 1073741823; unowned = 2147483647; wide = 4294967295 }; classes = [] ∷ []; globals = record { kind = Strong; class = 0 } ∷ [] }
+swap_beside_copy_shape = record { slots = 1; entries = 1; caps = record { strong = 1073741823; unowned = 2147483647; wide = 4294967295 }; classes = mortal [] ∷ []; globals = record { kind = Strong; class = 0 } ∷ [] }
 
 -- A global is swapped out between another thread's copy and the drops.
 abbrev swap_beside_copy : List Event
@@ -251,3 +257,38 @@ swap_beside_copy_broken = refl
 -- the drops change places: the first isn't the last
 pub swap_beside_copy_changed : Refused swap_beside_copy_shape (exchanged 4 swap_beside_copy) 5 WrongAnswer
 swap_beside_copy_changed = refl
+
+-- one slot, and one class, which is immortal; the least caps
+abbrev immortal_shape : HeapShape
+immortal_shape = record { slots = 1; entries = 1; caps = record { strong = 0; unowned = 1; wide = 1 }; classes = undying ∷ []; globals = [] }
+
+-- An immortal object: past each cap it gains references, and none that is dropped is its last. Its slot stays taken.
+abbrev immortal : List Event
+immortal =
+    by_one (acts.New 1 0 0) ∷
+    by_one (acts.Copy (origins.Hand 1) 2) ∷
+    by_one (acts.UnownedOf 2 3) ∷
+    by_one (acts.Drop 1 false) ∷
+    by_one (acts.Drop 2 false) ∷
+    by_one (acts.Load 3 (got.Hand 4)) ∷
+    by_one (acts.Drop 4 false) ∷
+    by_one (acts.Drop 3 false) ∷
+    by_one acts.Full ∷
+    []
+
+pub immortal_legal : IsLegal immortal_shape (onto [] immortal)
+immortal_legal = legal_onto immortal_shape 1 [] immortal refl tt
+
+-- it is live, by the strong holder that never goes
+pub immortal_lives :
+    (option_map (life_of immortal_shape) (at_slot 0 (heap_after (onto [] immortal))) ≡ Some Live)
+    × (strong_list immortal_shape 0 (heap_after (onto [] immortal)) ≡ Forever ∷ [])
+immortal_lives = (refl, refl)
+
+-- no copy: hand 2 isn't there
+pub immortal_broken : Refused immortal_shape (without 1 immortal) 2 NotHeld
+immortal_broken = refl
+
+-- of a class that isn't immortal the copy is past the cap
+pub immortal_changed : Refused (record immortal_shape { classes = mortal [] ∷ [] }) immortal 2 WrongAnswer
+immortal_changed = refl

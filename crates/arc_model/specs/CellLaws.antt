@@ -6,15 +6,15 @@ use Rattle.arc_model.specs.declared.event.CellName.TheVariants as cells
 use Rattle.arc_model.specs.declared.event.Event.{Event}
 use Rattle.arc_model.specs.Shapes.{HeapShape}
 use Rattle.arc_model.specs.Heaps.{Holder, Field, Global, Object, Heap}
-use Rattle.arc_model.specs.Holders.{same_holder, is_live}
-use Rattle.arc_model.specs.Cells.{cell, is_nil, is_kind, field_shape}
+use Rattle.arc_model.specs.Holders.{same_holder}
+use Rattle.arc_model.specs.Cells.{cell, is_nil, is_live, is_kind, field_shape}
 use Rattle.arc_model.specs.History.{History, heap_after, IsLegal}
 use Rattle.arc_model.specs.Lookup.{Spot, spot, is_cell, hand_spot}
 
 -- A nil field of an object that isn't live stays nil: so do the fields before a dying object's next field.
 abbrev pub NilFieldsStay : Type 0
 NilFieldsStay = (shape : HeapShape) (before after : History) (i : ℕ) (o : Object) (f : ℕ) → IsLegal shape (after ++ before) →
-    slice_get (heap_after before).objects i ≡ Some o → is_live o ≡ false → is_nil (heap_after before) (Field o.id f) ≡ true → is_nil (heap_after (after ++ before)) (Field o.id f) ≡ true
+    slice_get (heap_after before).objects i ≡ Some o → is_live shape o ≡ false → is_nil (heap_after before) (Field o.id f) ≡ true → is_nil (heap_after (after ++ before)) (Field o.id f) ≡ true
 
 -- where a cell stands after an act of p: the cell of a swap where the hand that is put in stood
 abbrev pub cell_next : ℕ → Act → Holder → Heap → Option Spot

@@ -1,5 +1,5 @@
--- Cells as holders: which object a field belongs to, which fields a class has, and which of them are nil.
-use Rattle.std.specs.Prelude.{ℕ, zero, suc, Bool, true, false, nat_lt, ◌&&◌, not, List, [], length, Option, Some, None, is_some, slice_get, slice_index_or}
+-- What an object has by its class: fields, with cells as holders, and where the class is immortal a strong holder for ever.
+use Rattle.std.specs.Prelude.{ℕ, zero, suc, Bool, true, false, nat_lt, ◌&&◌, not, List, [], ◌∷◌, ◌++◌, length, Option, Some, None, is_some, slice_get}
 use Rattle.arc_model.specs.declared.event.ObjectId.{ObjectId}
 use Rattle.arc_model.specs.declared.event.CellName.{CellName}
 use Rattle.arc_model.specs.declared.event.CellName.TheVariants as cells
@@ -8,9 +8,9 @@ use Rattle.arc_model.specs.declared.event.Origin.TheVariants as origins
 use Rattle.arc_model.specs.declared.shape.Kind.{Kind}
 use Rattle.arc_model.specs.declared.shape.Kind.TheVariants.{Strong, Unowned, Weak}
 use Rattle.arc_model.specs.declared.shape.RefShape.{RefShape}
-use Rattle.arc_model.specs.Shapes.{HeapShape}
-use Rattle.arc_model.specs.Heaps.{Holder, Hand, Field, Global, Object, Heap}
-use Rattle.arc_model.specs.Holders.{held_by, at_slot}
+use Rattle.arc_model.specs.Shapes.{HeapShape, ObjectClass, class_at}
+use Rattle.arc_model.specs.Heaps.{Holder, Hand, Field, Global, Forever, Object, Heap}
+use Rattle.arc_model.specs.Holders.{is_empty, kind_in, held_by, at_slot}
 
 -- the id of an object; of none, one that no object has, since each thread's objects are numbered from 1
 abbrev pub id_of : Option Object → ObjectId
@@ -31,9 +31,37 @@ origin heap p (origins.Cell c) = cell heap c
 abbrev pub is_nil : Heap → Holder → Bool
 is_nil heap x = not (is_some (held_by x heap))
 
+abbrev pub class_of : HeapShape → Object → ObjectClass
+class_of shape o = class_at shape o.class
+
 -- the fields of the object's class
 abbrev pub fields_of : HeapShape → Object → List RefShape
-fields_of shape o = slice_index_or shape.classes o.class []
+fields_of shape o = (class_of shape o).fields
+
+abbrev pub is_immortal : HeapShape → Object → Bool
+is_immortal shape o = (class_of shape o).immortal
+
+-- the strong holder that an object has by its class
+abbrev pub forever_if : Bool → List Holder
+forever_if true = Forever ∷ []
+forever_if false = []
+
+-- all strong holders of the object
+abbrev pub strong_holders : HeapShape → Object → List Holder
+strong_holders shape o = o.strong ++ forever_if (is_immortal shape o)
+
+-- all holders of one kind
+abbrev pub holders_of : HeapShape → Kind → Object → List Holder
+holders_of shape Strong o = strong_holders shape o
+holders_of shape Unowned o = o.unowned
+holders_of shape Weak o = o.weak
+
+-- all holders of the kind of x
+abbrev pub holders_with : HeapShape → Holder → Object → List Holder
+holders_with shape x o = holders_of shape (kind_in x o) o
+
+abbrev pub is_live : HeapShape → Object → Bool
+is_live shape o = not (is_empty (strong_holders shape o))
 
 abbrev pub has_field : HeapShape → ℕ → Object → Bool
 has_field shape f o = nat_lt f (length (fields_of shape o))

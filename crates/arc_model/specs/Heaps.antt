@@ -3,14 +3,15 @@ use Rattle.std.specs.Prelude.{ℕ, List, [], Option}
 use Rattle.arc_model.specs.declared.event.ObjectId.{ObjectId}
 
 -- Who holds a reference: hand k of a thread, the k-th reference that came into its hands; a field of an object; a global;
--- or one of the two extra holders of RefCount.h: all strong holders together hold one unowned reference, all unowned
--- holders together one weak reference.
+-- one of the two extra holders of RefCount.h: all strong holders together hold one unowned reference, all unowned
+-- holders together one weak reference; or the holder that never lets go of an object of an immortal class.
 pub data Holder : Type 0 where
   Hand : ℕ → ℕ → Holder
   Field : ObjectId → ℕ → Holder
   Global : ℕ → Holder
   Strongs : Holder
   Unowneds : Holder
+  Forever : Holder
 
 -- What a thread owes to an object: to end its deinit, to vacate its slot, or to take Unowneds off its entry.
 pub data Duty : Type 0 where
@@ -22,7 +23,8 @@ pub record Owed : Type 0 where
   pub thread : ℕ
   pub duty : Duty
 
--- An object, with the holders that count in each of its lists, and what is owed to it.
+-- An object, with the holders that come and go in each of its lists, and what is owed to it. Forever isn't stored: an
+-- object has it by its class.
 pub record Object : Type 0 where
   pub id : ObjectId
   pub class : ℕ

@@ -1,10 +1,10 @@
 -- Who holds what: holders in lists, objects among objects, slots and entries that are taken.
-use Rattle.std.specs.Prelude.{ℕ, Bool, true, false, ◌==◌, ◌&&◌, ◌||◌, not, if◌then◌else◌, List, [], ◌∷◌, ◌++◌, find, Option, Some, None, is_some, count_by}
+use Rattle.std.specs.Prelude.{ℕ, Bool, true, false, ◌==◌, ◌&&◌, ◌||◌, if◌then◌else◌, List, [], ◌∷◌, ◌++◌, find, Option, Some, None, is_some, count_by}
 use Rattle.std.specs.List.{list_any}
 use Rattle.arc_model.specs.declared.event.ObjectId.{ObjectId}
 use Rattle.arc_model.specs.declared.shape.Kind.{Kind}
 use Rattle.arc_model.specs.declared.shape.Kind.TheVariants.{Strong, Unowned, Weak}
-use Rattle.arc_model.specs.Heaps.{Holder, Hand, Field, Global, Strongs, Unowneds, Duty, Deinit, Vacating, Gone, Owed, Object, Claimed, Heap}
+use Rattle.arc_model.specs.Heaps.{Holder, Hand, Field, Global, Strongs, Unowneds, Forever, Duty, Deinit, Vacating, Gone, Owed, Object, Claimed, Heap}
 
 abbrev pub same_id : ObjectId → ObjectId → Bool
 same_id a b = a.thread == b.thread && a.number == b.number
@@ -15,6 +15,7 @@ same_holder (Field o f) (Field q g) = same_id o q && f == g
 same_holder (Global g) (Global n) = g == n
 same_holder Strongs Strongs = true
 same_holder Unowneds Unowneds = true
+same_holder Forever Forever = true
 same_holder _ _ = false
 
 abbrev pub is_hand_of : ℕ → Holder → Bool
@@ -79,9 +80,6 @@ kind_in x o = if is_in x o.strong then Strong else if is_in x o.unowned then Uno
 -- the list that x is in
 abbrev pub list_with : Holder → Object → List Holder
 list_with x o = list_of (kind_in x o) o
-
-abbrev pub is_live : Object → Bool
-is_live o = not (is_empty o.strong)
 
 abbrev pub is_number : Option ℕ → ℕ → Bool
 is_number None n = false

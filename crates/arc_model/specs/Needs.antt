@@ -14,8 +14,8 @@ use Rattle.arc_model.specs.declared.shape.Kind.{Kind}
 use Rattle.arc_model.specs.declared.shape.Kind.TheVariants.{Strong, Unowned, Weak}
 use Rattle.arc_model.specs.Shapes.{HeapShape}
 use Rattle.arc_model.specs.Heaps.{Holder, Hand, Deinit, Vacating, Gone, Object, Heap}
-use Rattle.arc_model.specs.Holders.{is_hand_of, is_in, is_alone, is_live, kind_in, list_of, list_with, held_by, at_slot, at_entry, is_slot_taken, is_entry_taken, is_claimed_by, owes_to}
-use Rattle.arc_model.specs.Cells.{cell, origin, is_nil, has_field, are_nil, are_all_nil, is_kind, cell_shape, each_below}
+use Rattle.arc_model.specs.Holders.{is_hand_of, is_in, is_alone, kind_in, list_of, list_with, held_by, at_slot, at_entry, is_slot_taken, is_entry_taken, is_claimed_by, owes_to}
+use Rattle.arc_model.specs.Cells.{cell, origin, is_nil, is_immortal, holders_with, is_live, has_field, are_nil, are_all_nil, is_kind, cell_shape, each_below}
 
 -- What an event is judged by: the heap, the number of the thread's next hand, and which slots and entries were taken at
 -- some point since the thread's event before.
@@ -42,14 +42,15 @@ abbrev pub passes : (Object → Bool) → Option Object → Bool
 passes test None = false
 passes test (Some o) = test o
 
-abbrev pub has_room : ℕ → List Holder → Bool
-has_room wide xs = nat_lt (length xs) wide
+-- the counts of an immortal object stand still, so that none is too great
+abbrev pub has_room : HeapShape → Object → List Holder → Bool
+has_room shape o xs = nat_lt (length xs) shape.caps.wide || is_immortal shape o
 
 -- The list that is to grow stands at its cap, so that the object may move to an entry; a weak list needs a live object alone.
 abbrev pub is_at_cap : HeapShape → Kind → Object → Bool
-is_at_cap shape Strong o = is_live o && length o.strong == shape.caps.strong + 1
+is_at_cap shape Strong o = is_live shape o && length o.strong == shape.caps.strong + 1
 is_at_cap shape Unowned o = length o.unowned == shape.caps.unowned
-is_at_cap shape Weak o = is_live o
+is_at_cap shape Weak o = is_live shape o
 
 -- A global always is reachable; a field where its slot is in an object, whose class has it, and of which p has a strong hand.
 abbrev pub reachable : HeapShape → Heap → ℕ → CellName → List Need
@@ -84,44 +85,44 @@ needs shape sight p acts.Full = (each_below shape.slots sight.slot_seen, NotTake
 needs shape sight p (acts.Copy from k) =
     has shape sight.heap p from
     ++ is_next sight k
-    ∷ (passes (λ o. has_room shape.caps.wide (list_with (origin sight.heap p from) o)) (held_by (origin sight.heap p from) sight.heap), WrongAnswer)
+    ∷ (passes (λ o. has_room shape o (list_with (origin sight.heap p from) o)) (held_by (origin sight.heap p from) sight.heap), WrongAnswer)
     ∷ []
 needs shape sight p (acts.UnownedOf h k) =
     (passes (λ o. is_in (Hand p h) o.strong) (held_by (Hand p h) sight.heap), NotHeld)
     ∷ is_next sight k
-    ∷ (passes (λ o. has_room shape.caps.wide o.unowned) (held_by (Hand p h) sight.heap), WrongAnswer)
+    ∷ (passes (λ o. has_room shape o o.unowned) (held_by (Hand p h) sight.heap), WrongAnswer)
     ∷ []
 needs shape sight p (acts.WeakOf h k) =
     (passes (λ o. is_in (Hand p h) o.strong) (held_by (Hand p h) sight.heap), NotHeld)
     ∷ (passes (λ o. is_some o.entry) (held_by (Hand p h) sight.heap), NoSuchObject)
     ∷ is_next sight k
-    ∷ (passes (λ o. has_room shape.caps.wide o.weak) (held_by (Hand p h) sight.heap), WrongAnswer)
+    ∷ (passes (λ o. has_room shape o o.weak) (held_by (Hand p h) sight.heap), WrongAnswer)
     ∷ []
 needs shape sight p (acts.Load h (got.Hand k)) =
     (passes (λ o. is_in (Hand p h) o.unowned || is_in (Hand p h) o.weak) (held_by (Hand p h) sight.heap), NotHeld)
     ∷ is_next sight k
-    ∷ (passes (λ o. is_live o && has_room shape.caps.wide o.strong) (held_by (Hand p h) sight.heap), WrongAnswer)
+    ∷ (passes (λ o. is_live shape o && has_room shape o o.strong) (held_by (Hand p h) sight.heap), WrongAnswer)
     ∷ []
 needs shape sight p (acts.Load h got.Dead) =
     (passes (λ o. is_in (Hand p h) o.unowned) (held_by (Hand p h) sight.heap), NotHeld)
-    ∷ (passes (λ o. not (is_live o)) (held_by (Hand p h) sight.heap), WrongAnswer)
+    ∷ (passes (λ o. not (is_live shape o)) (held_by (Hand p h) sight.heap), WrongAnswer)
     ∷ []
 needs shape sight p (acts.Load h got.Nil) =
     (passes (λ o. is_in (Hand p h) o.weak) (held_by (Hand p h) sight.heap), NotHeld)
-    ∷ (passes (λ o. not (is_live o)) (held_by (Hand p h) sight.heap), WrongAnswer)
+    ∷ (passes (λ o. not (is_live shape o)) (held_by (Hand p h) sight.heap), WrongAnswer)
     ∷ []
 needs shape sight p (acts.Drop h last) =
     (is_some (held_by (Hand p h) sight.heap), NotHeld)
-    ∷ (passes (λ o. same_bool last (is_alone (list_with (Hand p h) o))) (held_by (Hand p h) sight.heap), WrongAnswer)
+    ∷ (passes (λ o. same_bool last (is_alone (holders_with shape (Hand p h) o))) (held_by (Hand p h) sight.heap), WrongAnswer)
     ∷ []
 needs shape sight p (acts.CountFull k from) =
     has shape sight.heap p from
-    ++ (passes (λ o. length (list_of k o) == shape.caps.wide) (held_by (origin sight.heap p from) sight.heap), WrongAnswer)
+    ++ (passes (λ o. not (is_immortal shape o) && length (list_of k o) == shape.caps.wide) (held_by (origin sight.heap p from) sight.heap), WrongAnswer)
     ∷ []
 needs shape sight p (acts.Claim e) = (not (is_entry_taken e sight.heap), Taken) ∷ []
 needs shape sight p acts.NoEntry = (each_below shape.entries sight.entry_seen, NotTaken) ∷ []
 needs shape sight p (acts.Side s e why) =
-    (is_slot_taken s sight.heap, NoSuchObject)
+    (passes (λ o. not (is_immortal shape o)) (at_slot s sight.heap), NoSuchObject)
     ∷ (is_claimed_by p e sight.heap, WrongDuty)
     ∷ (passes (λ o. not (is_some o.entry)) (at_slot s sight.heap), Taken)
     ∷ (passes (is_at_cap shape why) (at_slot s sight.heap), WrongAnswer)

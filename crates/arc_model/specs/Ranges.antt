@@ -1,5 +1,7 @@
+-- The ranges of the parts of a shape.
 use Rattle.std.specs.Prelude.{ℕ, ◌<◌, ◌≤◌, List, length, All}
 use Rattle.arc_model.specs.declared.shape.RefShape.{RefShape}
+use Rattle.arc_model.specs.Shapes.{ObjectClass}
 
 abbrev pub StrongCapFits : ℕ → Type 0
 StrongCapFits n = n ≤ 1073741823
@@ -22,16 +24,16 @@ SlotsFit n = (1 ≤ n) × (n ≤ 4096)
 abbrev pub EntriesFit : ℕ → Type 0
 EntriesFit n = (1 ≤ n) × (n ≤ 4096)
 
-abbrev pub ClassesFit : List (List RefShape) → Type 0
+abbrev pub ClassesFit : List ObjectClass → Type 0
 ClassesFit classes = length classes ≤ 64
 
-abbrev pub FieldsFit : List (List RefShape) → Type 0
-FieldsFit classes = All (λ fields. length fields ≤ 8) classes
+abbrev pub FieldsFit : List ObjectClass → Type 0
+FieldsFit classes = All (λ c. length c.fields ≤ 8) classes
 
 abbrev pub GlobalsFit : List RefShape → Type 0
 GlobalsFit globals = length globals ≤ 64
 
-pub record ShapeFits (slots entries : ℕ) (classes : List (List RefShape)) (globals : List RefShape) : Type 0 where
+pub record ShapeFits (slots entries : ℕ) (classes : List ObjectClass) (globals : List RefShape) : Type 0 where
   pub slots_fit : SlotsFit slots
   pub entries_fit : EntriesFit entries
   pub classes_fit : ClassesFit classes

@@ -1,6 +1,6 @@
 -- How a thread's events spell what it did. A list of notes has the newest first, and each relation goes from the notes
 -- before to the notes after.
-use Rattle.std.specs.Prelude.{ℕ, Bool, true, false, ◌+◌, ◌<◌, ◌≡◌, List, [], ◌∷◌, length, Option, Some, None, slice_index_or}
+use Rattle.std.specs.Prelude.{ℕ, Bool, true, false, ◌+◌, ◌<◌, ◌≡◌, List, [], ◌∷◌, length, Option, Some, None}
 use Rattle.arc_model.specs.declared.answer.Answer.{Answer}
 use Rattle.arc_model.specs.declared.answer.Answer.TheVariants as answers
 use Rattle.arc_model.specs.declared.event.ObjectName.{ObjectName}
@@ -10,7 +10,7 @@ use Rattle.arc_model.specs.declared.event.Act.{Act}
 use Rattle.arc_model.specs.declared.event.Act.TheVariants.{Drop, Take, Finish, Vacate, Gone, Back}
 use Rattle.arc_model.specs.declared.shape.Kind.{Kind}
 use Rattle.arc_model.specs.declared.shape.Kind.TheVariants.{Strong, Unowned, Weak}
-use Rattle.arc_model.specs.Shapes.{HeapShape}
+use Rattle.arc_model.specs.Shapes.{HeapShape, class_at}
 use Rattle.arc_model.specs.History.{brings}
 
 -- What a spelling reads.
@@ -25,7 +25,7 @@ pub data Note : Type 0 where
   Name : ℕ → ObjectName → Note
   -- the object in the slot has this entry, or none
   Entry : ℕ → Option ℕ → Note
-  -- the object in the slot has no entry, and its list of this kind needs one to grow
+  -- the object in the slot isn't immortal and has no entry, and its list of this kind needs one to grow
   NeedsEntry : ℕ → Kind → Note
   -- the cell is nil
   Nil : CellName → Note
@@ -63,7 +63,7 @@ deinits_of (_ ∷ ns) = deinits_of ns
 
 -- the number of fields of an object with this name
 abbrev pub field_count : HeapShape → ObjectName → ℕ
-field_count shape name = length (slice_index_or shape.classes name.class [])
+field_count shape name = length (class_at shape name.class).fields
 
 -- The end of a slot: it is vacated. Where the object has an entry the last weak holder but those of others goes, and after
 -- the last of all the entry is given back.

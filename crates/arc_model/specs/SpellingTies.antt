@@ -7,8 +7,8 @@ use Rattle.arc_model.specs.declared.shape.Kind.{Kind}
 use Rattle.arc_model.specs.declared.shape.Kind.TheVariants.{Strong, Unowned, Weak}
 use Rattle.arc_model.specs.Shapes.{HeapShape}
 use Rattle.arc_model.specs.Heaps.{Holder, Hand, Object, Heap}
-use Rattle.arc_model.specs.Holders.{kind_in, is_live, held_by, at_slot}
-use Rattle.arc_model.specs.Cells.{cell, is_nil}
+use Rattle.arc_model.specs.Holders.{kind_in, held_by, at_slot}
+use Rattle.arc_model.specs.Cells.{cell, is_nil, is_immortal, is_live}
 use Rattle.arc_model.specs.Needs.{passes}
 use Rattle.arc_model.specs.History.{History, heap_after, next_hand, ever_since, share, is_of}
 use Rattle.arc_model.specs.Spelling.{Note, is_fact, hands_of, acts_of, deinits_of, IsDrop}
@@ -40,13 +40,13 @@ reference_of x heap = reference_in x (held_by x heap)
 
 -- the list stands at its cap; a weak one is counted in an entry alone
 abbrev pub is_out_of_room : HeapShape → Kind → Object → Bool
-is_out_of_room shape Strong o = is_live o && length o.strong == shape.caps.strong + 1
+is_out_of_room shape Strong o = is_live shape o && length o.strong == shape.caps.strong + 1
 is_out_of_room shape Unowned o = length o.unowned == shape.caps.unowned
 is_out_of_room shape Weak o = true
 
--- the object in the slot has no entry, and its list needs one to grow
+-- the object in the slot isn't immortal and has no entry, and its list needs one to grow
 abbrev pub needs_entry : HeapShape → ℕ → Kind → Heap → Bool
-needs_entry shape slot list heap = passes (λ o. not (is_some o.entry) && is_out_of_room shape list o) (at_slot slot heap)
+needs_entry shape slot list heap = passes (λ o. not (is_immortal shape o) && not (is_some o.entry) && is_out_of_room shape list o) (at_slot slot heap)
 
 -- whether the causes of claims are judged as well
 pub data Causes : Type 0 where
@@ -101,7 +101,7 @@ abbrev pub TiesWithoutCauses : Type 0
 TiesWithoutCauses = (shape : HeapShape) (p : ℕ) (ns : List Note) (h : History) → Ties Judged shape p ns h → Ties LeftAside shape p ns h
 
 -- Where the cause of a claim is noted, there is a point since the thread's last event, or since the start, at which the
--- object had no entry and its list stood at its cap.
+-- object wasn't immortal, had no entry and its list stood at its cap.
 abbrev pub CausesAreRecent : Type 0
 CausesAreRecent = (shape : HeapShape) (p slot : ℕ) (list : Kind) (ns : List Note) (h : History) →
     Ties Judged shape p (NeedsEntry slot list ∷ ns) h → ever_since p (needs_entry shape slot list) h ≡ true

@@ -1,3 +1,5 @@
+//! What an operation answers, as its line says it.
+
 use crate::event::ObjectName;
 
 /// What an operation answers, and the line that tells of a deinit.

@@ -1,3 +1,5 @@
+//! The caps of the counts, each in its range.
+
 ghost use Rattle.std.specs.Prelude.{◌≡◌, ◌↔◌, IfOk};
 ghost use Rattle.arc_model.specs.Ranges.{StrongCapFits, UnownedCapFits, WideCapFits};
 

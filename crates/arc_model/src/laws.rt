@@ -1,6 +1,6 @@
 //! Laws of all legal histories. Each function's contract is its law; no function does anything.
 
-ghost use Rattle.arc_model.specs.Laws.{StrongListEndsOnce, LoadsBeforeEnd, SlotVacatedBetween, EntryGivenBackBetween};
+ghost use Rattle.arc_model.specs.Laws.{StrongListEndsOnce, LoadsBeforeEnd, SlotVacatedBetween, EntryGivenBackBetween, ImmortalsLiveOn};
 ghost use Rattle.arc_model.specs.Lookup.{LookupAfter};
 ghost use Rattle.arc_model.specs.Others.{NextHandStays, SeenIsAtPoint, OthersLeave, StaysQuiet, OthersLeaveFields, SoleHolderStays, UnsharedStays};
 ghost use Rattle.arc_model.specs.Own.{OwnLeave, OwnGains, OwnEnds, OwnDuties, OwnClaims, DutiesLast};
@@ -32,9 +32,16 @@ pub fn entry_given_back_between()
     ensures { EntryGivenBackBetween }
 {}
 
+/// An object of an immortal class is live in its slot from its `new` on, without an entry, and is never deinited. That a class
+/// is immortal is this project's own.
+pub fn immortals_live_on()
+    ensures { ImmortalsLiveOn }
+{}
+
 /// After a legal history each object stands at one stage of its life; each hand and each cell stands at most once, in one
 /// list of one object; each slot is in at most one object; an entry is claimed once or belongs to one object; a thread's
-/// objects are numbered from 1; a field that isn't nil is one of an object that is live or whose deinit is owed.
+/// objects are numbered from 1; a field that isn't nil is one of an object that is live or whose deinit is owed; an
+/// immortal object has a slot and no entry.
 pub fn well_formed_after()
     ensures { WellFormedAfter }
 {}

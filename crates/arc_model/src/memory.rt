@@ -1,3 +1,5 @@
+//! That no memory was found.
+
 use std::alloc::{AllocError, AllocFailed};
 
 /// No memory was found.

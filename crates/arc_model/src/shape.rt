@@ -1,3 +1,5 @@
+//! What a heap is made of: slots, entries, caps, classes and globals, each in its range.
+
 ghost use Rattle.std.specs.Prelude.{◌≡◌, ◌↔◌, IsTrue, IfOk};
 ghost use Rattle.arc_model.specs.Ranges.{SlotsFit, EntriesFit, ClassesFit, FieldsFit, GlobalsFit, ShapeFits};
 
@@ -21,19 +23,19 @@ pub struct RefShape {
     pub class: u32,
 }
 
-/// The fields of a class, at most 8, in the order of declaration.
+/// The fields of a class, at most 8, in the order of declaration, and whether its objects are never deinited.
 #[derive(Debug, Drop)]
 pub struct ClassShape {
     pub fields: Vec<RefShape>,
+    pub immortal: bool,
 }
 
 impl Model for ClassShape {
-    ghost use Rattle.std.specs.Prelude.{List};
-    ghost use Rattle.arc_model.specs.declared.shape.RefShape.{RefShape};
+    ghost use Rattle.arc_model.specs.Shapes.{ObjectClass};
 
-    ghost Value = { List RefShape };
+    ghost Value = { ObjectClass };
 
-    ghost view = { λ c. c.fields.items };
+    ghost view = { λ c. record { fields = c.fields.items; immortal = c.immortal } };
 }
 
 /// What a heap is made of: how many slots and side table entries, the caps of the counts, the classes and the globals.
@@ -74,12 +76,15 @@ fn fields_fit(classes: &[ClassShape]) -> bool
     classes.iter().all(|c| c.fields.len() <= 8)
 }
 
-fn copied_fields(alloc: Global, class: &ClassShape) -> Result<ClassShape, Memory>
+fn copied_class(alloc: Global, class: &ClassShape) -> Result<ClassShape, Memory>
     ensures equal { IfOk result (λ c. c ≡ class.now) }
 {
     let mut fields = Vec::new(alloc);
     fields.extend_from_slice(class.fields.as_slice())?;
-    Ok(ClassShape { fields })
+    Ok(ClassShape {
+        fields,
+        immortal: class.immortal,
+    })
 }
 
 impl Shape {
@@ -167,7 +172,7 @@ impl Shape {
     {
         let mut classes = Vec::new(alloc);
         for class in self.classes.iter() {
-            classes.push(copied_fields(alloc, class)?)?;
+            classes.push(copied_class(alloc, class)?)?;
         }
         let mut globals = Vec::new(alloc);
         globals.extend_from_slice(self.globals.as_slice())?;
@@ -195,7 +200,10 @@ mod tests {
         let mut fields = Vec::new(rt.alloc());
         fields.push(weak)?;
         let mut classes = Vec::new(rt.alloc());
-        classes.push(ClassShape { fields })?;
+        classes.push(ClassShape {
+            fields,
+            immortal: true,
+        })?;
         let mut globals = Vec::new(rt.alloc());
         globals.push(weak)?;
         let caps = Caps::new(1, 2, 3).map_err(|_| Memory)?;
@@ -205,6 +213,9 @@ mod tests {
         assert_eq!(rt; copy.entries(), 5);
         assert_eq!(rt; copy.caps().wide(), 3);
         assert_eq!(rt; copy.classes().len(), 1);
+        for class in copy.classes() {
+            assert!(rt; class.immortal);
+        }
         assert_eq!(rt; copy.globals().len(), 1);
         Ok(())
     }

@@ -44,6 +44,8 @@ op_fits classes globals vars few (op.Weak to of) h s = absurd s
 op_fits classes globals vars few (op.Load to of) h s = absurd s
 op_fits classes globals vars few (op.Get to cell) h s = absurd s
 op_fits classes globals vars few (op.Set cell from) h s = absurd s
+op_fits classes globals vars few (op.IfNil var to) h s = absurd s
+op_fits classes globals vars few (op.IfSome var to) h s = absurd s
 
 -- operations that fit
 abbrev OpsFit : ℕ → ℕ → List Op → Type 0
@@ -88,7 +90,7 @@ program_fits s thread valid served = go (eqb thread 0)
 pub is_stepper : (s : Script) (thread : ℕ) → IsScript s → IsServed s → thread ≤ length s.threads → IsStepper (stepper_of s thread)
 is_stepper s thread valid served within =
     let fits = program_fits s thread valid served in
-    let length_is : length s.shape.classes ≡ length s.classes = ap length valid.heading.of_classes ∙ length-map s.classes (λ (c : ClassDecl). field_refs c.fields) in
+    let length_is : length s.shape.classes ≡ length s.classes = ap length valid.heading.of_classes ∙ length-map s.classes (λ (c : ClassDecl). record { fields = field_refs c.fields; immortal = c.immortal }) in
     let few = valid.few_threads in
     let cap = served.strong_cap in
     record {

@@ -59,6 +59,8 @@ VarsFit vars (op.Weak to of) = ⊥
 VarsFit vars (op.Load to of) = ⊥
 VarsFit vars (op.Get to cell) = ⊥
 VarsFit vars (op.Set cell from) = ⊥
+VarsFit vars (op.IfNil var to) = ⊥
+VarsFit vars (op.IfSome var to) = ⊥
 
 -- an object that it makes has one of so many classes
 abbrev pub ClassFits : ℕ → Op → Type 0

@@ -1,7 +1,7 @@
 -- Which scripts are served so far.
 use Rattle.std.specs.Prelude.{◌≡◌, List, [], All}
 use Rattle.arc_model.specs.declared.shape.Kind.TheVariants as kind
-use Rattle.arc_model.specs.declared.shape.RefShape.{RefShape}
+use Rattle.arc_model.specs.Shapes.{ObjectClass}
 use Rattle.arc_script.specs.declared.script.VarDecl.{VarDecl}
 use Rattle.arc_script.specs.declared.script.Op.{Op}
 use Rattle.arc_script.specs.declared.script.Op.TheVariants as op
@@ -19,6 +19,8 @@ IsServedOp (op.Weak to of) = ⊥
 IsServedOp (op.Load to of) = ⊥
 IsServedOp (op.Get to cell) = ⊥
 IsServedOp (op.Set cell from) = ⊥
+IsServedOp (op.IfNil var to) = ⊥
+IsServedOp (op.IfSome var to) = ⊥
 
 abbrev pub IsStrongVar : VarDecl → Type 0
 IsStrongVar v = v.kind ≡ kind.Strong
@@ -32,7 +34,7 @@ pub record IsServedThread (t : ThreadDecl) : Type 0 where
 -- fields, no globals, the greatest caps
 pub record IsServed (s : Script) : Type 0 where
   pub threads : All IsServedThread s.threads
-  pub without_fields : All (λ (fields : List RefShape). fields ≡ []) s.shape.classes
+  pub without_fields : All (λ (c : ObjectClass). c.fields ≡ []) s.shape.classes
   pub no_globals : s.globals ≡ []
   pub strong_cap : s.shape.caps.strong ≡ 1073741823
   pub unowned_cap : s.shape.caps.unowned ≡ 2147483647

@@ -2,9 +2,9 @@
 use Rattle.std.specs.Prelude.{ℕ, Bool, true, false, ◌≡◌, ◌<◌, ◌≤◌, ◌+◌, ◌-◌, nat_lt, not, ◌&&◌, ◌||◌, if◌then◌else◌, List, [], ◌∷◌, length, take, drop, flat_map, All, slice_get, slice_index_or, slice_set, position, replicate, Option, Some, None, ⊤}
 use Rattle.std.specs.Option.{unwrap_or}
 use Rattle.arc_bits.specs.declared.packing.Word.{Word}
-use Rattle.arc_bits.specs.declared.packing.Word.TheVariants.{Counts}
+use Rattle.arc_bits.specs.declared.packing.Word.TheVariants.{Counts, Immortal}
 use Rattle.arc_bits.specs.Words.{unpacked}
-use Rattle.arc_model.specs.Shapes.{HeapShape}
+use Rattle.arc_model.specs.Shapes.{HeapShape, class_at}
 use Rattle.arc_model.specs.declared.event.ObjectName.{ObjectName}
 use Rattle.arc_model.specs.declared.event.Origin.TheVariants.{Hand}
 use Rattle.arc_model.specs.declared.event.Act.{Act}
@@ -12,7 +12,6 @@ use Rattle.arc_model.specs.declared.event.Act.TheVariants as acts
 use Rattle.arc_rule.specs.Extents.{Extent}
 use Rattle.arc_rule.specs.Places.{extent_of}
 use Rattle.arc_rule.specs.declared.step.Step.{Step}
-use Rattle.arc_rule.specs.declared.step.Step.TheVariants as steps
 use Rattle.arc_rule.specs.declared.step.Intent.{Intent}
 use Rattle.arc_rule.specs.declared.step.Intent.TheVariants as intents
 use Rattle.arc_rule.specs.declared.plan.Next.{Next}
@@ -22,14 +21,15 @@ use Rattle.arc_plan.specs.declared.attempt.At.TheVariants as attempt
 use Rattle.arc_plan.specs.declared.slots.Making.{Making as Search}
 use Rattle.arc_plan.specs.declared.slots.Making.TheVariants as search
 use Rattle.arc_plan.specs.declared.slots.NewObjectAnswer.{NewObjectAnswer}
-use Rattle.arc_plan.specs.declared.slots.NewObjectAnswer.TheVariants.{Slot, NoSlot}
+use Rattle.arc_plan.specs.declared.slots.NewObjectAnswer.TheVariants.{Slot, NoSlot, Again}
 use Rattle.arc_plan.specs.declared.strong.StrongUpAnswer.{StrongUpAnswer}
 use Rattle.arc_plan.specs.declared.strong.StrongUpAnswer.TheVariants as ups
 use Rattle.arc_plan.specs.declared.strong.StrongDownAnswer.{StrongDownAnswer}
 use Rattle.arc_plan.specs.declared.strong.StrongDownAnswer.TheVariants as downs
 use Rattle.arc_plan.specs.Attempts.{Attempt, CappedAttempt}
 use Rattle.arc_plan.specs.Strong.{strong_up_turned, strong_up_answer, strong_up_takes, strong_down_turned, strong_down_answer, strong_down_takes}
-use Rattle.arc_plan.specs.Slots.{Creation, creation_turned, creation_answer, creation_takes}
+use Rattle.arc_plan.specs.Slots.{Creation, InSlots, slot_taken, creation_turned, creation_answer, creation_takes}
+use Rattle.arc_rule.specs.Isa.{IsName}
 use Rattle.arc_cells.specs.declared.cascade.At.TheVariants as at
 use Rattle.arc_cells.specs.declared.cascade.CascadeNext.{CascadeNext}
 use Rattle.arc_cells.specs.declared.cascade.CascadeNext.TheVariants as says
@@ -131,15 +131,15 @@ abbrev pub skipped : Answer → Thread → Thread
 skipped answer t = record t { index = t.index + 1; kept = with_line (record { operation = t.index + 1; answer = answer }) t.kept }
 
 abbrev pub creation_from : Thread → ObjectName → Creation
-creation_from t name = record { layout = t.layout; name = name; at = search.Start }
+creation_from t name = record { layout = t.layout; name = name; immortal = (class_at t.shape name.class).immortal; at = search.Start }
 
-abbrev pub make_asks : ℕ → ObjectName → ℕ → Creation → Next NewObjectAnswer → Thread → Thread
-make_asks to name slot plan (nexts.Step s) t = asking (Making to name slot plan) s (intents.New name.class) t
-make_asks to name slot plan (nexts.Done a) t = t
+abbrev pub make_asks : ℕ → ObjectName → Creation → Next NewObjectAnswer → Thread → Thread
+make_asks to name plan (nexts.Step s) t = asking (Making to name plan) s (intents.New name.class) t
+make_asks to name plan (nexts.Done a) t = t
 
 abbrev pub make_begun_as : ℕ → ObjectName → Thread → Thread
 make_begun_as to name t =
-    make_asks to name 0 (creation_turned (creation_from t name) None) (creation_answer (creation_from t name) None) t
+    make_asks to name (creation_turned (creation_from t name) None) (creation_answer (creation_from t name) None) t
 
 abbrev pub make_begun : ℕ → ℕ → Thread → Thread
 make_begun to class t = make_begun_as to (record { class = class; thread = t.thread; number = t.made + 1 }) t
@@ -233,17 +233,16 @@ replaced_old (Some old) t = drop_begun old t
 abbrev pub replaced : ℕ → Held → Thread → Thread
 replaced to held t = replaced_old (value t.vars to) (set_var to (Some held) t)
 
--- the store of the name follows the exchange that took the slot
-abbrev pub made_step : ℕ → ObjectName → ℕ → Creation → Step → Thread → Thread
-made_step to name slot plan (steps.Store place new) t =
-    asking (Making to name slot plan) (steps.Store place new) (intents.New name.class)
-    (record t { hands = t.hands + 1; made = t.made + 1; event = Some (acts.New (t.hands + 1) name.class slot) })
-made_step to name slot plan step t = asking (Making to name (slot + 1) plan) step (intents.New name.class) t
+-- the object is made by the step that takes the slot, which leaves the plan to store the object's words
+abbrev pub came_to : ObjectName → Option ℕ → Thread → Thread
+came_to name (Some slot) t = record t { hands = t.hands + 1; made = t.made + 1; event = Some (acts.New (t.hands + 1) name.class slot) }
+came_to name None t = t
 
-abbrev pub made_on : ℕ → ObjectName → ℕ → Creation → Next NewObjectAnswer → Thread → Thread
-made_on to name slot plan (nexts.Step s) t = made_step to name slot plan s t
-made_on to name slot plan (nexts.Done (Slot place)) t = replaced to (record { hand = t.hands; place = place }) (put (answers.New name) t)
-made_on to name slot plan (nexts.Done NoSlot) t = next_op (put answers.Full (record t { event = Some acts.Full }))
+abbrev pub made_on : ℕ → ObjectName → Creation → Next NewObjectAnswer → Thread → Thread
+made_on to name plan (nexts.Step s) t = asking (Making to name plan) s (intents.New name.class) (came_to name (slot_taken plan.at) t)
+made_on to name plan (nexts.Done (Slot place)) t = replaced to (record { hand = t.hands; place = place }) (put (answers.New name) t)
+made_on to name plan (nexts.Done NoSlot) t = next_op (put answers.Full (record t { event = Some acts.Full }))
+made_on to name plan (nexts.Done (Again changed)) t = make_begun_as to name t
 
 abbrev pub copied_on : ℕ → Held → CappedAttempt → Next StrongUpAnswer → Thread → Thread
 copied_on to held plan (nexts.Step s) t = asking (Copying to held plan) s (intents.Copy (Hand held.hand)) t
@@ -279,7 +278,7 @@ dying_on c says.Done t = next_op t
 -- after what was given at its place; the stepper tells no event before
 abbrev pub turned_at : Option ℕ → Doing → Thread → Thread
 turned_at last Ready t = begun t
-turned_at last (Making to name slot plan) t = made_on to name slot (creation_turned plan last) (creation_answer plan last) t
+turned_at last (Making to name plan) t = made_on to name (creation_turned plan last) (creation_answer plan last) t
 turned_at last (Copying to held plan) t = copied_on to held (strong_up_turned plan last) (strong_up_answer plan last) t
 turned_at last (Dropping held plan) t = dropped_on held (strong_down_turned plan last) (strong_down_answer plan last) t
 turned_at last (Dying c) t = dying_on (cascade_turned c last) (cascade_answer c last) (record t { event = (cascade_turned c last).event })
@@ -290,9 +289,10 @@ turned t last = turned_at last t.doing (record t { doing = Ended; first = false;
 
 -- ---- what it may be given
 
--- counts of a live object below the cap
+-- counts of a live object below the cap, or the word of an immortal object
 abbrev pub IsUpWord : ℕ → Option Word → Type 0
 IsUpWord cap (Some (Counts c)) = (c.deiniting ≡ false) × (c.strong_extra < cap)
+IsUpWord cap (Some Immortal) = ⊤
 IsUpWord cap _ = ⊥
 
 abbrev pub IsUpWordAt : ℕ → At → ℕ → Type 0
@@ -303,7 +303,7 @@ IsUpWordAt cap _ w = ⊤
 -- and below their cap.
 abbrev pub takes_at : Option ℕ → Doing → Type 0
 takes_at last Ready = last ≡ None
-takes_at last (Making to name slot plan) = creation_takes plan last
+takes_at last (Making to name plan) = creation_takes plan last
 takes_at last (Copying to held plan) = strong_up_takes plan last × IsUpWordAt plan.cap plan.at (unwrap_or last 0)
 takes_at last (Dropping held plan) = strong_down_takes plan last × IsInlineAt plan.at (unwrap_or last 0)
 takes_at last (Dying c) = cascade_takes c last
@@ -333,13 +333,14 @@ abbrev pub HeldFits : ℕ → Option Held → Type 0
 HeldFits slots None = ⊤
 HeldFits slots (Some held) = held.place < slots
 
-abbrev pub IsTryingSlot : ℕ → Search → Type 0
-IsTryingSlot slot (search.Trying s) = s ≡ slot
-IsTryingSlot slot (search.Naming s) = s ≡ slot
-IsTryingSlot slot _ = ⊥
+-- it has asked for a step of the making, on a word or a slot of the heap
+abbrev pub IsMakingIn : Extent → Search → Type 0
+IsMakingIn l search.Start = ⊥
+IsMakingIn l search.Ended = ⊥
+IsMakingIn l at = InSlots l at
 
 abbrev pub IsUnderWay : Extent → HeapShape → ℕ → Doing → Type 0
-IsUnderWay layout shape vars (Making to name slot plan) = (to < vars) × (slot < layout.slots) × (plan.layout ≡ layout) × IsTryingSlot slot plan.at
+IsUnderWay layout shape vars (Making to name plan) = (to < vars) × (plan.layout ≡ layout) × IsName name × IsMakingIn layout plan.at
 IsUnderWay layout shape vars (Copying to held plan) = (to < vars) × (held.place < layout.slots)
 IsUnderWay layout shape vars (Dropping held plan) = held.place < layout.slots
 IsUnderWay layout shape vars (Dying c) = (c.layout ≡ layout) × (c.shape ≡ shape)
@@ -357,23 +358,25 @@ FewBefore t = (t.hands ≤ t.index) × (t.made ≤ t.index)
 
 -- the object isn't made yet
 abbrev pub MadeBefore : Thread → Search → Type 0
-MadeBefore t (search.Trying s) = FewBefore t
+MadeBefore t (search.Looking word) = FewBefore t
+MadeBefore t (search.Taking slot seen) = FewBefore t
 MadeBefore t _ = ⊤
 
--- a step of the plan that makes an object, and where the plan is then: it stores the name in the slot, or tries the next one
-abbrev pub StepGoesOn : Thread → ℕ → Search → Step → Type 0
-StepGoesOn t slot at (steps.Store place new) = (slot < t.layout.slots) × (at ≡ search.Naming slot) × FewBefore t
-StepGoesOn t slot at _ = (slot + 1 < t.layout.slots) × IsTryingSlot (slot + 1) at × FewBefore t
+-- where the plan is then: it looks on, takes a slot, has just taken it, or stores the name
+abbrev pub StepGoesOn : Thread → Search → Type 0
+StepGoesOn t (search.Counting slot) = IsMakingIn t.layout (search.Counting slot) × FewBefore t
+StepGoesOn t at = IsMakingIn t.layout at × MadeBefore t at
 
-abbrev pub MakingGoesOn : Thread → ℕ → Search → Next NewObjectAnswer → Type 0
-MakingGoesOn t slot at (nexts.Step step) = StepGoesOn t slot at step
-MakingGoesOn t slot at (nexts.Done (Slot place)) = place < t.layout.slots
-MakingGoesOn t slot at (nexts.Done NoSlot) = ⊤
+abbrev pub MakingGoesOn : Thread → ObjectName → Search → Next NewObjectAnswer → Type 0
+MakingGoesOn t name at (nexts.Step step) = IsName name × StepGoesOn t at
+MakingGoesOn t name at (nexts.Done (Slot place)) = place < t.layout.slots
+MakingGoesOn t name at (nexts.Done NoSlot) = ⊤
+MakingGoesOn t name at (nexts.Done (Again changed)) = IsName name × FewBefore t
 
 -- an operation of the program is under way, not a drop at the end of the scope
 abbrev pub IsInOperation : Thread → Doing → Type 0
 IsInOperation t Ready = t.index < length t.program → FewBefore t
-IsInOperation t (Making to name slot plan) = (t.index < length t.program) × MadeBefore t plan.at
+IsInOperation t (Making to name plan) = (t.index < length t.program) × MadeBefore t plan.at
 IsInOperation t (Copying to held plan) = (t.index < length t.program) × FewBefore t
 IsInOperation t _ = ⊤
 

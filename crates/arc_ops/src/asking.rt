@@ -1,11 +1,25 @@
+//! What a stepper asks for next.
+
 ghost use Rattle.std.specs.Prelude.{ℕ, ◌≡◌, ◌<◌, ◌≤◌, false, All, length, position, replicate, IfOk};
+ghost use Rattle.arc_model.specs.Shapes.{class_at};
 ghost use Rattle.arc_ops.specs.Programs.{VarsFit};
 ghost use Rattle.arc_ops.specs.Thread.{Thread, AsksAt, asks, begun, begun_op, HeldFits, is_held, phase_end, skipped};
 
 use crate::kept::Lines;
 use crate::stepper::Held;
+use arc_model::Shape;
 use arc_script::{Answer, Line, Op};
 use std::alloc::{AllocError, Global};
+
+/// Whether the class is immortal.
+pub(crate) fn is_immortal(shape: &Shape, class: u32) -> bool
+    ensures { result ≡ (class_at shape.now class).immortal }
+{
+    match shape.classes().get(class as usize) {
+        Some(class) => class.immortal,
+        None => false,
+    }
+}
 
 /// The first operation from this one on that asks for a step, or the end of the phase. Those before it are done: their lines are put,
 /// and what they move is moved.

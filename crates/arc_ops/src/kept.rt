@@ -1,3 +1,5 @@
+//! What a stepper keeps of its thread: its variables, its hands and its operations.
+
 ghost use Rattle.std.specs.Prelude.{◌≡◌, [], IfOk};
 ghost use Rattle.arc_ops.specs.Kept.{with_line};
 

@@ -1,3 +1,5 @@
+//! The operations of a thread, phase by phase.
+
 ghost use Rattle.std.specs.Prelude.{◌≡◌, ◌≤◌, length, count_by, sum_by, flat_map, IfOk};
 ghost use Rattle.arc_script.specs.Valid.{op_count};
 ghost use Rattle.arc_ops.specs.Programs.{declared_of, phases_of, ops_in_first, vars_of, is_new, new_count_of, new_count};

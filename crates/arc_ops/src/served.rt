@@ -1,5 +1,7 @@
+//! Which scripts steppers serve.
+
 ghost use Rattle.std.specs.Prelude.{◌≡◌, ◌↔◌, All, IsTrue, []};
-ghost use Rattle.arc_model.specs.declared.shape.RefShape.{RefShape};
+ghost use Rattle.arc_model.specs.Shapes.{ObjectClass};
 ghost use Rattle.arc_ops.specs.Served.{IsServed, IsServedThread, IsServedOp, IsStrongVar};
 
 use arc_model::{Caps, ClassShape, Kind};
@@ -52,7 +54,7 @@ fn are_served_threads(threads: &[ThreadDecl]) -> bool
 }
 
 fn have_no_fields(classes: &[ClassShape]) -> bool
-    ensures { IsTrue result ↔ All (λ fields. fields ≡ []) classes.now }
+    ensures { IsTrue result ↔ All (λ (c : ObjectClass). c.fields ≡ []) classes.now }
 {
     classes.iter().all(|class| class.fields.is_empty())
 }

@@ -1,13 +1,16 @@
-ghost use Rattle.std.specs.Prelude.{◌≡◌, false, true, ◌<◌, ◌≤◌, ◌+◌, length, slice_get, Some, IfOk};
+//! The stepper: one thread of a script as a machine of steps.
+
+ghost use Rattle.std.specs.Prelude.{◌≡◌, false, true, ◌<◌, ◌≤◌, ◌+◌, length, slice_get, Some, IfOk, IfSome};
 ghost use Rattle.arc_model.specs.declared.event.Origin.TheVariants.{Hand};
+ghost use Rattle.arc_rule.specs.Isa.{IsName};
 ghost use Rattle.arc_rule.specs.Places.{extent_of};
 ghost use Rattle.arc_rule.specs.declared.step.Intent.TheVariants as intents;
 ghost use Rattle.arc_script.specs.Valid.{IsScript};
 ghost use Rattle.arc_ops.specs.Served.{IsServed};
 ghost use Rattle.arc_ops.specs.declared.stepper.Doing.TheVariants.{Copying, Dropping, Ended};
-ghost use Rattle.arc_ops.specs.Thread.{Thread, IsStepper, FewBefore, IsUnderWay, IsInOperation, IsUpAnswer, IsDownAnswer, DiesAt, MakingGoesOn, StepGoesOn, asks, number_of, first_of, in_operation, stepper_of, takes, turned, begun, begun_op, begun_nil, begun_move, is_held, value, phase_over, scope_begun, next_op, replaced, drop_begun, make_begun, copy_begun, made_on, made_step, copied_on, dropped_on, dies, dying_on, put, asking};
+ghost use Rattle.arc_ops.specs.Thread.{Thread, IsStepper, FewBefore, IsUnderWay, IsInOperation, IsUpAnswer, IsDownAnswer, DiesAt, MakingGoesOn, asks, number_of, first_of, in_operation, stepper_of, takes, turned, begun, begun_op, begun_nil, begun_move, is_held, value, phase_over, scope_begun, next_op, replaced, drop_begun, make_begun, make_begun_as, copy_begun, came_to, made_on, copied_on, dropped_on, dies, dying_on, put, asking};
 
-use crate::asking::{first_asking, first_held, nil_vars};
+use crate::asking::{first_asking, first_held, is_immortal, nil_vars};
 use crate::kept::Lines;
 use crate::programs::{new_count, ops_in_first, phases_of, program_in, vars_of};
 use arc_cells::{Cascade, CascadeNext};
@@ -35,11 +38,10 @@ pub(crate) struct Held {
 enum Doing<'a> {
     /// Nothing is under way.
     Ready,
-    /// An object is made for a variable; this slot is tried, or taken.
+    /// An object is made for a variable.
     Making {
         to: u32,
         name: ObjectName,
-        slot: u32,
         plan: NewObject,
     },
     /// A reference is copied to a variable.
@@ -159,14 +161,9 @@ impl<'a> Stepper<'a> {
         let doing = mem::replace(&mut self.doing, Doing::Ended);
         match doing {
             Doing::Ready => self.begin(),
-            Doing::Making {
-                to,
-                name,
-                slot,
-                mut plan,
-            } => {
+            Doing::Making { to, name, mut plan } => {
                 let next = plan.next(last);
-                self.make_on(to, name, slot, plan, next);
+                self.make_on(to, name, plan, next);
             }
             Doing::Copying { to, held, mut plan } => {
                 let next = plan.next(last);
@@ -398,38 +395,49 @@ impl<'a> Stepper<'a> {
             thread: self.thread,
             number: self.made + 1,
         };
-        let mut plan = NewObject::start(&self.layout, name);
+        self.begin_make_as(to, name);
+    }
+
+    fn begin_make_as(&mut self, to: u32, name: ObjectName)
+        requires at { self.old.index < length self.old.program }
+        requires few { FewBefore self.old }
+        requires to { to < length self.old.vars }
+        requires name { IsName name }
+        ensures { self.new ≡ make_begun_as to name self.old }
+    {
+        let class = name.class;
+        let immortal = is_immortal(self.shape, class);
+        let mut plan = NewObject::start(&self.layout, name, immortal);
         match plan.next(None) {
             Next::Step(step) => {
-                let making = Doing::Making {
-                    to,
-                    name,
-                    slot: 0,
-                    plan,
-                };
-                self.ask(making, step, Intent::New { class });
+                self.ask(
+                    Doing::Making { to, name, plan },
+                    step,
+                    Intent::New { class },
+                )
             }
             Next::Done(_) => unreachable!(),
         }
     }
 
-    fn make_on(
-        &mut self,
-        to: u32,
-        name: ObjectName,
-        slot: u32,
-        plan: NewObject,
-        next: Next<NewObjectAnswer>,
-    )
+    fn make_on(&mut self, to: u32, name: ObjectName, plan: NewObject, next: Next<NewObjectAnswer>)
         requires at { self.old.index < length self.old.program }
         requires to { to < length self.old.vars }
         requires layout { plan.layout ≡ self.old.layout }
         requires idle { self.old.doing ≡ Ended }
-        requires goes_on { MakingGoesOn self.old slot plan.at next }
-        ensures { self.new ≡ made_on to name slot plan next self.old }
+        requires goes_on { MakingGoesOn self.old name plan.at next }
+        ensures { self.new ≡ made_on to name plan next self.old }
     {
         match next {
-            Next::Step(step) => self.make_step(to, name, slot, plan, step),
+            Next::Step(step) => {
+                self.came_to(name, plan.took());
+                let class = name.class;
+                self.ask(
+                    Doing::Making { to, name, plan },
+                    step,
+                    Intent::New { class },
+                );
+            }
             Next::Done(answer) => match answer {
                 NewObjectAnswer::Slot(place) => {
                     let hand = self.hands;
@@ -441,46 +449,25 @@ impl<'a> Stepper<'a> {
                     self.put(Answer::Full);
                     self.next_op();
                 }
+                NewObjectAnswer::Again(_) => self.begin_make_as(to, name),
             },
         }
     }
 
-    /// The store of the name follows the exchange that took the slot; any other step tries the next slot.
-    fn make_step(&mut self, to: u32, name: ObjectName, slot: u32, plan: NewObject, step: Step)
-        requires at { self.old.index < length self.old.program }
-        requires to { to < length self.old.vars }
-        requires layout { plan.layout ≡ self.old.layout }
+    /// The step that took a slot has made the object.
+    fn came_to(&mut self, name: ObjectName, took: Option<u32>)
         requires idle { self.old.doing ≡ Ended }
-        requires goes_on { StepGoesOn self.old slot plan.at step }
-        ensures { self.new ≡ made_step to name slot plan step self.old }
+        requires few { IfSome took (λ slot. FewBefore self.old) }
+        ensures { self.new ≡ came_to name took self.old }
     {
-        let intent = Intent::New { class: name.class };
-        match step {
-            Step::Store { place: _, new: _ } => {
-                self.hands += 1;
-                self.made += 1;
-                self.event = Some(Act::New {
-                    hand: self.hands,
-                    class: name.class,
-                    slot,
-                });
-                let making = Doing::Making {
-                    to,
-                    name,
-                    slot,
-                    plan,
-                };
-                self.ask(making, step, intent);
-            }
-            _ => {
-                let making = Doing::Making {
-                    to,
-                    name,
-                    slot: slot + 1,
-                    plan,
-                };
-                self.ask(making, step, intent);
-            }
+        if let Some(slot) = took {
+            self.hands += 1;
+            self.made += 1;
+            self.event = Some(Act::New {
+                hand: self.hands,
+                class: name.class,
+                slot,
+            });
         }
     }
 

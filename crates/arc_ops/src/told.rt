@@ -1,3 +1,5 @@
+//! What a stepper tells: the events and the lines of its thread.
+
 use arc_model::Event;
 use arc_script::Line;
 use sqlite_items::Items;

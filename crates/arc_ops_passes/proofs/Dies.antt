@@ -1,5 +1,5 @@
 -- A stepper whose last reference to an object has gone: the object dies.
-use Rattle.std.proofs.Common.{◌≡◌, ◌≢◌, inl, inr, ℕ, ◌<◌, ◌≤◌, ◌==◌, not, Bool, true, false, cond, List, [], ◌∷◌, ◌++◌, length, option_map, get_or, zero, suc, Option, Some, None, refl, sym, ap, ◌∙◌, subst, arith, eq-eqb, ne_eqb}
+use Rattle.std.proofs.Common.{◌≡◌, ◌≢◌, inl, inr, ℕ, ◌/◌, ◌<◌, ◌≤◌, ◌==◌, not, Bool, true, false, cond, List, [], ◌∷◌, ◌++◌, length, option_map, get_or, zero, suc, Option, Some, None, refl, sym, ap, ◌∙◌, subst, arith, eq-eqb, ne_eqb}
 use Rattle.std.specs.Prelude.{slice_get, is_some}
 use Rattle.std.proofs.lemmas.List.Elements.{recursion_from_All}
 use Rattle.std.specs.List.{AllByRecursion}
@@ -18,8 +18,9 @@ use Rattle.arc_model.specs.declared.event.ObjectName.{ObjectName}
 use Rattle.arc_model.specs.declared.shape.Kind.{Kind}
 use Rattle.arc_model.specs.declared.shape.Kind.TheVariants.{Unowned}
 use Rattle.arc_model.specs.declared.shape.RefShape.{RefShape}
+use Rattle.arc_model.specs.Shapes.{ObjectClass}
 use Rattle.arc_model.specs.Heaps.{Field, Deinit, Vacating, Gone, Object}
-use Rattle.arc_model.specs.Holders.{at_slot, in_slot, is_live, is_empty}
+use Rattle.arc_model.specs.Holders.{at_slot, in_slot}
 use Rattle.arc_model.specs.Cells.{are_all_nil, each_below, is_nil}
 use Rattle.arc_model.specs.History.{History, heap_after, IsLegal}
 use Rattle.arc_model.specs.Lookup.{duty_of, passes_at, entry_in}
@@ -32,10 +33,12 @@ use Rattle.arc_rule.specs.Places.{IsPlace, extent_of, number, place_at}
 use Rattle.arc_rule.specs.Isa.{IsName, IsIsaWord, isa_word_of, isa_name_of}
 use Rattle.arc_rule.specs.Shown.{ShowsName, ShowsCounts}
 use Rattle.arc_rule.proofs.Places.{place_at-number}
+use Rattle.arc_rule.specs.Bits.{words_of, but_bit_of}
+use Rattle.arc_rule.proofs.Bits.{thing_left_but}
 use Rattle.arc_rule.specs.declared.layout.Place.{Place}
-use Rattle.arc_rule.specs.declared.layout.Place.TheVariants.{Count, Isa, Next}
+use Rattle.arc_rule.specs.declared.layout.Place.TheVariants.{Count, Isa, Next, SlotBits}
 use Rattle.arc_rule.specs.declared.step.Step.{Step}
-use Rattle.arc_rule.specs.declared.step.Step.TheVariants.{Load, Exchange, Store}
+use Rattle.arc_rule.specs.declared.step.Step.TheVariants.{Load, Exchange, Store, And}
 use Rattle.arc_rule.specs.declared.step.Intent.{Intent}
 use Rattle.arc_rule.specs.declared.step.Intent.TheVariants as intents
 use Rattle.arc_rule.specs.declared.plan.Next.TheVariants as nexts
@@ -62,14 +65,13 @@ use Rattle.arc_view.specs.declared.view.View.{View}
 use Rattle.arc_view.specs.Views.{Each, idle, private_words}
 use Rattle.arc_view.specs.Holding.{At, HasClaim, heap_of}
 use Rattle.arc_view.specs.Rule.{InShape, IsWithin}
-use Rattle.arc_view.specs.Kinds.{act_of, event_list, is_last, is_last_in, stored_act, working_loaded, working_stored, working_hit, without_next, hit_act}
+use Rattle.arc_view.specs.Kinds.{act_of, event_list, is_last, is_last_in, stored_act, and_act, but_at, working_loaded, working_stored, working_hit, working_and, without_next, hit_act}
 use Rattle.arc_view.specs.Admission.{HasEntered, IsDown}
 use Rattle.arc_view.specs.Built.{IsAllowed}
-use Rattle.arc_view.specs.Steps.{Told, IsKeptAt, IsUnsettled}
+use Rattle.arc_view.specs.Steps.{Told, IsKeptAt}
 use Rattle.arc_view.specs.Calls.{Called}
 use Rattle.arc_view.proofs.Within.{each_at}
-use Rattle.arc_view.proofs.Bridge.{dying_dead}
-use Rattle.arc_view.proofs.Counting.{header_counts}
+use Rattle.arc_view.proofs.Counting.{inline_counts}
 use Rattle.arc_view.proofs.Held.{Stays, stays_after, dying_busy}
 use Rattle.arc_view.proofs.Owed.{OwedLater, owed_stays}
 use Rattle.arc_view.proofs.Strongs.{slot_found}
@@ -86,10 +88,10 @@ use Rattle.arc_ops_passes.proofs.Goes.{quiet, Facts, Comes, told_by, fresh_under
 abbrev pub dying : Work → ℕ → CascadeAt → Option Act → Doing
 dying w s a e = doings.Dying (record { layout = extent_of w.shape; shape = w.shape; slot = s; at = a; event = e })
 
-no-fields : (classes : List (List RefShape)) (i : ℕ) → AllByRecursion (λ (fields : List RefShape). fields ≡ []) classes → get_or classes i [] ≡ []
+no-fields : (classes : List ObjectClass) (i : ℕ) → AllByRecursion (λ (c : ObjectClass). c.fields ≡ []) classes → (get_or classes i (record { fields = []; immortal = false })).fields ≡ []
 no-fields [] i bare = refl
-no-fields (fields ∷ classes) zero bare = bare.0
-no-fields (fields ∷ classes) (suc i) bare = no-fields classes i bare.1
+no-fields (c ∷ classes) zero bare = bare.0
+no-fields (c ∷ classes) (suc i) bare = no-fields classes i bare.1
 
 inline_unpacked : (c : Inline) (n : ℕ) → IsWordOf (Counts c) n → unpacked n ≡ Some (Counts c)
 inline_unpacked c n word = ap unpacked (sym word.packed_is) ∙ unpacked-packed (Counts c) word.packable
@@ -119,7 +121,7 @@ module _ (w : Work) (t : Thread) (v : View) (s : ℕ) (a : CascadeAt) (e : Optio
 
     all_nil : are_all_nil w.shape (heap_of v) owes.object ≡ true
     all_nil = ap (λ (xs : List RefShape). each_below (length xs) (λ g. is_nil (heap_of v) (Field owes.object.id g)))
-        (no-fields w.shape.classes owes.object.class (recursion_from_All (λ (fields : List RefShape). fields ≡ []) w.shape.classes f.served.without_fields))
+        (no-fields w.shape.classes owes.object.class (recursion_from_All (λ (c : ObjectClass). c.fields ≡ []) w.shape.classes f.served.without_fields))
 
     has_entered : v.working ≡ entered s → HasEntered v s
     has_entered is = (record { slot = s; parent = None; next_field = 0 }, 0, ap (λ (x : Working). slice_get x.entered 0) is, refl)
@@ -127,10 +129,17 @@ module _ (w : Work) (t : Thread) (v : View) (s : ℕ) (a : CascadeAt) (e : Optio
     abbrev Swap : ℕ → ℕ → Step
     Swap seen new = Exchange (number (extent_of w.shape) (Count s)) seen new
 
+    -- an exchange reads no name
+    no_load : (seen new slot : ℕ) → Path (Option (Step × Intent)) (Some (Swap seen new, deinit)) (Some (Load (number (extent_of w.shape) (Isa slot)), intents.Deinit slot)) → ⊥
+    no_load seen new slot e = apart (ap (λ (x : Step × Intent). x.0) (Some-inj e))
+      where
+        apart : Swap seen new ≡ Load (number (extent_of w.shape) (Isa slot)) → ⊥
+        apart x = cc
+
     pub enter_allowed : v.working ≡ idle → IsAllowed w.shape v (Store (number (extent_of w.shape) (Next s)) 0) deinit
     enter_allowed is = (
       (Next s, refl, below, (free idle is refl, (owes.place, owes.object, None, refl, owes.here, owes.slot, owes.owes, (λ (h : HasEntered v s). never h), tt, refl))),
-      (refl, ap (λ (x : Working). x.stored) is),
+      refl,
     )
       where
         never : HasEntered v s → ⊥
@@ -138,19 +147,19 @@ module _ (w : Work) (t : Thread) (v : View) (s : ℕ) (a : CascadeAt) (e : Optio
 
     pub name_allowed : v.working ≡ entered s → IsAllowed w.shape v (Load (number (extent_of w.shape) (Isa s))) deinit
     name_allowed is = (
-      (Isa s, refl, below, free (entered s) is refl, (owes.place, owes.object, owes.here, owes.slot, inr owes.owes)),
+      (Isa s, refl, below, free (entered s) is refl, (owes.place, owes.object, owes.here, owes.slot, inr owes.owes), tt),
       (inl (λ x. refl, λ x. ap (λ (pl : Place). working_loaded v.working pl x deinit) (place_at-number (extent_of w.shape) (Isa s) below))),
     )
 
     pub leave_allowed : v.working ≡ entered s → IsAllowed w.shape v (Load (number (extent_of w.shape) (Next s))) deinit
     leave_allowed is = (
-      (Next s, refl, below, free (entered s) is refl, ((owes.place, owes.object, owes.here, owes.slot, owes.owes, all_nil), has_entered is)),
+      (Next s, refl, below, free (entered s) is refl, ((owes.place, owes.object, owes.here, owes.slot, owes.owes, all_nil), has_entered is), tt),
       (inl (λ x. refl, λ x. ap (λ (pl : Place). working_loaded v.working pl x deinit) (place_at-number (extent_of w.shape) (Next s) below))),
     )
 
     pub load_allowed : v.working ≡ entered s → IsAllowed w.shape v (Load (number (extent_of w.shape) (Count s))) deinit
     load_allowed is = (
-      (Count s, refl, below, free (entered s) is refl, inl (owes.place, owes.object, owes.here, owes.slot, inr (inl (Deinit, owes.owes)))),
+      (Count s, refl, below, free (entered s) is refl, (owes.place, owes.object, owes.here, owes.slot, inr (inl (Deinit, owes.owes))), tt),
       (inl (λ x. refl, λ x. ap (λ (pl : Place). working_loaded v.working pl x deinit) (place_at-number (extent_of w.shape) (Count s) below))),
     )
 
@@ -188,12 +197,12 @@ module _ (w : Work) (t : Thread) (v : View) (s : ℕ) (a : CascadeAt) (e : Optio
 
       -- the cascade goes on to this
       on : (u : Thread) (b : CascadeAt) → takes_at (Some found) (dying w s a e) → u.event ≡ None → u.hands ≡ t.hands → u.vars ≡ t.vars → u.doing ≡ dying w s b None → Asks w.shape u (dying w s b None) → IsDying w.shape v' (record { layout = extent_of w.shape; shape = w.shape; slot = s; at = b; event = None })
-          → WordsHold Judged w.shape (extent_of w.shape) (Some step) (Some found) w.thread None h → Comes w v step deinit found v' h (dying w s a e) u
+          → WordsHold Judged w.shape (extent_of w.shape) (Some (step, deinit)) (Some found) w.thread None h → Comes w v step deinit found v' h (dying w s a e) u
       on u b takes event hands vars doing asks under holds =
           let same : (g : Held → ℕ) → references u.vars u.hands u.doing g ≡ references t.vars t.hands (dying w s a e) g = λ g. (λ j. references (vars j) (hands j) (doing j) g) in record {
             takes_it = takes;
             event = none ∙ sym event;
-            holds = subst (λ (x : Option Act). WordsHold Judged w.shape (extent_of w.shape) (Some step) (Some found) w.thread x h) (sym event) holds;
+            holds = subst (λ (x : Option Act). WordsHold Judged w.shape (extent_of w.shape) (Some (step, deinit)) (Some found) w.thread x h) (sym event) holds;
             count = ap length vars ∙ f.count;
             owns = subst (λ n. Owns v' n (references u.vars u.hands u.doing)) (sym hands) (owns_still w.shape 1 v v' t.hands (references t.vars t.hands (dying w s a e)) (references u.vars u.hands u.doing) called f.owns same);
             no_claim = claims_still w.shape 1 v v' called f.no_claim;
@@ -208,10 +217,10 @@ module _ (w : Work) (t : Thread) (v : View) (s : ℕ) (a : CascadeAt) (e : Optio
         let st = Store (number (extent_of w.shape) (Next s)) 0 in
         let none : act_of w.shape v st deinit found ≡ None = ap (λ (pl : Place). stored_act v pl deinit) (place_at-number (extent_of w.shape) (Next s) below) in
         let works : v'.working ≡ entered s = ap (λ (x : View). x.working) told.after ∙ (ap (λ (pl : Place). working_stored (number (extent_of w.shape)) v.working pl 0 deinit) (place_at-number (extent_of w.shape) (Next s) below)
-        ∙ ap (λ (x : Working). record x { entered = record { slot = s; parent = None; next_field = 0 } ∷ x.entered }) is) in
+        ∙ ap (λ (x : Working). record x { stored = but_at (number (extent_of w.shape)) (number (extent_of w.shape) (Next s)) x.stored; entered = record { slot = s; parent = None; next_field = 0 } ∷ x.entered }) is) in
         subst (λ (b : CascadeAt). Comes w v st deinit found v' (told.between ++ v.seen) (dying w s b e) (turned_at (Some found) (dying w s ats.Entering e) (quiet t))) at
         (on st found v' told none (turned_at (Some found) (dying w s ats.Entering e) (quiet t)) ats.Naming (subst (λ b. takes_at (Some found) (dying w s b e)) (sym at) (λ x. cc)) refl refl refl refl (refl, refl)
-        (record { working = works; duty = owes_then st found v' told none; rests = tt }) (nothing_shown w.shape (extent_of w.shape) st found w.thread None (told.between ++ v.seen) tt tt))
+        (record { working = works; duty = owes_then st found v' told none; rests = tt }) (nothing_shown w.shape (extent_of w.shape) st deinit found w.thread None (told.between ++ v.seen) tt tt))
 
     -- ---- it reads the name
     abbrev ReadName : Step
@@ -230,15 +239,8 @@ module _ (w : Work) (t : Thread) (v : View) (s : ℕ) (a : CascadeAt) (e : Optio
       there : at_slot s (heap_after h_name) ≡ Some met_name.0
       there = slot_found w.shape h_name (owes_then ReadName found v' told refl).place s met_name.0 met_name.4 met_name.1 met_name.2
 
-      -- no other thread owes the name of an object that dies
-      settled : IsUnsettled v.number (heap_after h_name) (Isa s) found → ⊥
-      settled (q, ne, (j, o, k, here, slot, u)) =
-          let same : o ≡ met_name.0 = Some-inj (sym (slot_found w.shape h_name j s o met_name.4 here slot) ∙ there) in
-          let dead = dying_dead w.shape h_name v.number (owes_then ReadName found v' told refl).place met_name.0 met_name.4 met_name.1 met_name.3 in
-          true≢false (sym (ap (λ xs. not (is_empty xs)) u.strong) ∙ (ap is_live same ∙ dead))
-
       word : found ≡ isa_word_of (name_of met_name.0)
-      word = subst (λ m. ShowsName m found) there ((told.read (Isa s) tt below refl).says settled)
+      word = subst (λ m. ShowsName m found) there ((told.read (Isa s) tt below refl).says (λ u. u))
 
       fits : IsName (name_of met_name.0)
       fits = is_name w.shape h_name (owes_then ReadName found v' told refl).place met_name.0 f.sized met_name.5 met_name.1
@@ -249,13 +251,13 @@ module _ (w : Work) (t : Thread) (v : View) (s : ℕ) (a : CascadeAt) (e : Optio
       isa_takes : NamesClass w.shape (Some found)
       isa_takes = (subst IsIsaWord (sym word) (is_isa (name_of met_name.0) fits), subst (λ (n : ObjectName). n.class < length w.shape.classes) name_is (met_name.5.classes (owes_then ReadName found v' told refl).place met_name.0 met_name.1).0)
 
-      name_inj : (x y : ℕ) → Some (Load x) ≡ Some (Load y) → x ≡ y
-      name_inj x y e = cc
+      deinit_inj : (x y : ℕ) → intents.Deinit x ≡ intents.Deinit y → x ≡ y
+      deinit_inj x y e = cc
 
-      shown : WordsHold Judged w.shape (extent_of w.shape) (Some ReadName) (Some found) w.thread None h_name
+      shown : WordsHold Judged w.shape (extent_of w.shape) (Some (ReadName, deinit)) (Some found) w.thread None h_name
       shown = record {
         names = λ slot x asked last.
-            let same : s ≡ slot = (let e = name_inj (number (extent_of w.shape) (Isa s)) (number (extent_of w.shape) (Isa slot)) asked in omega arith) in
+            let same : s ≡ slot = deinit_inj s slot (ap (λ (x : Step × Intent). x.1) (Some-inj asked)) in
             subst (λ (p : ℕ × ℕ). option_map name_of (at_slot p.0 (heap_after h_name)) ≡ Some (isa_name_of p.1)) (λ j. (same j, Some-inj last j)) (ap (option_map name_of) there ∙ ap Some name_is);
         entries = λ slot x new c e. absurd (None≢Some (acts.Finish slot true) e);
       }
@@ -277,7 +279,7 @@ module _ (w : Work) (t : Thread) (v : View) (s : ℕ) (a : CascadeAt) (e : Optio
     leaves found v' told at is =
         let kept : Each (IsKeptAt w.shape (Next s) found) (private_words (entered s)) = subst (λ (x : Working). Each (IsKeptAt w.shape (Next s) found) (private_words x)) is (told.read (Next s) tt below refl).private in
         on ReadNext found v' told refl (turned_at (Some found) (dying w s ats.Leaving e) (quiet t)) (fin attempt.Loading) (subst (λ b. takes_at (Some found) (dying w s b e)) (sym at) (ap Some (kept.0 refl))) refl refl refl refl (refl, (refl, refl))
-        (record { working = works_on (Next s) found v' told below (λ x. refl) ∙ is; duty = owes_then ReadNext found v' told refl; rests = tt }) (nothing_shown w.shape (extent_of w.shape) ReadNext found w.thread None (told.between ++ v.seen) (next_no_name (extent_of w.shape) s) tt)
+        (record { working = works_on (Next s) found v' told below (λ x. refl) ∙ is; duty = owes_then ReadNext found v' told refl; rests = tt }) (nothing_shown w.shape (extent_of w.shape) ReadNext deinit found w.thread None (told.between ++ v.seen) (next_no_name (extent_of w.shape) s s) tt)
 
     -- ---- it loads the count
     abbrev ReadCount : Step
@@ -314,7 +316,7 @@ module _ (w : Work) (t : Thread) (v : View) (s : ℕ) (a : CascadeAt) (e : Optio
               let new = counts_word (unowned_less c) in
               let u : Thread = dying_on (Turned (Write new)) (finish_says (here_at (fin attempt.Loading)) (chosen (number (extent_of w.shape) (Count s)) found (Write new))) (record (quiet t) { event = (Turned (Write new)).event }) in
               let done : Loaded (Write new) = on ReadCount found v' told refl u (fin (attempt.Exchanging found new)) takes refl refl refl refl (refl, (refl, refl))
-              (record { working = works_on (Count s) found v' told below (λ x. refl) ∙ is; duty = owes_then ReadCount found v' told refl; rests = (c, word, unowned, refl) }) (nothing_shown w.shape (extent_of w.shape) ReadCount found w.thread None (told.between ++ v.seen) (count_no_name (extent_of w.shape) s) tt) in
+              (record { working = works_on (Count s) found v' told below (λ x. refl) ∙ is; duty = owes_then ReadCount found v' told refl; rests = (c, word, unowned, refl) }) (nothing_shown w.shape (extent_of w.shape) ReadCount deinit found w.thread None (told.between ++ v.seen) (count_no_name (extent_of w.shape) s s) tt) in
               subst Loaded (sym row) done
 
     -- ---- it exchanges it
@@ -337,7 +339,7 @@ module _ (w : Work) (t : Thread) (v : View) (s : ℕ) (a : CascadeAt) (e : Optio
           let works : v'.working ≡ v.working = ap (λ (x : View). x.working) told.after ∙ ap (λ b. cond b (working_hit (number (extent_of w.shape)) v.working (place_at (extent_of w.shape) (number (extent_of w.shape) (Count s))) seen new deinit) v.working) (ne_eqb found seen ne) in
           let answer = downs.Again (record { seen = seen; found = found }) in
           on (Swap seen new) found v' told none (dying_on (TurnedTo answer) (finish_says (here_at (fin (attempt.Exchanging seen new))) (nexts.Done answer)) (record (quiet t) { event = (TurnedTo answer).event })) (fin attempt.Loading) takes_swap refl refl refl refl (refl, (refl, refl))
-          (record { working = works ∙ is; duty = owes_then (Swap seen new) found v' told none; rests = tt }) (nothing_shown w.shape (extent_of w.shape) (Swap seen new) found w.thread None h_swap tt tt)
+          (record { working = works ∙ is; duty = owes_then (Swap seen new) found v' told none; rests = tt }) (nothing_shown w.shape (extent_of w.shape) (Swap seen new) deinit found w.thread None h_swap tt tt)
 
       -- the deinit ends
       module _ (same : found ≡ seen) (last : Bool) (act : act_of w.shape v (Swap seen new) deinit found ≡ Some (acts.Finish s last)) where
@@ -398,7 +400,8 @@ module _ (w : Work) (t : Thread) (v : View) (s : ℕ) (a : CascadeAt) (e : Optio
           let walk = next_walks w.shape q f.is_for f.stepper.vars_fit in record {
             takes_it = takes_swap;
             event = act ∙ sym walk.event;
-            holds = subst (λ (x : Option Act). WordsHold Judged w.shape (extent_of w.shape) (Some (Swap seen new)) (Some found) w.thread x h_swap) (sym walk.event) (record { names = λ slot x asked. absurd (cc); entries = λ slot x n c e. absurd (cc) });
+            holds = subst (λ (x : Option Act). WordsHold Judged w.shape (extent_of w.shape) (Some (Swap seen new, deinit)) (Some found) w.thread x h_swap) (sym walk.event)
+                (record { names = λ slot x asked. absurd (no_load seen new slot asked); entries = λ slot x n c e. absurd (cc) });
             count = walk.count ∙ f.count;
             owns = owns_end same false act u.hands (references u.vars u.hands u.doing) walk.hands walk.same;
             no_claim = no_claim_end same false act;
@@ -411,7 +414,7 @@ module _ (w : Work) (t : Thread) (v : View) (s : ℕ) (a : CascadeAt) (e : Optio
       last_one same c word act = record {
         takes_it = takes_swap;
         event = act;
-        holds = record { names = λ slot x asked. absurd (cc); entries = entry_none };
+        holds = record { names = λ slot x asked. absurd (no_load seen new slot asked); entries = entry_none };
         count = f.count;
         owns = owns_end same true act t.hands (references t.vars t.hands (dying w s (ats.Vacating (record { layout = extent_of w.shape; slot = s; at = once.Asked })) (Some (acts.Finish s true)))) refl (λ g. omega arith);
         no_claim = no_claim_end same true act;
@@ -426,7 +429,7 @@ module _ (w : Work) (t : Thread) (v : View) (s : ℕ) (a : CascadeAt) (e : Optio
           says = subst (ShowsCounts w.shape (at_slot s (heap_after h_swap))) same ((told.read (Count s) tt below refl).says (λ u. u))
 
           bare : m.q.entry ≡ None
-          bare = (header_counts w.shape m.q c seen f.sized (subst (λ x. ShowsCounts w.shape x seen) (slot_found w.shape h_swap owes.place s m.q (legal same true act).1 m.here (slot_end same true act)) says) word).entry
+          bare = (inline_counts w.shape m.q c seen f.sized (subst (λ x. ShowsCounts w.shape x seen) (slot_found w.shape h_swap owes.place s m.q (legal same true act).1 m.here (slot_end same true act)) says) word).entry
 
           r : Stays owes.place m.q (heap_after (event same true act ∷ h_swap))
           r = stays_after w.shape (event same true act) h_swap (legal same true act) owes.place m.q m.here
@@ -457,7 +460,7 @@ module _ (w : Work) (t : Thread) (v : View) (s : ℕ) (a : CascadeAt) (e : Optio
           finish_inj : (x y : ℕ) → Some (acts.Finish x true) ≡ Some (acts.Finish y true) → x ≡ y
           finish_inj x y e = cc
 
-          entry_none : (slot x n : ℕ) (k : Inline) → Some (acts.Finish s true) ≡ Some (acts.Finish slot true) → Some (Swap seen new) ≡ Some (Exchange (number (extent_of w.shape) (Count slot)) x n) → Some found ≡ Some x → unpacked x ≡ Some (Counts k)
+          entry_none : (slot x n : ℕ) (k : Inline) → Some (acts.Finish s true) ≡ Some (acts.Finish slot true) → Path (Option (Step × Intent)) (Some (Swap seen new, deinit)) (Some (Exchange (number (extent_of w.shape) (Count slot)) x n, intents.Deinit slot)) → Some found ≡ Some x → unpacked x ≡ Some (Counts k)
               → option_map (λ (o : Object). o.entry) (at_slot slot (heap_after (record { thread = w.thread; act = acts.Finish s true } ∷ h_swap))) ≡ Some None
           entry_none slot x n k ev asked last un =
               subst (λ (p : ℕ × ℕ). option_map (λ (o : Object). o.entry) (at_slot p.0 (heap_after (record { thread = p.1; act = acts.Finish s true } ∷ h_swap))) ≡ Some None) (λ j. (finish_inj s slot ev j, f.number j))
@@ -485,13 +488,16 @@ module _ (w : Work) (t : Thread) (v : View) (s : ℕ) (a : CascadeAt) (e : Optio
   -- ---- it vacates the slot
   module _ (owes : OwesOne v Vacating s) (is : v.working ≡ idle) where
     abbrev Clear : Step
-    Clear = Store (number (extent_of w.shape) (Count s)) 0
+    Clear = And (number (extent_of w.shape) (SlotBits (s / 64))) (but_bit_of s)
 
     inside : s < w.shape.slots
     inside = (each_at (IsWithin w.shape) (heap_of v).objects owes.place owes.object f.in_shape.within owes.here).0 s owes.slot
 
+    word_in : s / 64 < words_of w.shape.slots
+    word_in = let b = inside in omega arith
+
     pub vacate_allowed : IsAllowed w.shape v Clear intents.Vacate
-    vacate_allowed = ((Count s, refl, inside, (ap (λ (x : Working). x.owes) is, (s, owes.place, owes.object, refl, refl, owes.here, owes.slot, owes.owes))), tt)
+    vacate_allowed = ((SlotBits (s / 64), refl, word_in, ap (λ (x : Working). x.owes) is, (s, owes.place, owes.object, refl, inside, refl, owes.here, owes.slot, owes.owes)), tt)
 
     module _ (found : ℕ) (v' : View) (told : Told w.shape intents.Vacate Clear v found v') where
       abbrev h_left : History
@@ -504,7 +510,7 @@ module _ (w : Work) (t : Thread) (v : View) (s : ℕ) (a : CascadeAt) (e : Optio
       event_left = record { thread = v.number; act = left }
 
       act_is : act_of w.shape v Clear intents.Vacate found ≡ Some left
-      act_is = ap (λ (u : Place). stored_act v u intents.Vacate) (place_at-number (extent_of w.shape) (Count s) inside)
+      act_is = ap (λ (u : Place). and_act u (but_bit_of s) intents.Vacate) (place_at-number (extent_of w.shape) (SlotBits (s / 64)) word_in) ∙ ap (λ n. Some (acts.Vacate n)) (thing_left_but s)
 
       called_left : Called w.shape (left ∷ []) 1 v v'
       called_left = told_by w.shape intents.Vacate Clear v found v' (Some left) act_is told
@@ -542,10 +548,10 @@ module _ (w : Work) (t : Thread) (v : View) (s : ℕ) (a : CascadeAt) (e : Optio
           let walk = next_walks w.shape q f.is_for f.stepper.vars_fit in record {
             takes_it = subst (λ b. takes_at (Some found) (dying w s b e)) (sym at) tt;
             event = act_is ∙ sym walk.event;
-            holds = subst (λ (x : Option Act). WordsHold Judged w.shape (extent_of w.shape) (Some Clear) (Some found) w.thread x h_left) (sym walk.event) (nothing_shown w.shape (extent_of w.shape) Clear found w.thread (Some left) h_left tt tt);
+            holds = subst (λ (x : Option Act). WordsHold Judged w.shape (extent_of w.shape) (Some (Clear, intents.Vacate)) (Some found) w.thread x h_left) (sym walk.event) (nothing_shown w.shape (extent_of w.shape) Clear intents.Vacate found w.thread (Some left) h_left tt tt);
             count = walk.count ∙ f.count;
             owns = subst (λ n. Owns v' n (references u.vars u.hands u.doing)) (sym walk.hands) (owns_on w.shape 1 left v v' t.hands (references t.vars t.hands (dying w s a e)) (references u.vars u.hands u.doing) called_left (λ k. refl) refl f.owns (λ g. let x = walk.same g in omega arith));
             no_claim = claims_on w.shape 1 left v v' called_left (λ m n. refl) f.no_claim;
             asks = walk.asks;
-            under_way = fresh_under w.shape v' u.doing walk.fresh (ap (λ (x : View). x.working) told.after ∙ (ap (λ (u : Place). working_stored (number (extent_of w.shape)) v.working u 0 intents.Vacate) (place_at-number (extent_of w.shape) (Count s) inside) ∙ is)) none_left;
+            under_way = fresh_under w.shape v' u.doing walk.fresh (ap (λ (x : View). x.working) told.after ∙ (ap (λ (u : Place). working_and (number (extent_of w.shape)) v.working u (but_bit_of s) intents.Vacate) (place_at-number (extent_of w.shape) (SlotBits (s / 64)) word_in) ∙ is)) none_left;
           }

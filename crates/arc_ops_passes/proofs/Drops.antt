@@ -1,5 +1,6 @@
 -- A stepper that gives up a reference.
-use Rattle.std.proofs.Common.{◌≡◌, ◌≢◌, inl, ℕ, ◌<◌, ◌==◌, ◌&&◌, ◌||◌, Bool, true, false, cond, [], ◌∷◌, ◌++◌, Option, Some, None, refl, sym, ap, ◌∙◌, subst, arith, eq-eqb, ne_eqb}
+use Rattle.std.specs.Prelude.{is_none}
+use Rattle.std.proofs.Common.{◌≡◌, ◌≢◌, inl, inr, ℕ, ◌<◌, ◌==◌, ◌&&◌, ◌||◌, Bool, true, false, cond, [], ◌∷◌, ◌++◌, Option, Some, None, refl, sym, ap, ◌∙◌, subst, arith, eq-eqb, ne_eqb}
 use mathlib.Core.Logic.{dite}
 use native.Mathlib.Decide.{ℕ_discrete}
 use Rattle.arc_bits.specs.declared.packing.Inline.{Inline}
@@ -40,7 +41,7 @@ use Rattle.arc_rule.specs.declared.plan.Next.TheVariants as nexts
 use Rattle.arc_plan.specs.declared.attempt.At.{At as AttemptAt}
 use Rattle.arc_plan.specs.declared.attempt.At.TheVariants as attempt
 use Rattle.arc_plan.specs.declared.attempt.Choice.{Choice}
-use Rattle.arc_plan.specs.declared.attempt.Choice.TheVariants.{Write}
+use Rattle.arc_plan.specs.declared.attempt.Choice.TheVariants.{Tell, Write}
 use Rattle.arc_plan.specs.declared.strong.StrongDownAnswer.{StrongDownAnswer}
 use Rattle.arc_plan.specs.declared.strong.StrongDownAnswer.TheVariants as downs
 use Rattle.arc_plan.specs.Attempts.{Attempt, IsCountWord, exchanging, chosen}
@@ -49,25 +50,26 @@ use Rattle.arc_ops.specs.declared.stepper.Held.{Held}
 use Rattle.arc_ops.specs.declared.stepper.Doing.{Doing}
 use Rattle.arc_ops.specs.declared.stepper.Doing.TheVariants as doings
 use Rattle.arc_ops.specs.declared.stepper.Move.TheVariants as moves
-use Rattle.arc_ops.specs.Thread.{Thread, turned_at, dropped_on, drop_begun, dies, next_op}
+use Rattle.arc_ops.specs.Thread.{Thread, takes_at, turned_at, dropped_on, drop_begun, dies, next_op}
 use Rattle.arc_spelled.specs.StepperStands.{Work}
 use Rattle.arc_spelled.specs.Spelled.{WordsHold}
 use Rattle.arc_view.specs.declared.view.Working.{Working}
 use Rattle.arc_view.specs.declared.view.View.{View}
 use Rattle.arc_view.specs.Holding.{heap_of}
-use Rattle.arc_view.specs.Kinds.{act_of, kind_at, is_last, is_last_in, loaded_act, working_loaded, hit_act, working_after}
+use Rattle.arc_view.specs.Kinds.{act_of, kind_at, is_last, is_last_in, when, loaded_act, working_loaded, hit_act, working_after}
 use Rattle.arc_view.specs.Built.{IsAllowed}
 use Rattle.arc_view.specs.Steps.{Told}
 use Rattle.arc_view.specs.Calls.{Called}
 use Rattle.arc_view_laws.proofs.Moving.{moved, legal_tail}
-use Rattle.arc_view_laws.proofs.StrongWords.{ShowsStrong, counts, slow}
+use Rattle.arc_view_laws.proofs.StrongWords.{ShowsStrong, counts, slow, forever}
 use Rattle.arc_ops_passes.specs.References.{in_vars, references, Leads, Owns}
 use Rattle.arc_ops_passes.specs.Drives.{AttemptAsks, MayGoDown, OwesOne}
 use Rattle.arc_ops_passes.specs.Laws.{IsServedWord}
 use Rattle.arc_ops_passes.proofs.Walks.{next_walks, drops_again}
 use Rattle.arc_ops_passes.proofs.Owned.{leads_on, owns_less, ref-itself}
-use Rattle.arc_ops_passes.proofs.Counts.{loads_strong}
-use Rattle.arc_ops_passes.proofs.Goes.{quiet, Facts, Comes, asked_is, told_by, fresh_under, owes_still, owes_on, claims_on, nothing_shown, count_no_name, stays}
+use Rattle.arc_ops_passes.proofs.Counts.{loads_strong, counted_there, counts_not_one}
+use Rattle.arc_view.proofs.Held.{strong≢weak}
+use Rattle.arc_ops_passes.proofs.Goes.{quiet, Facts, Comes, asked_is, told_by, fresh_under, owes_still, owes_on, claims_on, ReadsNoName, nothing_shown, stays}
 
 abbrev pub dropping : Work → Held → AttemptAt → Doing
 dropping w held a = doings.Dropping held (record { layout = extent_of w.shape; slot = held.place; at = a })
@@ -101,20 +103,71 @@ module _ (w : Work) (t : Thread) (v : View) (held : Held) (a : AttemptAt) (f : F
   no_access : v.working.access ≡ None
   no_access = ap (λ (x : Working). x.access) f.under_way.0.working
 
-  load_none : (found : ℕ) → act_of w.shape v (Load at) drop found ≡ None
-  load_none found = ap (λ (q : Place). loaded_act w.shape v q found drop) (place_at-number (extent_of w.shape) (Count held.place) below)
+  -- the word of an immortal object takes the reference away at once
+  load_act : (found : ℕ) → act_of w.shape v (Load at) drop found ≡ when (found == 1) (acts.Drop held.hand false)
+  load_act found = ap (λ (q : Place). loaded_act w.shape v q found drop) (place_at-number (extent_of w.shape) (Count held.place) below)
+      ∙ (λ j. when (is_none (no_access j) && (counted_there v held leads j && found == 1)) (acts.Drop held.hand false))
 
   load_same : (found : ℕ) → working_after w.shape v (Load at) drop found ≡ v.working
   load_same found = ap (λ (q : Place). working_loaded v.working q found drop) (place_at-number (extent_of w.shape) (Count held.place) below)
 
   pub load_allowed : IsAllowed w.shape v (Load at) drop
-  load_allowed = let r = leads in ((Count held.place, refl, below, free, inl (r.0, r.1, r.3, r.4, inl (held.hand, Strong, r.2))), inl (load_none, load_same))
+  load_allowed = let r = leads in ((Count held.place, refl, below, free, (r.0, r.1, r.3, r.4, inl (held.hand, Strong, r.2, strong≢weak)), tt), inr tt)
 
   pub swap_allowed : (seen new : ℕ) → a ≡ attempt.Exchanging seen new → IsAllowed w.shape v (Exchange at seen new) drop
   swap_allowed seen new is = let r = leads in (
     (Count held.place, refl, below, free, (Strong, r.0, r.1, r.2, no_access, r.3, ap (λ m. is_number m held.place) r.4 ∙ eq-eqb held.place held.place refl, subst (MayGoDown Strong held.place) is f.under_way.1)),
-    ap kind_at r.2,
+    λ weak. strong≢weak (sym (ap kind_at r.2) ∙ weak),
   )
+
+  -- ---- a step takes the reference away
+  module _ (step : Step) (found : ℕ) (v' : View) (told : Told w.shape drop step v found v') where
+    abbrev met : History
+    met = told.between ++ v.seen
+
+    module _ (last : Bool) (act : act_of w.shape v step drop found ≡ Some (acts.Drop held.hand last)) where
+      abbrev lost : Act
+      lost = acts.Drop held.hand last
+
+      called : Called w.shape (lost ∷ []) 1 v v'
+      called = told_by w.shape drop step v found v' (Some lost) act told
+
+      m : Moves (Some lost) v v'
+      m = moved w.shape lost 1 v v' called
+
+      spots : (k : ℕ) → k ≢ held.hand → spot (Hand v'.number k) (heap_of v') ≡ spot (Hand v.number k) (heap_of v)
+      spots k ne = m.hands k ∙ ap (λ b. cond b None (spot (Hand v.number k) (heap_of v))) (ne_eqb held.hand k (λ e. ne (sym e)))
+
+      gone : spot (Hand v'.number held.hand) (heap_of v') ≡ None
+      gone = m.hands held.hand ∙ ap (λ b. cond b None (spot (Hand v.number held.hand) (heap_of v))) (eq-eqb held.hand held.hand refl)
+
+      owns_then : (M : (Held → ℕ) → ℕ) → ((g : Held → ℕ) → M g ≡ in_vars t.vars g) → Owns v' t.hands M
+      owns_then M same = owns_less v v' t.hands t.vars (references t.vars t.hands (dropping w held a)) M held f.owns (λ g. refl) same
+          (λ x ne. leads_on w.shape (lost ∷ []) 1 v v' x called (ne_eqb held.hand x.hand (λ e. ne (sym e)), tt)) gone spots
+
+      -- where the hand stood when the event came
+      stood : spot (Hand v.number held.hand) (heap_after m.met) ≡ Some (record { place = leads.0; kind = Strong })
+      stood = m.had.hands held.hand ∙ leads.2
+
+      holds_then : ReadsNoName (extent_of w.shape) step drop → WordsHold Judged w.shape (extent_of w.shape) (Some (step, drop)) (Some found) w.thread (Some lost) met
+      holds_then reads = nothing_shown w.shape (extent_of w.shape) step drop found w.thread (Some lost) met reads tt
+
+    gives_up : (d : Doing) → takes_at (Some found) d → ReadsNoName (extent_of w.shape) step drop → v'.working ≡ v.working → act_of w.shape v step drop found ≡ Some (acts.Drop held.hand false)
+        → Comes w v step drop found v' met d (next_op (record (quiet t) { event = Some (acts.Drop held.hand false) }))
+    gives_up d takes reads works act =
+        let q : Thread = record (quiet t) { event = Some (acts.Drop held.hand false) } in
+        let u : Thread = next_op q in
+        let walk = next_walks w.shape q f.is_for f.stepper.vars_fit in
+        let c = called false act in record {
+          takes_it = takes;
+          event = act ∙ sym walk.event;
+          holds = subst (λ e. WordsHold Judged w.shape (extent_of w.shape) (Some (step, drop)) (Some found) w.thread e met) (sym walk.event) (holds_then false act reads);
+          count = walk.count ∙ f.count;
+          owns = subst (λ n. Owns v' n (references u.vars u.hands u.doing)) (sym walk.hands) (owns_then false act (references u.vars u.hands u.doing) walk.same);
+          no_claim = claims_on w.shape 1 (acts.Drop held.hand false) v v' c (λ m e. refl) f.no_claim;
+          asks = walk.asks;
+          under_way = fresh_under w.shape v' u.doing walk.fresh (works ∙ f.under_way.0.working) (owes_on w.shape 1 (acts.Drop held.hand false) v v' c (λ i h. refl) f.under_way.0.none);
+        }
 
   -- ---- it loads the count
   module _ (found : ℕ) (v' : View) (told : Told w.shape drop (Load at) v found v') where
@@ -122,19 +175,25 @@ module _ (w : Work) (t : Thread) (v : View) (held : Held) (a : AttemptAt) (f : F
     Loaded r = Comes w v (Load at) drop found v' (told.between ++ v.seen) (dropping w held attempt.Loading) (dropped_on held (record { layout = extent_of w.shape; slot = held.place; at = exchanging found r }) (chosen at found r) (quiet t))
 
     pub load_comes : a ≡ attempt.Loading → IsInline (unpacked found) → Loaded (strong_down_row (unpacked found))
-    load_comes is served = let s = loads_strong w.shape drop v found v' held f.sized below told (load_none found) leads in by s.0 s.1
+    load_comes is served = let s = loads_strong w.shape drop v found v' held f.sized below told leads in by s.0 s.1
       where
         by : (o : Object) → ShowsStrong w.shape o found → Loaded (strong_down_row (unpacked found))
         by o (slow e is entry lt) = absurd (subst IsInline is served)
+        by o (forever one some immortal) =
+            let act : act_of w.shape v (Load at) drop found ≡ Some (acts.Drop held.hand false) = load_act found ∙ ap (λ b. when b (acts.Drop held.hand false)) (eq-eqb found 1 one) in
+            let word_fits : IsCountWord w.shape.entries (λ c. c.deiniting ≡ false) (unpacked found) = subst (IsCountWord w.shape.entries (λ c. c.deiniting ≡ false)) (sym some) tt in
+            let done : Loaded (Tell downs.More) = gives_up (Load at) found v' told (dropping w held attempt.Loading) (word_fits, served) tt (ap (λ (x : View). x.working) told.after ∙ load_same found) act in
+            subst Loaded (sym (ap strong_down_row some)) done
         by o (counts c some word lives most unowned none) =
             let row : strong_down_row (unpacked found) ≡ Write (counts_word (strong_less c)) = ap strong_down_row some in
             let fact : Facts w t v (dropping w held attempt.Loading) = subst (λ b. Facts w t v (dropping w held b)) is f in
-            let called = told_by w.shape drop (Load at) v found v' None (load_none found) told in
+            let act : act_of w.shape v (Load at) drop found ≡ None = load_act found ∙ ap (λ b. when b (acts.Drop held.hand false)) (ne_eqb found 1 (counts_not_one found c some)) in
+            let called = told_by w.shape drop (Load at) v found v' None act told in
             let u : Thread = record (quiet t) { doing = dropping w held (attempt.Exchanging found (counts_word (strong_less c))); asked = moves.Step (Exchange at found (counts_word (strong_less c))) drop } in
             let word_fits : IsCountWord w.shape.entries (λ c. c.deiniting ≡ false) (unpacked found) = subst (IsCountWord w.shape.entries (λ c. c.deiniting ≡ false)) (sym some) (unowned, lives) in
             let done : Loaded (Write (counts_word (strong_less c))) =
             stays w t v (Load at) drop found v' (dropping w held attempt.Loading) u told fact
-            (word_fits, served) (load_none found) refl (count_no_name (extent_of w.shape) held.place) refl refl (λ g. refl) (refl, refl)
+            (word_fits, served) act refl tt refl refl (λ g. refl) (refl, refl)
             (record { working = ap (λ (x : View). x.working) told.after ∙ (load_same found ∙ f.under_way.0.working); none = owes_still w.shape 1 v v' called f.under_way.0.none }, (c, word, lives, refl)) in
             subst Loaded (sym row) done
 
@@ -168,57 +227,13 @@ module _ (w : Work) (t : Thread) (v : View) (held : Held) (a : AttemptAt) (f : F
         stays w t v (Exchange at seen new) drop found v' d (drop_begun held (quiet t)) told fact ((λ e. cc), tt) act m.event tt m.hands m.count m.same m.asks
         (fresh_under w.shape v' (drop_begun held (quiet t)).doing m.fresh (swap_works ∙ f.under_way.0.working) (owes_still w.shape 1 v v' called f.under_way.0.none))
 
-    -- the reference goes
-    module _ (last : Bool) (act : act_of w.shape v (Exchange at seen new) drop found ≡ Some (acts.Drop held.hand last)) where
-      abbrev lost : Act
-      lost = acts.Drop held.hand last
-
-      called : Called w.shape (lost ∷ []) 1 v v'
-      called = told_by w.shape drop (Exchange at seen new) v found v' (Some lost) act told
-
-      m : Moves (Some lost) v v'
-      m = moved w.shape lost 1 v v' called
-
-      spots : (k : ℕ) → k ≢ held.hand → spot (Hand v'.number k) (heap_of v') ≡ spot (Hand v.number k) (heap_of v)
-      spots k ne = m.hands k ∙ ap (λ b. cond b None (spot (Hand v.number k) (heap_of v))) (ne_eqb held.hand k (λ e. ne (sym e)))
-
-      gone : spot (Hand v'.number held.hand) (heap_of v') ≡ None
-      gone = m.hands held.hand ∙ ap (λ b. cond b None (spot (Hand v.number held.hand) (heap_of v))) (eq-eqb held.hand held.hand refl)
-
-      owns_then : (M : (Held → ℕ) → ℕ) → ((g : Held → ℕ) → M g ≡ in_vars t.vars g) → Owns v' t.hands M
-      owns_then M same = owns_less v v' t.hands t.vars (references t.vars t.hands (dropping w held a)) M held f.owns (λ g. refl) same
-          (λ x ne. leads_on w.shape (lost ∷ []) 1 v v' x called (ne_eqb held.hand x.hand (λ e. ne (sym e)), tt)) gone spots
-
-      -- where the hand stood when the event came
-      stood : spot (Hand v.number held.hand) (heap_after m.met) ≡ Some (record { place = leads.0; kind = Strong })
-      stood = m.had.hands held.hand ∙ leads.2
-
-      holds_then : WordsHold Judged w.shape (extent_of w.shape) (Some (Exchange at seen new)) (Some found) w.thread (Some lost) h
-      holds_then = nothing_shown w.shape (extent_of w.shape) (Exchange at seen new) found w.thread (Some lost) h tt tt
-
-    more : act_of w.shape v (Exchange at seen new) drop found ≡ Some (acts.Drop held.hand false) → Swapped downs.More
-    more act =
-        let q : Thread = record (quiet t) { event = Some (acts.Drop held.hand false) } in
-        let u : Thread = next_op q in
-        let walk = next_walks w.shape q f.is_for f.stepper.vars_fit in
-        let c = called false act in record {
-          takes_it = ((λ e. cc), tt);
-          event = act ∙ sym walk.event;
-          holds = subst (λ e. WordsHold Judged w.shape (extent_of w.shape) (Some (Exchange at seen new)) (Some found) w.thread e h) (sym walk.event) (holds_then false act);
-          count = walk.count ∙ f.count;
-          owns = subst (λ n. Owns v' n (references u.vars u.hands u.doing)) (sym walk.hands) (owns_then false act (references u.vars u.hands u.doing) walk.same);
-          no_claim = claims_on w.shape 1 (acts.Drop held.hand false) v v' c (λ m e. refl) f.no_claim;
-          asks = walk.asks;
-          under_way = fresh_under w.shape v' u.doing walk.fresh (swap_works ∙ f.under_way.0.working) (owes_on w.shape 1 (acts.Drop held.hand false) v v' c (λ i h. refl) f.under_way.0.none);
-        }
-
     last_one : act_of w.shape v (Exchange at seen new) drop found ≡ Some (acts.Drop held.hand true) → Swapped downs.Last
     last_one act = record {
       takes_it = ((λ e. cc), tt);
       event = act;
-      holds = holds_then true act;
+      holds = holds_then (Exchange at seen new) found v' told true act tt;
       count = f.count;
-      owns = owns_then true act (references t.vars t.hands (dies held.place (quiet t)).doing) (λ g. omega arith);
+      owns = owns_then (Exchange at seen new) found v' told true act (references t.vars t.hands (dies held.place (quiet t)).doing) (λ g. omega arith);
       no_claim = claims_on w.shape 1 (acts.Drop held.hand true) v v' c no_entry f.no_claim;
       asks = (
         (λ j. record { layout = f.is_for.0 j; shape = f.is_for.1 j; slot = held.place; at = ats.Entering; event = None }),
@@ -228,10 +243,10 @@ module _ (w : Work) (t : Thread) (v : View) (held : Held) (a : AttemptAt) (f : F
     }
       where
         c : Called w.shape (acts.Drop held.hand true ∷ []) 1 v v'
-        c = called true act
+        c = called (Exchange at seen new) found v' told true act
 
         mv : Moves (Some (acts.Drop held.hand true)) v v'
-        mv = m true act
+        mv = m (Exchange at seen new) found v' told true act
 
         -- a strong reference is no weak holder
         no_entry : (n : Moves (Some (acts.Drop held.hand true)) v v') (e : ℕ) → (passes (λ o. same_kind (kind_in (Hand v.number held.hand) o) Weak && has_entry e o) (held_by (Hand v.number held.hand) (heap_after n.met)) || is_claimed_by v.number e (heap_after n.met)) ≡ is_claimed_by v.number e (heap_after n.met)
@@ -244,7 +259,7 @@ module _ (w : Work) (t : Thread) (v : View) (held : Held) (a : AttemptAt) (f : F
 
         -- what is owed then
         duties : (j : ℕ) → duty_of v'.number j (heap_of v') ≡ cond (is_spot j Strong (Some (record { place = leads.0; kind = Strong }))) (Some Deinit) (cond (is_spot j Unowned (Some (record { place = leads.0; kind = Strong }))) (Some Vacating) (duty_of v.number j (heap_of v)))
-        duties j = mv.duties j ∙ (λ i. cond (is_spot j Strong (stood true act i)) (Some Deinit) (cond (is_spot j Unowned (stood true act i)) (Some Vacating) (mv.had.duties j i)))
+        duties j = mv.duties j ∙ (λ i. cond (is_spot j Strong (stood (Exchange at seen new) found v' told true act i)) (Some Deinit) (cond (is_spot j Unowned (stood (Exchange at seen new) found v' told true act i)) (Some Vacating) (mv.had.duties j i)))
 
         others : (j : ℕ) → j ≢ leads.0 → duty_of v'.number j (heap_of v') ≡ None
         others j ne =
@@ -276,7 +291,7 @@ module _ (w : Work) (t : Thread) (v : View) (held : Held) (a : AttemptAt) (f : F
       where
         go : (c : Inline) (b : Bool) → act_of w.shape v (Exchange at seen new) drop found ≡ Some (acts.Drop held.hand b) → Swapped (cond b downs.Last downs.More)
         go c true act = last_one act
-        go c false act = more act
+        go c false act = gives_up (Exchange at seen new) found v' told d ((λ e. cc), tt) tt swap_works act
 
     abbrev answer : Bool → StrongDownAnswer
     answer b = cond b (strong_down_end (unpacked seen)) (downs.Again (record { seen = seen; found = found }))

@@ -17,10 +17,12 @@ use Rattle.arc_model.specs.SpellingTies.Ties.{start, own, other, noted}
 use Rattle.arc_model.proofs.SpellTies.{hands_are, ties_others}
 use Rattle.arc_rule.specs.Extents.{Extent}
 use Rattle.arc_rule.specs.Places.{extent_of, number}
-use Rattle.arc_rule.specs.declared.layout.Place.TheVariants.{Count, Isa, Next}
+use Rattle.arc_rule.specs.declared.layout.Place.TheVariants.{Count, Isa, Next, SlotBits}
 use Rattle.arc_rule.specs.declared.step.Step.{Step}
 use Rattle.arc_rule.specs.declared.step.Step.TheVariants as steps
 use Rattle.arc_rule.specs.declared.step.Intent.{Intent}
+use Rattle.arc_rule.specs.declared.step.Intent.TheVariants as intents
+use Rattle.arc_model.proofs.Basics.{Some-inj}
 use Rattle.arc_plan.specs.declared.slots.Making.{Making as Search}
 use Rattle.arc_plan.specs.declared.slots.Making.TheVariants as search
 use Rattle.arc_programs.specs.Programs.{made_of, makes}
@@ -83,7 +85,7 @@ pub record Facts (w : Work) (t : Thread) (v : View) (d : Doing) : Type 0 where
 pub record Comes (w : Work) (v : View) (step : Step) (intent : Intent) (found : ℕ) (v' : View) (h : History) (d : Doing) (u : Thread) : Type 0 where
   pub takes_it : takes_at (Some found) d
   pub event : act_of w.shape v step intent found ≡ u.event
-  pub holds : WordsHold Judged w.shape (extent_of w.shape) (Some step) (Some found) w.thread u.event h
+  pub holds : WordsHold Judged w.shape (extent_of w.shape) (Some (step, intent)) (Some found) w.thread u.event h
   pub count : length u.vars ≡ w.count
   pub owns : Owns v' u.hands (references u.vars u.hands u.doing)
   pub no_claim : (e : ℕ) → HasClaim v' e → ⊥
@@ -178,8 +180,8 @@ goes_on w t v step intent found v' served d asked told c =
     let g = stepper_goes_on w served t (Some found) d.notes d.stands c.takes_it in
     let others : share told.between w.thread ≡ [] = ap (share told.between) (sym d.number) ∙ told.others in
     let before : Ties Judged w.shape w.thread d.notes h = ties_others Judged w.shape w.thread d.notes v.seen told.between others d.tied in
-    let adds : Adds (extent_of w.shape) (Some step) (Some found) u.event d.notes g.after = subst (λ (m : Move). Adds (extent_of w.shape) (step_in m) (Some found) u.event d.notes g.after) asked g.adds in
-    let tied : Ties Judged w.shape w.thread g.after (with_event_of w.thread u.event h) = added_notes_are_tied Judged w.shape (extent_of w.shape) (Some step) (Some found) w.thread u.event h d.notes g.after adds c.holds before in
+    let adds : Adds (extent_of w.shape) (Some (step, intent)) (Some found) u.event d.notes g.after = subst (λ (m : Move). Adds (extent_of w.shape) (step_in m) (Some found) u.event d.notes g.after) asked g.adds in
+    let tied : Ties Judged w.shape w.thread g.after (with_event_of w.thread u.event h) = added_notes_are_tied Judged w.shape (extent_of w.shape) (Some (step, intent)) (Some found) w.thread u.event h d.notes g.after adds c.holds before in
     let seen : v'.seen ≡ with_event_of w.thread u.event h =
     ap (λ (x : View). x.seen) told.after ∙ ((λ j. event_list (d.number j) (c.event j) ++ h) ∙ sym (event_is w.thread u.event h)) in record {
       takes_it = c.takes_it;
@@ -214,11 +216,13 @@ told_by shape intent st v found w a is t = subst (λ b. Called shape (acts_of b)
 -- an operation has just begun
 pub fresh_under : (shape : HeapShape) (v : View) (d : Doing) → IsFresh d → v.working ≡ idle → OwesNothing v → UnderWay shape v d
 fresh_under shape v doings.Ready fresh works none = record { working = works; none = none }
-fresh_under shape v (doings.Making to name slot plan) fresh works none = at plan.at fresh
+fresh_under shape v (doings.Making to name plan) fresh works none = at plan.at fresh
   where
     at : (a : Search) → IsFreshSearch a → (v.working ≡ search_works a) × OwesNothing v × Searched shape v name a
     at search.Start f = absurd f
-    at (search.Trying s) f = (works, none, subst (λ n. searched (λ k. number (extent_of shape) (Count k)) 2 (made_in v.number v.seen) n v.trail ≡ true) (sym f) refl)
+    at (search.Looking k) f = (works, none, subst (λ n. searched (λ j. number (extent_of shape) (SlotBits j)) shape.slots (made_in v.number v.seen) n v.trail ≡ true) (sym f) refl)
+    at (search.Taking s seen) f = absurd f
+    at (search.Counting s) f = absurd f
     at (search.Naming s) f = absurd f
     at search.Ended f = absurd f
 fresh_under shape v (doings.Copying to held plan) fresh works none = (record { working = works; none = none }, subst (MayGoUp shape held.place) (sym fresh) tt)
@@ -252,45 +256,38 @@ owns_on shape k a v w n L M c ends brings o same =
 
 -- ---- what a word shows of the heap
 
--- the step reads no name
-abbrev pub ReadsNoName : Extent → Step → Type 0
-ReadsNoName l (steps.Load place) = (s : ℕ) → place ≡ number l (Isa s) → ⊥
-ReadsNoName l _ = Unit {0}
+-- the step is no deinit's load of a name
+abbrev pub ReadsNoName : Extent → Step → Intent → Type 0
+ReadsNoName l (steps.Load place) (intents.Deinit slot) = (s : ℕ) → place ≡ number l (Isa s) → ⊥
+ReadsNoName l _ _ = Unit {0}
 
 abbrev pub EndsNoDeinit : Option Act → Type 0
 EndsNoDeinit (Some (acts.Finish s last)) = ⊥
 EndsNoDeinit _ = Unit {0}
 
-load_inj : (a b : ℕ) → Some (steps.Load a) ≡ Some (steps.Load b) → a ≡ b
-load_inj a b e = cc
-
-pub nothing_shown : (shape : HeapShape) (l : Extent) (asked : Step) (last p : ℕ) (event : Option Act) (h : History) → ReadsNoName l asked → EndsNoDeinit event → WordsHold Judged shape l (Some asked) (Some last) p event h
-nothing_shown shape l asked last p event h no_name no_end = record {
-  names = λ slot w a is. absurd (name asked no_name slot a);
+pub nothing_shown : (shape : HeapShape) (l : Extent) (asked : Step) (intent : Intent) (last p : ℕ) (event : Option Act) (h : History) → ReadsNoName l asked intent → EndsNoDeinit event
+    → WordsHold Judged shape l (Some (asked, intent)) (Some last) p event h
+nothing_shown shape l asked intent last p event h no_name no_end = record {
+  names = λ slot w a is. absurd (subst (λ (x : Step × Intent). ReadsNoName l x.0 x.1) (Some-inj a) no_name slot refl);
   entries = λ slot w new c e a is counts. absurd (subst EndsNoDeinit e no_end);
 }
-  where
-    name : (asked : Step) → ReadsNoName l asked → (slot : ℕ) → Some asked ≡ Some (steps.Load (number l (Isa slot))) → ⊥
-    name (steps.Load place) reads slot e = reads slot (load_inj place (number l (Isa slot)) e)
-    name (steps.Exchange place old new) reads slot e = cc
-    name (steps.Store place new) reads slot e = cc
 
-pub count_no_name : (l : Extent) (s : ℕ) → ReadsNoName l (steps.Load (number l (Count s)))
-count_no_name l s x e = omega arith
+pub count_no_name : (l : Extent) (s i : ℕ) → ReadsNoName l (steps.Load (number l (Count s))) (intents.Deinit i)
+count_no_name l s i x e = omega arith
 
-pub next_no_name : (l : Extent) (s : ℕ) → ReadsNoName l (steps.Load (number l (Next s)))
-next_no_name l s x e = omega arith
+pub next_no_name : (l : Extent) (s i : ℕ) → ReadsNoName l (steps.Load (number l (Next s))) (intents.Deinit i)
+next_no_name l s i x e = omega arith
 
 -- ---- a step of no event after which the stepper goes on to this
 
 pub stays : (w : Work) (t : Thread) (v : View) (step : Step) (intent : Intent) (found : ℕ) (v' : View) (d : Doing) (u : Thread) (told : Told w.shape intent step v found v') → Facts w t v d → takes_at (Some found) d → act_of w.shape v step intent found ≡ None → u.event ≡ None
-    → ReadsNoName (extent_of w.shape) step → u.hands ≡ t.hands → length u.vars ≡ length t.vars → ((f : Held → ℕ) → references u.vars u.hands u.doing f ≡ references t.vars t.hands d f) → Asks w.shape u u.doing → UnderWay w.shape v' u.doing
+    → ReadsNoName (extent_of w.shape) step intent → u.hands ≡ t.hands → length u.vars ≡ length t.vars → ((f : Held → ℕ) → references u.vars u.hands u.doing f ≡ references t.vars t.hands d f) → Asks w.shape u u.doing → UnderWay w.shape v' u.doing
     → Comes w v step intent found v' (told.between ++ v.seen) d u
 stays w t v step intent found v' d u told f takes act event no_name hands count same asks under =
     let c = told_by w.shape intent step v found v' None act told in record {
       takes_it = takes;
       event = act ∙ sym event;
-      holds = nothing_shown w.shape (extent_of w.shape) step found w.thread u.event (told.between ++ v.seen) no_name (subst EndsNoDeinit (sym event) tt);
+      holds = nothing_shown w.shape (extent_of w.shape) step intent found w.thread u.event (told.between ++ v.seen) no_name (subst EndsNoDeinit (sym event) tt);
       count = count ∙ f.count;
       owns = subst (λ n. Owns v' n (references u.vars u.hands u.doing)) (sym hands) (owns_still w.shape 1 v v' t.hands (references t.vars t.hands d) (references u.vars u.hands u.doing) c f.owns same);
       no_claim = claims_still w.shape 1 v v' c f.no_claim;

@@ -1,5 +1,5 @@
 -- The laws of a stepper that drives a pass.
-use Rattle.std.proofs.Common.{◌≡◌, ℕ, zero, suc, List, [], ◌++◌, length, replicate, Option, Some, None, refl, sym, ap, ◌∙◌, subst, arith}
+use Rattle.std.proofs.Common.{◌≡◌, ℕ, zero, suc, ◌/◌, List, [], ◌++◌, length, replicate, Option, Some, None, refl, sym, ap, ◌∙◌, subst, arith}
 use Rattle.std.proofs.lemmas.List.{append-nil, length-replicate}
 use Rattle.std.specs.Prelude.{All}
 use Rattle.std.proofs.lemmas.List.Sums.{sum_by-cons}
@@ -18,9 +18,10 @@ use Rattle.arc_model.proofs.Basics.{None≢Some, true≢false}
 use Rattle.arc_model.proofs.Others.{others_leave, false-if}
 use Rattle.arc_model.proofs.SpellTies.{ties_others}
 use Rattle.arc_rule.specs.Places.{extent_of, number}
-use Rattle.arc_rule.specs.declared.layout.Place.TheVariants.{Count, Isa, Next}
+use Rattle.arc_model.specs.Shapes.{class_at}
+use Rattle.arc_rule.specs.declared.layout.Place.TheVariants.{Count, Isa, Next, SlotBits}
 use Rattle.arc_rule.specs.declared.step.Step.{Step}
-use Rattle.arc_rule.specs.declared.step.Step.TheVariants.{Load, Exchange, Store}
+use Rattle.arc_rule.specs.declared.step.Step.TheVariants.{Load, Exchange, Store, And}
 use Rattle.arc_rule.specs.declared.step.Intent.{Intent}
 use Rattle.arc_rule.specs.declared.step.Intent.TheVariants as intents
 use Rattle.arc_plan.specs.declared.attempt.At.{At as AttemptAt}
@@ -30,7 +31,8 @@ use Rattle.arc_plan.specs.declared.slots.Making.TheVariants as search
 use Rattle.arc_plan.specs.declared.slots.Once.{Once}
 use Rattle.arc_plan.specs.declared.slots.Once.TheVariants as once
 use Rattle.arc_plan.specs.Attempts.{Attempt}
-use Rattle.arc_plan.specs.Slots.{OneStep, trial, naming}
+use Rattle.arc_plan.specs.Slots.{OneStep, looking, taking, counting, naming}
+use Rattle.arc_rule.specs.Bits.{but_bit_of}
 use Rattle.arc_cells.specs.declared.cascade.At.{At as CascadeAt}
 use Rattle.arc_cells.specs.declared.cascade.At.TheVariants as ats
 use Rattle.arc_cells.specs.Cascades.{CascadeState}
@@ -88,7 +90,7 @@ dies_allowed w t v c step intent f asked = at c.at (subst (λ (d : CascadeState)
 
     vacating : (n : Once) → Facts w t v (dying w c.slot (ats.Vacating (record { layout = extent_of w.shape; slot = c.slot; at = n })) c.event) → IsAllowed w.shape v step intent
     vacating once.Start g = absurd g.asks.1.1
-    vacating once.Asked g = may w v t.asked step (Store (number (extent_of w.shape) (Count c.slot)) 0) intent intents.Vacate g.asks.1.1 asked (dies.vacate_allowed w t v c.slot (ats.Vacating (record { layout = extent_of w.shape; slot = c.slot; at = once.Asked })) c.event g g.under_way.duty g.under_way.working)
+    vacating once.Asked g = may w v t.asked step (And (number (extent_of w.shape) (SlotBits (c.slot / 64))) (but_bit_of c.slot)) intent intents.Vacate g.asks.1.1 asked (dies.vacate_allowed w t v c.slot (ats.Vacating (record { layout = extent_of w.shape; slot = c.slot; at = once.Asked })) c.event g g.under_way.duty g.under_way.working)
     vacating once.Ended g = absurd g.asks.1.1
 
     at : (a : CascadeAt) → Facts w t v (dying w c.slot a c.event) → IsAllowed w.shape v step intent
@@ -127,7 +129,7 @@ dies_come w t v c step intent found v' f asked =
     vacating : (n : Once) → Facts w t v (dying w c.slot (ats.Vacating (record { layout = extent_of w.shape; slot = c.slot; at = n })) c.event) → Case (ats.Vacating (record { layout = extent_of w.shape; slot = c.slot; at = n }))
     vacating once.Start g = absurd g.asks.1.1
     vacating once.Asked g = let a = ats.Vacating (record { layout = extent_of w.shape; slot = c.slot; at = once.Asked }) in
-        come w t v found v' c.slot c.event a step (Store (number (extent_of w.shape) (Count c.slot)) 0) intent intents.Vacate g.asks.1.1 asked (λ served told. dies.vacates w t v c.slot a c.event g g.under_way.duty g.under_way.working found v' told refl)
+        come w t v found v' c.slot c.event a step (And (number (extent_of w.shape) (SlotBits (c.slot / 64))) (but_bit_of c.slot)) intent intents.Vacate g.asks.1.1 asked (λ served told. dies.vacates w t v c.slot a c.event g g.under_way.duty g.under_way.working found v' told refl)
     vacating once.Ended g = absurd g.asks.1.1
 
     at : (a : CascadeAt) → Facts w t v (dying w c.slot a c.event) → Case a
@@ -153,7 +155,7 @@ steps_are_allowed w t v step intent served stepper sized d asked = at t.doing (f
   where
     at : (e : Doing) → Facts w t v e → IsAllowed w.shape v step intent
     at doings.Ready f = no_step t.asked step intent f.asks asked
-    at (doings.Making to name slot plan) f = makes_allowed w t v to name slot plan step intent f asked
+    at (doings.Making to name plan) f = makes_allowed w t v to name plan step intent f asked
     at (doings.Copying to held plan) f = copies_allowed w t v to held plan step intent f asked
     at (doings.Dropping held plan) f = drops_allowed w t v held plan step intent f asked
     at (doings.Dying c) f = dies_allowed w t v c step intent f asked
@@ -165,7 +167,7 @@ steppers_drive_on w t v step intent found v' served stepper sized d asked told w
   where
     at : (e : Doing) → Facts w t v e → IsServedWord w.shape step intent found → Comes w v step intent found v' (told.between ++ v.seen) e (turned_at (Some found) e (quiet t))
     at doings.Ready f word = no_step t.asked step intent f.asks asked
-    at (doings.Making to name slot plan) f word = makes_come w t v to name slot plan step intent found v' f asked told
+    at (doings.Making to name plan) f word = makes_come w t v to name plan step intent found v' f asked told
     at (doings.Copying to held plan) f word = copies_come w t v to held plan step intent found v' f asked word told
     at (doings.Dropping held plan) f word = drops_come w t v held plan step intent found v' f asked word told
     at (doings.Dying c) f word = dies_come w t v c step intent found v' f asked word told
@@ -233,15 +235,17 @@ phases_begin w t v served fits d asked = at t.doing d.asks d.owns d.under_way (�
     trying e s intent (attempt.Exchanging seen new) x = step_not e asked (Exchange (number (extent_of w.shape) (Count s)) seen new) intent x
     trying e s intent attempt.Ended x = absurd x
 
-    searching : (e : Doing) (name : ObjectName) (slot : ℕ) (a : Search) → SearchAsks w.shape t.asked name slot a → Begins e
-    searching e name slot search.Start x = absurd x
-    searching e name slot (search.Trying s) x = step_not e asked (trial (extent_of w.shape) s) (intents.New name.class) x.1
-    searching e name slot (search.Naming s) x = step_not e asked (naming (extent_of w.shape) name s) (intents.New name.class) x.1
-    searching e name slot search.Ended x = absurd x
+    searching : (e : Doing) (name : ObjectName) (a : Search) → SearchAsks w.shape t.asked name a → Begins e
+    searching e name search.Start x = absurd x
+    searching e name (search.Looking k) x = step_not e asked (looking (extent_of w.shape) k) (intents.New name.class) x
+    searching e name (search.Taking s seen) x = step_not e asked (taking (extent_of w.shape) s) (intents.New name.class) x
+    searching e name (search.Counting s) x = step_not e asked (counting (extent_of w.shape) (class_at w.shape name.class).immortal s) (intents.New name.class) x
+    searching e name (search.Naming s) x = step_not e asked (naming (extent_of w.shape) name s) (intents.New name.class) x
+    searching e name search.Ended x = absurd x
 
     clearing : (e : Doing) (s : ℕ) (n : Once) → VacateAsks w.shape t.asked s n → Begins e
     clearing e s once.Start x = absurd x
-    clearing e s once.Asked x = step_not e asked (Store (number (extent_of w.shape) (Count s)) 0) intents.Vacate x
+    clearing e s once.Asked x = step_not e asked (And (number (extent_of w.shape) (SlotBits (s / 64))) (but_bit_of s)) intents.Vacate x
     clearing e s once.Ended x = absurd x
 
     cascading : (e : Doing) (s : ℕ) (a : CascadeAt) → CascadeAsks w.shape t.asked s a → Begins e
@@ -284,7 +288,7 @@ phases_begin w t v served fits d asked = at t.doing d.asks d.owns d.under_way (�
           },
           walk.event,
         )
-    at (doings.Making to name slot plan) asks owns under went = searching (doings.Making to name slot plan) name slot plan.at asks.1
+    at (doings.Making to name plan) asks owns under went = searching (doings.Making to name plan) name plan.at asks.1
     at (doings.Copying to held plan) asks owns under went = trying (doings.Copying to held plan) held.place (intents.Copy (origins.Hand held.hand)) plan.at asks.1
     at (doings.Dropping held plan) asks owns under went = trying (doings.Dropping held plan) held.place (intents.Drop held.hand) plan.at asks.1
     at (doings.Dying c) asks owns under went = cascading (doings.Dying c) c.slot c.at asks.1
@@ -296,11 +300,13 @@ not_ended m step intent e asked = absurd (cc)
 pub ended_steppers_hold_nothing : EndedSteppersHoldNothing
 ended_steppers_hold_nothing w t v d ended = at t.doing d.asks d.owns d.under_way
   where
-    searching : (name : ObjectName) (slot : ℕ) (a : Search) → SearchAsks w.shape t.asked name slot a → ⊥
-    searching name slot search.Start x = x
-    searching name slot (search.Trying s) x = not_ended t.asked (trial (extent_of w.shape) s) (intents.New name.class) ended x.1
-    searching name slot (search.Naming s) x = not_ended t.asked (naming (extent_of w.shape) name s) (intents.New name.class) ended x.1
-    searching name slot search.Ended x = x
+    searching : (name : ObjectName) (a : Search) → SearchAsks w.shape t.asked name a → ⊥
+    searching name search.Start x = x
+    searching name (search.Looking k) x = not_ended t.asked (looking (extent_of w.shape) k) (intents.New name.class) ended x
+    searching name (search.Taking s seen) x = not_ended t.asked (taking (extent_of w.shape) s) (intents.New name.class) ended x
+    searching name (search.Counting s) x = not_ended t.asked (counting (extent_of w.shape) (class_at w.shape name.class).immortal s) (intents.New name.class) ended x
+    searching name (search.Naming s) x = not_ended t.asked (naming (extent_of w.shape) name s) (intents.New name.class) ended x
+    searching name search.Ended x = x
 
     trying : (s : ℕ) (intent : Intent) (a : AttemptAt) → AttemptAsks w.shape t.asked s intent a → ⊥
     trying s intent attempt.Start x = x
@@ -310,7 +316,7 @@ ended_steppers_hold_nothing w t v d ended = at t.doing d.asks d.owns d.under_way
 
     once_at : (s : ℕ) (n : Once) → VacateAsks w.shape t.asked s n → ⊥
     once_at s once.Start x = x
-    once_at s once.Asked x = not_ended t.asked (Store (number (extent_of w.shape) (Count s)) 0) intents.Vacate ended x
+    once_at s once.Asked x = not_ended t.asked (And (number (extent_of w.shape) (SlotBits (s / 64))) (but_bit_of s)) intents.Vacate ended x
     once_at s once.Ended x = x
 
     cascading : (s : ℕ) (a : CascadeAt) → CascadeAsks w.shape t.asked s a → ⊥
@@ -328,7 +334,7 @@ ended_steppers_hold_nothing w t v d ended = at t.doing d.asks d.owns d.under_way
 
     at : (e : Doing) → Asks w.shape t e → Owns v t.hands (references t.vars t.hands e) → UnderWay w.shape v e → HoldsNothing v
     at doings.Ready asks owns under = absurd (phase asks)
-    at (doings.Making to name slot plan) asks owns under = absurd (searching name slot plan.at asks.1)
+    at (doings.Making to name plan) asks owns under = absurd (searching name plan.at asks.1)
     at (doings.Copying to held plan) asks owns under = absurd (trying held.place (intents.Copy (origins.Hand held.hand)) plan.at asks.1)
     at (doings.Dropping held plan) asks owns under = absurd (trying held.place (intents.Drop held.hand) plan.at asks.1)
     at (doings.Dying c) asks owns under = absurd (cascading c.slot c.at asks.1)

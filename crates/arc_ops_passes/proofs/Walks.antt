@@ -10,7 +10,8 @@ use Rattle.std.proofs.lemmas.Bool.{ltb-false}
 use Rattle.std.proofs.lemmas.List.Sums.{sum_by-cons, sum_by-set, get_or-le-sum_by}
 use Rattle.std.proofs.lemmas.List.Quantifiers.{position-Some}
 use Rattle.std.proofs.lemmas.List.Recursion.{is_position_or_len}
-use Rattle.arc_model.specs.Shapes.{HeapShape}
+use Rattle.arc_model.specs.Shapes.{HeapShape, class_at}
+use Rattle.arc_model.specs.declared.event.ObjectName.{ObjectName}
 use Rattle.arc_model.specs.declared.answer.Answer.{Answer}
 use Rattle.arc_model.specs.declared.answer.Answer.TheVariants as answers
 use Rattle.arc_model.specs.declared.event.Origin.TheVariants.{Hand}
@@ -22,7 +23,7 @@ use Rattle.arc_rule.specs.declared.step.Intent.TheVariants as intents
 use Rattle.arc_plan.specs.declared.attempt.At.TheVariants as attempt
 use Rattle.arc_plan.specs.declared.slots.Making.{Making as Search}
 use Rattle.arc_plan.specs.declared.slots.Making.TheVariants as search
-use Rattle.arc_plan.specs.Slots.{trial}
+use Rattle.arc_plan.specs.Slots.{looking}
 use Rattle.arc_script.specs.declared.script.Op.{Op}
 use Rattle.arc_script.specs.declared.script.Op.TheVariants as op
 use Rattle.arc_ops.specs.declared.stepper.Held.{Held}
@@ -30,7 +31,7 @@ use Rattle.arc_ops.specs.declared.stepper.Doing.{Doing}
 use Rattle.arc_ops.specs.declared.stepper.Doing.TheVariants as doings
 use Rattle.arc_ops.specs.declared.stepper.Move.TheVariants as moves
 use Rattle.arc_ops.specs.Programs.{VarsFit}
-use Rattle.arc_ops.specs.Thread.{Thread, value, is_held, set_var, put, skipped, moved, phase_end, phase_over, begun, begun_at, begun_op, begun_nil, begun_copy, begun_move, begun_drop, copy_begun, drop_begun, make_begun, scope_at, scope_begun, scope_drop, next_op, replaced, replaced_old}
+use Rattle.arc_ops.specs.Thread.{Thread, value, is_held, set_var, put, skipped, moved, phase_end, phase_over, begun, begun_at, begun_op, begun_nil, begun_copy, begun_move, begun_drop, copy_begun, drop_begun, make_begun_as, scope_at, scope_begun, scope_drop, next_op, replaced, replaced_old}
 use Rattle.arc_ops_passes.specs.References.{weigh, in_vars, references}
 use Rattle.arc_ops_passes.specs.Drives.{Asks}
 
@@ -73,12 +74,12 @@ none_held f vars e = go (ltb (position_or_len is_held vars) (length vars)) refl 
 
 -- an operation has just begun, or the next phase is to begin, or all have ended
 abbrev pub IsFreshSearch : Search → Type 0
-IsFreshSearch (search.Trying s) = s ≡ 0
+IsFreshSearch (search.Looking k) = k ≡ 0
 IsFreshSearch _ = ⊥
 
 abbrev pub IsFresh : Doing → Type 0
 IsFresh doings.Ready = ⊤
-IsFresh (doings.Making to name slot plan) = IsFreshSearch plan.at
+IsFresh (doings.Making to name plan) = IsFreshSearch plan.at
 IsFresh (doings.Copying to held plan) = plan.at ≡ attempt.Loading
 IsFresh (doings.Dropping held plan) = plan.at ≡ attempt.Loading
 IsFresh (doings.Dying c) = ⊥
@@ -132,13 +133,17 @@ copy_walks shape to held t u most (layout, is) hands event count same = record {
   fresh = refl;
 }
 
-make_walks : (shape : HeapShape) (to class : ℕ) (t u : Thread) (most : (Held → ℕ) → ℕ) → IsFor shape u → u.hands ≡ t.hands → u.event ≡ t.event → length u.vars ≡ length t.vars → ((f : Held → ℕ) → in_vars u.vars f ≡ most f) → Walks shape t (make_begun to class u) most
-make_walks shape to class t u most (layout, is) hands event count same = record {
+pub make_walks : (shape : HeapShape) (to : ℕ) (name : ObjectName) (t u : Thread) (most : (Held → ℕ) → ℕ) → IsFor shape u → u.hands ≡ t.hands → u.event ≡ t.event → length u.vars ≡ length t.vars → ((f : Held → ℕ) → in_vars u.vars f ≡ most f)
+    → Walks shape t (make_begun_as to name u) most
+make_walks shape to name t u most (layout, is) hands event count same = record {
   hands = hands;
   event = event;
   count = count;
   same = λ f. let e = same f in omega arith;
-  asks = (ap (λ (l : Extent). record { layout = l; name = record { class = class; thread = u.thread; number = u.made + 1 }; at = search.Trying 0 }) layout, (refl, ap (λ (l : Extent). moves.Step (trial l 0) (intents.New class)) layout));
+  asks = (
+    (λ j. record { layout = layout j; name = name; immortal = (class_at (is j) name.class).immortal; at = search.Looking 0 }),
+    ap (λ (l : Extent). moves.Step (looking l 0) (intents.New name.class)) layout,
+  );
   fresh = refl;
 }
 
@@ -188,7 +193,7 @@ op_walks shape o t rest own fits after = at o fits
     dropping v None e = skips answers.Nil
 
     at : (o : Op) → VarsFit (length t.vars) o → Walks shape t (begun_op o t rest) (in_vars t.vars)
-    at (op.New to class) fit = make_walks shape to class t (record t { first = true }) (in_vars t.vars) own refl refl refl (λ f. refl)
+    at (op.New to class) fit = make_walks shape to (record { class = class; thread = t.thread; number = t.made + 1 }) t (record t { first = true }) (in_vars t.vars) own refl refl refl (λ f. refl)
     at (op.Copy to from) fit = copying to (value t.vars from) (value t.vars to) refl
     at (op.Move to from) fit = moving to from (value t.vars from) (value t.vars to) fit.0 refl refl
     at (op.Drop v) fit = dropping v (value t.vars v) refl
@@ -197,6 +202,8 @@ op_walks shape o t rest own fits after = at o fits
     at (op.Load to of) fit = skips answers.Nil
     at (op.Get to cell) fit = skips answers.Nil
     at (op.Set cell from) fit = skips answers.Nil
+    at (op.IfNil v past) fit = skips answers.Nil
+    at (op.IfSome v past) fit = skips answers.Nil
 
 scope_walks : (shape : HeapShape) (t : Thread) → IsFor shape t → Walks shape t (scope_begun t) (in_vars t.vars)
 scope_walks shape t own = go (position is_held t.vars) refl

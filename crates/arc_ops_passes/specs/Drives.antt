@@ -1,10 +1,10 @@
 -- A stepper drives a pass: what it is doing fits what the pass has, by what the pass has seen.
-use Rattle.std.specs.Prelude.{ℕ, true, ◌≡◌, ◌≢◌, List, [], ◌∷◌, length, Some, None, ⊤}
+use Rattle.std.specs.Prelude.{ℕ, true, false, ◌≡◌, ◌≢◌, List, [], ◌∷◌, ◌/◌, length, Some, None, ⊤}
 use Rattle.arc_model.specs.declared.event.ObjectName.{ObjectName}
 use Rattle.arc_model.specs.declared.event.Origin.TheVariants.{Hand}
 use Rattle.arc_model.specs.declared.shape.Kind.{Kind}
 use Rattle.arc_model.specs.declared.shape.Kind.TheVariants.{Strong, Unowned}
-use Rattle.arc_model.specs.Shapes.{HeapShape}
+use Rattle.arc_model.specs.Shapes.{HeapShape, class_at}
 use Rattle.arc_model.specs.Heaps.{Duty, Deinit, Vacating, Object}
 use Rattle.arc_model.specs.Holders.{at_slot}
 use Rattle.arc_model.specs.History.{IsLegal}
@@ -13,17 +13,18 @@ use Rattle.arc_model.specs.Spelling.{Note}
 use Rattle.arc_model.specs.SpellingTies.{Ties, name_of}
 use Rattle.arc_model.specs.SpellingTies.Causes.{Judged}
 use Rattle.arc_rule.specs.Places.{extent_of, number}
-use Rattle.arc_rule.specs.declared.layout.Place.TheVariants.{Count, Isa, Next}
-use Rattle.arc_rule.specs.declared.step.Step.TheVariants.{Load, Exchange, Store}
+use Rattle.arc_rule.specs.Bits.{but_bit_of}
+use Rattle.arc_rule.specs.declared.layout.Place.TheVariants.{Count, Isa, Next, SlotBits}
+use Rattle.arc_rule.specs.declared.step.Step.TheVariants.{Load, Exchange, Store, And}
 use Rattle.arc_rule.specs.declared.step.Intent.{Intent}
 use Rattle.arc_rule.specs.declared.step.Intent.TheVariants as intents
 use Rattle.arc_plan.specs.declared.attempt.At.{At as AttemptAt}
 use Rattle.arc_plan.specs.declared.attempt.At.TheVariants.{Loading, Exchanging}
 use Rattle.arc_plan.specs.declared.slots.Making.{Making as Search}
-use Rattle.arc_plan.specs.declared.slots.Making.TheVariants.{Trying, Naming}
+use Rattle.arc_plan.specs.declared.slots.Making.TheVariants.{Looking, Taking, Counting, Naming}
 use Rattle.arc_plan.specs.declared.slots.Once.{Once}
 use Rattle.arc_plan.specs.declared.slots.Once.TheVariants.{Asked}
-use Rattle.arc_plan.specs.Slots.{trial, naming}
+use Rattle.arc_plan.specs.Slots.{looking, taking, counting, naming}
 use Rattle.arc_cells.specs.declared.cascade.At.{At as CascadeAt}
 use Rattle.arc_cells.specs.declared.cascade.At.TheVariants as at
 use Rattle.arc_cells.specs.Cascades.{CascadeState}
@@ -46,10 +47,12 @@ use Rattle.arc_ops_passes.specs.References.{in_vars, references, Owns}
 
 -- ---- its plans are for this heap, and wait for the word of the step that it asks for
 
-abbrev pub SearchAsks : HeapShape → Move → ObjectName → ℕ → Search → Type 0
-SearchAsks shape asked name slot (Trying s) = (s ≡ slot) × (asked ≡ moves.Step (trial (extent_of shape) s) (intents.New name.class))
-SearchAsks shape asked name slot (Naming s) = (s ≡ slot) × (asked ≡ moves.Step (naming (extent_of shape) name s) (intents.New name.class))
-SearchAsks shape asked name slot _ = ⊥
+abbrev pub SearchAsks : HeapShape → Move → ObjectName → Search → Type 0
+SearchAsks shape asked name (Looking word) = asked ≡ moves.Step (looking (extent_of shape) word) (intents.New name.class)
+SearchAsks shape asked name (Taking s seen) = asked ≡ moves.Step (taking (extent_of shape) s) (intents.New name.class)
+SearchAsks shape asked name (Counting s) = asked ≡ moves.Step (counting (extent_of shape) (class_at shape name.class).immortal s) (intents.New name.class)
+SearchAsks shape asked name (Naming s) = asked ≡ moves.Step (naming (extent_of shape) name s) (intents.New name.class)
+SearchAsks shape asked name _ = ⊥
 
 -- an attempt on the inline word of a slot
 abbrev pub AttemptAsks : HeapShape → Move → ℕ → Intent → AttemptAt → Type 0
@@ -58,7 +61,7 @@ AttemptAsks shape asked s intent (Exchanging seen new) = asked ≡ moves.Step (E
 AttemptAsks shape asked s intent _ = ⊥
 
 abbrev pub VacateAsks : HeapShape → Move → ℕ → Once → Type 0
-VacateAsks shape asked s Asked = asked ≡ moves.Step (Store (number (extent_of shape) (Count s)) 0) intents.Vacate
+VacateAsks shape asked s Asked = asked ≡ moves.Step (And (number (extent_of shape) (SlotBits (s / 64))) (but_bit_of s)) intents.Vacate
 VacateAsks shape asked s _ = ⊥
 
 abbrev pub CascadeAsks : HeapShape → Move → ℕ → CascadeAt → Type 0
@@ -71,7 +74,8 @@ CascadeAsks shape asked s _ = ⊥
 
 abbrev pub Asks : HeapShape → Thread → Doing → Type 0
 Asks shape t Ready = t.asked ≡ moves.PhaseEnd
-Asks shape t (Making to name slot plan) = (plan ≡ record { layout = extent_of shape; name = name; at = plan.at }) × SearchAsks shape t.asked name slot plan.at
+Asks shape t (Making to name plan) =
+    (plan ≡ record { layout = extent_of shape; name = name; immortal = (class_at shape name.class).immortal; at = plan.at }) × SearchAsks shape t.asked name plan.at
 Asks shape t (Copying to held plan) =
     (plan ≡ record { layout = extent_of shape; slot = held.place; cap = shape.caps.strong; at = plan.at }) × AttemptAsks shape t.asked held.place (intents.Copy (Hand held.hand)) plan.at
 Asks shape t (Dropping held plan) = (plan ≡ record { layout = extent_of shape; slot = held.place; at = plan.at }) × AttemptAsks shape t.asked held.place (intents.Drop held.hand) plan.at
@@ -80,10 +84,15 @@ Asks shape t Ended = (t.asked ≡ moves.Ended) × ((f : Held → ℕ) → in_var
 
 -- ---- what the pass has under way meanwhile
 
--- the slots below were found taken since the thread's last event; the new object has the name
+-- the new object is in the slot and has the name
+abbrev pub IsMade : View → ObjectName → ℕ → Type 0
+IsMade v name s = (o : Object) × (at_slot s (heap_of v) ≡ Some o) × (name_of o ≡ name)
+
+-- the words of bits before this one were found full since the thread's last event; a slot that is to be taken rests on nothing
 abbrev pub Searched : HeapShape → View → ObjectName → Search → Type 0
-Searched shape v name (Trying s) = searched (λ k. number (extent_of shape) (Count k)) 2 (made_in v.number v.seen) s v.trail ≡ true
-Searched shape v name (Naming s) = (o : Object) × (at_slot s (heap_of v) ≡ Some o) × (name_of o ≡ name)
+Searched shape v name (Looking word) = searched (λ k. number (extent_of shape) (SlotBits k)) shape.slots (made_in v.number v.seen) word v.trail ≡ true
+Searched shape v name (Counting s) = IsMade v name s
+Searched shape v name (Naming s) = IsMade v name s
 Searched shape v name _ = ⊤
 
 -- the word that an attempt has read allows its exchange
@@ -126,7 +135,8 @@ cascade_works s (at.Vacating p) = idle
 cascade_works s _ = entered s
 
 abbrev pub search_works : Search → Working
-search_works (Naming s) = record idle { owes = Some s }
+search_works (Counting s) = record idle { owes = Some (record { slot = s; counted = false }) }
+search_works (Naming s) = record idle { owes = Some (record { slot = s; counted = true }) }
 search_works _ = idle
 
 pub record IsDying (shape : HeapShape) (v : View) (c : CascadeState) : Type 0 where
@@ -139,7 +149,7 @@ pub record IsFree (v : View) : Type 0 where
   pub none : OwesNothing v
 
 abbrev pub UnderWay : HeapShape → View → Doing → Type 0
-UnderWay shape v (Making to name slot plan) = (v.working ≡ search_works plan.at) × OwesNothing v × Searched shape v name plan.at
+UnderWay shape v (Making to name plan) = (v.working ≡ search_works plan.at) × OwesNothing v × Searched shape v name plan.at
 UnderWay shape v (Copying to held plan) = IsFree v × MayGoUp shape held.place plan.at
 UnderWay shape v (Dropping held plan) = IsFree v × MayGoDown Strong held.place plan.at
 UnderWay shape v (Dying c) = IsDying shape v c

@@ -74,7 +74,8 @@ abbrev pub StepsAreAllowed : Type 0
 StepsAreAllowed = (w : Work) (t : Thread) (v : View) (step : Step) (intent : Intent) → IsServedWork w → IsStepper t → IsSized w.shape → Drives w t v → t.asked ≡ moves.Step step intent →
     IsAllowed w.shape v step intent
 
--- So far a count that is read lies in the inline word, and is that of a live object and below its cap where a reference is to be copied.
+-- So far a count that is read lies in the inline word, and is that of a live object and below its cap, or says that the object is immortal, where a
+-- reference is to be copied.
 abbrev pub IsServedWord : HeapShape → Step → Intent → ℕ → Type 0
 IsServedWord shape (Load place) (intents.Copy from) found = IsUpWord shape.caps.strong (unpacked found)
 IsServedWord shape (Load place) (intents.Drop hand) found = IsInline (unpacked found)

@@ -1,9 +1,9 @@
 -- What stays of a pass and its tokens from call to call.
-use Rattle.std.proofs.Common.{◌≡◌, ◌≢◌, ℕ, ◌<◌, [], Option, Some, None, refl, sym, ap, ◌∙◌, subst}
-use Rattle.std.specs.Prelude.{slice_get}
+use Rattle.std.proofs.Common.{◌≡◌, ◌≢◌, ℕ, ◌<◌, false, List, [], Option, Some, None, refl, sym, ap, ◌∙◌, subst, ◌∷◌, length, arith}
+use Rattle.std.specs.Prelude.{slice_get, slice_index_or}
 use Rattle.arc_model.specs.declared.event.Act.{Act}
 use Rattle.arc_model.specs.declared.event.Act.TheVariants as acts
-use Rattle.arc_model.specs.Shapes.{HeapShape}
+use Rattle.arc_model.specs.Shapes.{HeapShape, ObjectClass, class_at}
 use Rattle.arc_model.specs.Heaps.{Object}
 use Rattle.arc_view.specs.declared.view.Working.{Working}
 use Rattle.arc_view.specs.Views.{idle}
@@ -16,8 +16,10 @@ use Rattle.arc_table.proofs.Spared.{up_spares, release_spares, finish_spares}
 use Rattle.arc_table.specs.declared.tokens.Up.{Up}
 use Rattle.arc_table.specs.declared.tokens.Release.{Release}
 use Rattle.arc_table.specs.declared.ends.Finish.{Finish}
-use Rattle.arc_model.proofs.Basics.{Some-inj}
+use Rattle.arc_model.proofs.Basics.{None≢Some, Some-inj}
 use Rattle.arc_view.proofs.Strongs.{slot_found}
+use Rattle.arc_view.specs.Rule.{news}
+use Rattle.arc_view_laws.proofs.Counted.{news_none}
 use Rattle.arc_table.specs.declared.heap.Heap.{Heap}
 use Rattle.arc_table.specs.declared.heap.Pass.{Pass}
 use Rattle.arc_table.specs.declared.tokens.Strong.{Strong as Token}
@@ -82,6 +84,19 @@ dying_on heap v w d has ours = (ours.0, keeps_deinit None (view_of v) (view_of w
 pub last_ours : (heap : Heap) (v w : Pass) (t : Token) (d : Dying) → IsOurs heap v t → IsReleased (shape_of heap) t (view_of v) (view_of w) (releases.Last d) → IsOurDying heap w d
 last_ours heap v w t d ours r = (subst (λ s. s < (shape_of heap).slots) (sym r.0) ours.0, r.1 0 ours.1)
 
+-- the first class
+first_class : (cs : List ObjectClass) (c d : ObjectClass) → slice_get cs 0 ≡ Some c → slice_index_or cs 0 d ≡ c
+first_class [] c d e = absurd (None≢Some c e)
+first_class (x ∷ cs) c d e = Some-inj e
+
+some_class : (cs : List ObjectClass) (c : ObjectClass) → slice_get cs 0 ≡ Some c → 0 < length cs
+some_class [] c e = absurd (None≢Some c e)
+some_class (x ∷ cs) c e = omega arith
+
+-- there is class 0
+pub has_class : (heap : Heap) → IsPlain heap → 0 < length (shape_of heap).classes
+has_class heap plain = some_class (shape_of heap).classes (record { fields = []; immortal = false }) plain
+
 -- one object is in a slot, and its class has no field
 pub bare : (heap : Heap) (pass : Pass) (d : Dying) → IsReady heap pass → IsPlain heap → IsOurDying heap pass d → HasNoField (shape_of heap) (view_of pass) d.slot
 bare heap pass d ready plain (lt, (i, o, at, duty, slot, class)) other (j, q, there, owes, place, named) =
@@ -89,4 +104,8 @@ bare heap pass d ready plain (lt, (i, o, at, duty, slot, class)) other (j, q, th
     let two = slot_found (shape_of heap) (view_of pass).seen j d.slot q ready.2 there place in
     let same : o ≡ q = Some-inj (sym one ∙ two) in
     let zero : 0 ≡ other = sym class ∙ (ap (λ (x : Object). x.class) same ∙ named) in
-    subst (λ c. slice_get (shape_of heap).classes c ≡ Some []) zero (ap (λ l. slice_get l 0) plain)
+    subst (λ c. (class_at (shape_of heap) c).fields ≡ []) zero (ap (λ (c : ObjectClass). c.fields) (first_class (shape_of heap).classes (record { fields = []; immortal = false }) (record { fields = []; immortal = false }) plain))
+
+-- what a call that makes no object leaves of how many the pass made
+pub made_none : (heap : Heap) (n : ℕ) (v w : Pass) → IsCall (shape_of heap) None n v.part w.part → news (view_of v).number (view_of v).seen < 100000 → news (view_of w).number (view_of w).seen < 100000
+made_none heap n v w c room = subst (λ m. m < 100000) (sym (news_none n (view_of v) (view_of w) c.1.called.grew)) room

@@ -1,5 +1,5 @@
 -- What a thread has between two calls.
-use Rattle.std.specs.Prelude.{ℕ, ◌≡◌, ◌≢◌, ◌<◌, ◌≤◌, [], ◌∷◌, ⊤}
+use Rattle.std.specs.Prelude.{ℕ, ◌≡◌, ◌≢◌, ◌<◌, ◌≤◌, false, [], Some, slice_get, ⊤}
 use Rattle.arc_model.specs.History.{IsLegal}
 use Rattle.arc_view.specs.declared.view.View.{View}
 use Rattle.arc_view.specs.Views.{idle}
@@ -18,9 +18,9 @@ use Rattle.arc_table.specs.Cells.{HoldsStrong, IsNamed}
 abbrev pub IsReady : Heap → Pass → Type 0
 IsReady heap pass = (pass_id pass ≡ heap_id heap) × ((view_of pass).working ≡ idle) × IsLegal (shape_of heap) (view_of pass).seen
 
--- the heap has one class, whose objects have no fields
+-- class 0 of the heap has no fields, and isn't immortal
 abbrev pub IsPlain : Heap → Type 0
-IsPlain heap = (shape_of heap).classes ≡ [] ∷ []
+IsPlain heap = slice_get (shape_of heap).classes 0 ≡ Some (record { fields = []; immortal = false })
 
 -- a strong reference of the pass to an object of class 0 in its slot
 abbrev pub IsOurs : Heap → Pass → Token → Type 0

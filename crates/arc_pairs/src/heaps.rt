@@ -21,6 +21,7 @@ pub fn plain_heap(alloc: Global, slots: u32, globals: Vec<RefShape>) -> Option<(
     let mut classes = Vec::new(alloc);
     let class = ClassShape {
         fields: Vec::new(alloc),
+        immortal: false,
     };
     classes.push(class).ok()?;
     let shape = Shape::new(slots, 1, caps, classes, globals).ok()?;

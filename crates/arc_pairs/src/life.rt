@@ -1,12 +1,31 @@
-//! References more and fewer. A call that answers `Again` is made again: other threads make calls in between, so no bound says how often.
-ghost use Rattle.std.specs.Prelude.{◌≡◌, ◌≢◌, IfSome};
+//! Objects made and ended, references more and fewer. A call that answers `Again` is made again: other threads make calls in between, so no bound says how often.
+ghost use Rattle.std.specs.Prelude.{◌≡◌, ◌≢◌, ◌<◌, IfSome};
+ghost use Rattle.arc_view.specs.Rule.{news};
 ghost use Rattle.arc_table.specs.Seats.{view_of};
 ghost use Rattle.arc_table.specs.Tokens.{hand_of};
 ghost use Rattle.arc_view_laws.specs.Having.{KeepsStrong, KeepsStrongBut};
 ghost use Rattle.arc_pairs.specs.Ready.{IsReady, IsPlain, IsOurs, IsOurDying};
 
-use arc_table::{Dying, Finish, Heap, Pass, Release, Strong, Up};
+use arc_table::{Dying, Finish, Heap, Made, Pass, Release, Strong, Up};
 use std::sync::Wait;
+
+/// A new object. `None` where every slot is taken.
+pub fn created<R: Wait>(rt: &R, heap: &Heap, pass: &mut Pass) -> Option<Strong>
+    requires ready { IsReady heap.now pass.old }
+    requires plain { IsPlain heap.now }
+    requires room { news (view_of pass.old).number (view_of pass.old).seen < 100000 }
+    ensures ready { IsReady heap.now pass.new }
+    ensures made { IfSome result (λ t. IsOurs heap.now pass.new t) }
+{
+    for _ in rt.forever() {
+        match heap.new_object(pass, 0) {
+            Made::Ok(held) => return Some(held),
+            Made::NoSlot => return None,
+            Made::Again(_) => {}
+        }
+    }
+    unreachable!()
+}
 
 /// One more reference to the same object. `None` where a count stands at its greatest.
 pub fn copied<R: Wait>(rt: &R, heap: &Heap, pass: &mut Pass, of: &Strong) -> Option<Strong>

@@ -4,8 +4,8 @@ ghost use Rattle.arc_view.specs.Rule.{news};
 ghost use Rattle.arc_table.specs.Seats.{view_of};
 ghost use Rattle.arc_pairs.specs.Ready.{IsReady, IsPlain, IsOurs};
 
-use crate::life::{copied, let_go};
-use arc_table::{Heap, Made, Pass, Strong};
+use crate::life::{copied, created, let_go};
+use arc_table::{Heap, Pass, Strong};
 use std::sync::Wait;
 
 /// A retain, and a release of the copy. Says whether the object ended.
@@ -65,9 +65,9 @@ pub fn make_and_hold<R: Wait>(rt: &R, heap: &Heap, pass: &mut Pass, times: u32) 
     requires times { times ≤ 6400000 }
     ensures ends { result ≤ times + 1 }
 {
-    match heap.new_object(pass, 0) {
-        Made::NoSlot => 0,
-        Made::Ok(held) => hold(rt, heap, pass, held, times),
+    match created(rt, heap, pass) {
+        None => 0,
+        Some(held) => hold(rt, heap, pass, held, times),
     }
 }
 
@@ -78,9 +78,9 @@ fn life<R: Wait>(rt: &R, heap: &Heap, pass: &mut Pass) -> bool
     requires room { news (view_of pass.old).number (view_of pass.old).seen < 100000 }
     ensures ready { IsReady heap.now pass.new }
 {
-    match heap.new_object(pass, 0) {
-        Made::NoSlot => false,
-        Made::Ok(held) => let_go(rt, heap, pass, held),
+    match created(rt, heap, pass) {
+        None => false,
+        Some(held) => let_go(rt, heap, pass, held),
     }
 }
 

@@ -7,11 +7,11 @@ ghost use Rattle.arc_view_laws.specs.Having.{KeepsStrongBut};
 ghost use Rattle.arc_pairs.specs.Ready.{IsReady, IsPlain, IsOurs, IsOurAny, IsApart, IsForOurs, AreForOurs, IsWorker};
 
 use crate::heaps::shared_heap;
-use crate::life::{copied, let_go};
+use crate::life::{copied, created, let_go};
 use crate::loops::hold;
 use crate::passes::passes_for;
 use crate::total::total;
-use arc_table::{Any, Heap, Made, Pass, Strong, Swapped};
+use arc_table::{Any, Heap, Pass, Strong, Swapped};
 use std::alloc::Global;
 use std::sync::Wait;
 use std::thread::{Threads, map_vec};
@@ -95,9 +95,9 @@ fn hand_out<R: Wait>(rt: &R, heap: &Heap, pass: &mut Pass, globals: u32) -> u32
     requires empty { (view_of pass.old).seen ≡ [] }
     ensures ends { result ≤ globals + 1 }
 {
-    match heap.new_object(pass, 0) {
-        Made::NoSlot => 0,
-        Made::Ok(held) => {
+    match created(rt, heap, pass) {
+        None => 0,
+        Some(held) => {
             let ends = put_copies(rt, heap, pass, &held, globals);
             if put(rt, heap, pass, 0, held) {
                 ends + 1

@@ -1,3 +1,5 @@
+//! How the program of pairs ends.
+
 /// How the program ended, and the status that it ends with. This project's own.
 #[derive(Clone, Copy, Debug, PartialEq, Eq)]
 pub enum Status {

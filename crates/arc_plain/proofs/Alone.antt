@@ -1,9 +1,13 @@
 -- A thread makes steps alone, until its phase has ended.
-use Rattle.std.proofs.Common.{◌≡◌, ◌≢◌, ℕ, zero, suc, ◌+◌, ◌-◌, ◌≤◌, ◌<◌, ◌^◌, Bool, true, false, cond, eqb, List, [], ◌∷◌, length, map, Option, Some, None, refl, ap, ◌∙◌, sym, subst, arith}
+use Rattle.std.proofs.Common.{◌≡◌, ◌≢◌, ℕ, zero, suc, ◌+◌, ◌-◌, ◌/◌, ◌≤◌, ◌<◌, ◌^◌, Bool, true, false, cond, eqb, List, [], ◌∷◌, length, map, Option, Some, None, refl, ap, ◌∙◌, sym, subst, arith}
 use Rattle.std.specs.List.{AllByRecursion}
-use Rattle.std.specs.Prelude.{All, slice_get, sum_by}
+use Rattle.std.specs.Prelude.{All, bit_and, slice_get, slice_index, sum_by}
 use Rattle.std.proofs.lemmas.List.{length-map, length-set, get_or-set_same}
 use Rattle.std.proofs.lemmas.List.Sums.{sum_by-cons}
+use Rattle.arc_rule.specs.Bits.{words_of, bit_of}
+use Rattle.arc_rule.specs.Extents.{Extent}
+use Rattle.arc_rule.specs.Places.{number}
+use Rattle.arc_rule.specs.declared.layout.Place.TheVariants.{SlotBits}
 use Rattle.arc_rule.specs.Steps.{found_by, made_by}
 use Rattle.arc_rule.specs.declared.step.Step.{Step}
 use Rattle.arc_rule.specs.declared.step.Intent.{Intent}
@@ -23,7 +27,7 @@ use Rattle.arc_ops.specs.declared.stepper.Doing.{Doing}
 use Rattle.arc_ops.specs.declared.stepper.Doing.TheVariants as doings
 use Rattle.arc_ops.specs.declared.stepper.Move.{Move}
 use Rattle.arc_ops.specs.declared.stepper.Move.TheVariants as moves
-use Rattle.arc_ops.specs.Thread.{Thread, IsStepper, stepper_of, turned}
+use Rattle.arc_ops.specs.Thread.{Thread, IsStepper, IsUnderWay as IsAtWork, stepper_of, turned}
 use Rattle.arc_replays.specs.Stages.{Reached, MayStep, is_step, is_phase_end, awaits_phase, stepped}
 use Rattle.arc_replays.specs.Stages.Reached.{by_number, last_step}
 use Rattle.arc_plain.specs.Crews.{Progress, IsUnderWay, MayGoOn, ThreadFinished, thread_at, has_made}
@@ -51,11 +55,17 @@ attempt_few w (attempt.Exchanging seen new) = go (eqb w seen)
     go false = omega arith
 attempt_few w attempt.Ended = omega arith
 
-search_few : (slots : ℕ) (a : Search) → search_left slots a ≤ slots + 12
-search_few slots search.Start = omega arith
-search_few slots (search.Trying s) = omega arith
-search_few slots (search.Naming s) = omega arith
-search_few slots search.Ended = omega arith
+search_few : (words : List ℕ) (l : Extent) (a : Search) → search_left words l a ≤ words_of l.slots + 16
+search_few words l search.Start = omega arith
+search_few words l (search.Looking k) = omega arith
+search_few words l (search.Taking s seen) = go (eqb (bit_and (slice_index words (number l (SlotBits (s / 64)))) (bit_of s)) 0)
+  where
+    go : (b : Bool) → cond b 13 (words_of l.slots + 16) ≤ words_of l.slots + 16
+    go true = omega arith
+    go false = omega arith
+search_few words l (search.Counting s) = omega arith
+search_few words l (search.Naming s) = omega arith
+search_few words l search.Ended = omega arith
 
 cascade_few : (words : List ℕ) (a : At) → cascade_left words a ≤ 6
 cascade_few words at.Start = omega arith
@@ -67,13 +77,14 @@ cascade_few words (at.Finishing p) = let h = attempt_few (count_at words p.layou
 cascade_few words (at.Vacating p) = omega arith
 cascade_few words at.Ended = omega arith
 
-doing_few : (words : List ℕ) (t : Thread) (d : Doing) → t.layout.slots ≤ 4096 → length t.program ≤ 100000 → length t.vars ≤ 256 → doing_left words t d ≤ 2 ^ 40
-doing_few words t doings.Ready slots program vars = omega arith
-doing_few words t (doings.Making to name slot plan) slots program vars = let h = held_few t.vars in let k = search_few t.layout.slots plan.at in omega arith
-doing_few words t (doings.Copying to held plan) slots program vars = let h = held_few t.vars in let k = attempt_few (count_at words plan.layout plan.slot) plan.at in omega arith
-doing_few words t (doings.Dropping held plan) slots program vars = let h = held_few t.vars in let k = attempt_few (count_at words plan.layout plan.slot) plan.at in omega arith
-doing_few words t (doings.Dying c) slots program vars = let h = held_few t.vars in let k = cascade_few words c.at in omega arith
-doing_few words t doings.Ended slots program vars = omega arith
+doing_few : (words : List ℕ) (t : Thread) (d : Doing) → t.layout.slots ≤ 4096 → length t.program ≤ 100000 → length t.vars ≤ 256 → IsAtWork t.layout t.shape (length t.vars) d → doing_left words t d ≤ 2 ^ 40
+doing_few words t doings.Ready slots program vars under = omega arith
+doing_few words t (doings.Making to name plan) slots program vars under =
+    let h = held_few t.vars in let k = search_few words plan.layout plan.at in let same : plan.layout.slots ≡ t.layout.slots = ap (λ (l : Extent). l.slots) under.1 in omega arith
+doing_few words t (doings.Copying to held plan) slots program vars under = let h = held_few t.vars in let k = attempt_few (count_at words plan.layout plan.slot) plan.at in omega arith
+doing_few words t (doings.Dropping held plan) slots program vars under = let h = held_few t.vars in let k = attempt_few (count_at words plan.layout plan.slot) plan.at in omega arith
+doing_few words t (doings.Dying c) slots program vars under = let h = held_few t.vars in let k = cascade_few words c.at in omega arith
+doing_few words t doings.Ended slots program vars under = omega arith
 
 declared_few : (classes : _) (globals : _) (ts : List ThreadDecl) (i : ℕ) → AllByRecursion (IsThread classes globals) ts → count_of_vars (slice_get ts i) ≤ 256
 declared_few classes globals [] i all = omega arith
@@ -96,7 +107,7 @@ left_few c p u lt =
     let k = all_keep c.script u.script u.served c.stage u.reached p (thread_at p c) (there c p lt) in
     let vars = vars_few c.script p u.script in
     let count = k.count in
-    doing_few c.stage.words (thread_at p c) (thread_at p c).doing s.slots s.few (omega arith)
+    doing_few c.stage.words (thread_at p c) (thread_at p c).doing s.slots s.few (omega arith) s.under_way
 
 -- ---- the loop
 

@@ -1,10 +1,11 @@
 -- A step that a thread makes alone brings it nearer to the end of its phase, whatever word it finds.
-use Rattle.std.proofs.Common.{◌≡◌, ℕ, ◌+◌, ◌*◌, ◌≤◌, ◌<◌, Bool, true, false, cond, eqb, ltb, List, length, Option, Some, None, refl, ◌∙◌, subst, sym, arith, rules}
+use Rattle.std.proofs.Common.{◌≡◌, ℕ, ◌+◌, ◌*◌, ◌/◌, ◌≤◌, ◌<◌, Bool, true, false, cond, eqb, ltb, eq-eqb, List, length, Option, Some, None, refl, ap, ◌∙◌, subst, sym, arith, rules}
+use Rattle.std.specs.Prelude.{bit_and, slice_index}
 use Rattle.arc_bits.specs.declared.packing.Word.{Word}
 use Rattle.arc_bits.specs.declared.packing.Word.TheVariants as word
 use Rattle.arc_bits.specs.Words.{packed, unpacked}
 use Rattle.arc_bits.specs.Moves.{strong_more}
-use Rattle.arc_model.specs.Shapes.{HeapShape}
+use Rattle.arc_model.specs.Shapes.{HeapShape, class_at}
 use Rattle.arc_model.specs.declared.event.Act.{Act}
 use Rattle.arc_model.specs.declared.event.Act.TheVariants as acts
 use Rattle.arc_model.specs.declared.event.Origin.TheVariants.{Hand}
@@ -13,7 +14,7 @@ use Rattle.arc_model.specs.declared.answer.Answer.TheVariants as answers
 use Rattle.arc_rule.specs.Extents.{Extent}
 use Rattle.arc_rule.specs.Places.{extent_of, number}
 use Rattle.arc_rule.specs.Steps.{found_by, made_by}
-use Rattle.arc_rule.specs.declared.layout.Place.TheVariants.{Count}
+use Rattle.arc_rule.specs.declared.layout.Place.TheVariants.{Count, SlotBits}
 use Rattle.arc_rule.specs.declared.step.Step.{Step}
 use Rattle.arc_rule.specs.declared.step.Step.TheVariants.{Load, Exchange}
 use Rattle.arc_rule.specs.declared.step.Intent.{Intent}
@@ -26,7 +27,7 @@ use Rattle.arc_plan.specs.declared.attempt.Choice.{Choice}
 use Rattle.arc_plan.specs.declared.attempt.Choice.TheVariants.{Tell, Write}
 use Rattle.arc_plan.specs.declared.slots.Making.{Making as Search}
 use Rattle.arc_plan.specs.declared.slots.Making.TheVariants as search
-use Rattle.arc_plan.specs.declared.slots.NewObjectAnswer.TheVariants.{NoSlot}
+use Rattle.arc_plan.specs.declared.slots.NewObjectAnswer.TheVariants.{NoSlot, Again}
 use Rattle.arc_plan.specs.declared.slots.Once.{Once}
 use Rattle.arc_plan.specs.declared.slots.Once.TheVariants as once
 use Rattle.arc_plan.specs.declared.strong.StrongUpAnswer.{StrongUpAnswer}
@@ -38,7 +39,9 @@ use Rattle.arc_plan.specs.declared.unowned.UnownedDownAnswer.TheVariants as less
 use Rattle.arc_plan.specs.Attempts.{Attempt, CappedAttempt, exchanging, chosen}
 use Rattle.arc_plan.specs.Strong.{strong_up_row, strong_down_row, strong_down_end}
 use Rattle.arc_plan.specs.Unowned.{unowned_down_row, unowned_down_end}
-use Rattle.arc_plan.specs.Slots.{trial, naming}
+use Rattle.arc_plan.specs.Slots.{Creation, free_slot, looked, looked_answer, looking, taking, counting}
+use Rattle.arc_plan.proofs.Bits.{free_is_clear}
+use Rattle.arc_rule.specs.Bits.{words_of, bit_of}
 use Rattle.arc_cells.specs.declared.cascade.At.{At}
 use Rattle.arc_cells.specs.declared.cascade.At.TheVariants as at
 use Rattle.arc_cells.specs.Cascades.{CascadeState, finish_turned, finish_says}
@@ -47,7 +50,7 @@ use Rattle.arc_ops.specs.declared.stepper.Doing.{Doing}
 use Rattle.arc_ops.specs.declared.stepper.Doing.TheVariants as doings
 use Rattle.arc_ops.specs.declared.stepper.Move.{Move}
 use Rattle.arc_ops.specs.declared.stepper.Move.TheVariants as moves
-use Rattle.arc_ops.specs.Thread.{Thread, IsStepper, IsUnderWay, IsInOperation, turned, turned_at, put, begun, next_op, made_on, copied_on, dropped_on, dying_on}
+use Rattle.arc_ops.specs.Thread.{Thread, IsStepper, IsUnderWay, IsMakingIn, IsInOperation, turned, turned_at, put, begun, next_op, made_on, copied_on, dropped_on, dying_on}
 use Rattle.arc_ops_passes.specs.Drives.{Asks, SearchAsks, AttemptAsks, VacateAsks, CascadeAsks}
 use Rattle.arc_plain.specs.Left.{units, busy_units, count_at, doing_left, left}
 use Rattle.arc_plain.proofs.Walks.{IsPhase, Comes, Same, after_same, begins, next_comes, replaced_comes}
@@ -87,23 +90,55 @@ asked_is m s s' i i' p q = cc
 
 -- ---- an object is made
 
-trying : (t : Thread) (words after : List ℕ) (l : Extent) (to : ℕ) (name : ObjectName) (slot found : ℕ) → t.layout.slots ≤ 4096 → slot < t.layout.slots →
-    Goes t words after (doings.Making to name slot (record { layout = l; name = name; at = search.Trying slot })) (turned_at (Some found) (doings.Making to name slot (record { layout = l; name = name; at = search.Trying slot })) (quiet t))
-trying t words after l to name slot found slots lt = go (eqb found 0) (ltb (slot + 1) l.slots)
+abbrev making_at : Extent → ℕ → ObjectName → Bool → Search → Doing
+making_at l to name immortal x = doings.Making to name (record { layout = l; name = name; immortal = immortal; at = x })
+
+abbrev bits_at : List ℕ → Extent → ℕ → ℕ
+bits_at words l k = slice_index words (number l (SlotBits k))
+
+-- a word of the bits was read
+looking_on : (t : Thread) (words : List ℕ) (l : Extent) (to : ℕ) (name : ObjectName) (immortal : Bool) (k : ℕ) → t.layout.slots ≤ 4096 → k < words_of l.slots →
+    Goes t words words (making_at l to name immortal (search.Looking k)) (turned_at (Some (bits_at words l k)) (making_at l to name immortal (search.Looking k)) (quiet t))
+looking_on t words l to name immortal k slots inside = go (free_slot l.slots k (bits_at words l k)) refl
   where
-    go : (b d : Bool) →
-        Goes t words after (doings.Making to name slot (record { layout = l; name = name; at = search.Trying slot }))
-        (made_on to name slot (record { layout = l; name = name; at = cond b (search.Naming slot) (cond d (search.Trying (slot + 1)) search.Ended) })
-        (cond b (nexts.Step (naming l name slot)) (cond d (nexts.Step (trial l (slot + 1))) (nexts.Done NoSlot))) (quiet t))
-    go true d = record { layout = refl; phases = refl; program = refl; count = refl; phase = refl; fewer = omega arith }
-    go false true = record { layout = refl; phases = refl; program = refl; count = refl; phase = refl; fewer = omega arith }
-    go false false =
-        goes_to t (put answers.Full (record t { doing = doings.Ended; first = false; event = Some acts.Full })) _ words after _ (4200 * busy_units t) (record { layout = refl; phases = refl; program = refl; count = refl; phase = refl })
+    more : (b : Bool) →
+        Goes t words words (making_at l to name immortal (search.Looking k))
+        (made_on to name (record { layout = l; name = name; immortal = immortal; at = cond b (search.Looking (k + 1)) search.Ended }) (cond b (nexts.Step (looking l (k + 1))) (nexts.Done NoSlot)) (quiet t))
+    more true = record { layout = refl; phases = refl; program = refl; count = refl; phase = refl; fewer = omega (arith, inside) }
+    more false =
+        goes_to t (put answers.Full (record t { doing = doings.Ended; first = false; event = Some acts.Full })) _ words words _ (4200 * busy_units t) (record { layout = refl; phases = refl; program = refl; count = refl; phase = refl })
         (next_comes (put answers.Full (record t { doing = doings.Ended; first = false; event = Some acts.Full })) slots) (omega arith)
 
-named : (t : Thread) (words after : List ℕ) (l : Extent) (to : ℕ) (name : ObjectName) (slot found : ℕ) → t.layout.slots ≤ 4096 → t.index < length t.program →
-    Goes t words after (doings.Making to name slot (record { layout = l; name = name; at = search.Naming slot })) (turned_at (Some found) (doings.Making to name slot (record { layout = l; name = name; at = search.Naming slot })) (quiet t))
-named t words after l to name slot found slots here =
+    go : (o : Option ℕ) → free_slot l.slots k (bits_at words l k) ≡ o →
+        Goes t words words (making_at l to name immortal (search.Looking k))
+        (made_on to name (record { layout = l; name = name; immortal = immortal; at = looked l.slots k (bits_at words l k) o }) (looked_answer l k o) (quiet t))
+    go (Some s) e =
+        let clear = free_is_clear l.slots k (bits_at words l k) s e in
+        let same : eqb (bit_and (bits_at words l (s / 64)) (bit_of s)) 0 ≡ true = subst (λ j. eqb (bit_and (bits_at words l j) (bit_of s)) 0 ≡ true) (sym clear.1) (eq-eqb (bit_and (bits_at words l k) (bit_of s)) 0 clear.0.clear) in
+        record { layout = refl; phases = refl; program = refl; count = refl; phase = refl; fewer = rw same (omega (arith, inside)) }
+    go None e = more (ltb (k + 1) (words_of l.slots))
+
+-- the bit of a slot was to be set
+taking_on : (t : Thread) (words after : List ℕ) (l : Extent) (to : ℕ) (name : ObjectName) (immortal : Bool) (s seen : ℕ) → l ≡ t.layout →
+    Goes t words after (making_at l to name immortal (search.Taking s seen)) (turned_at (Some (bits_at words l (s / 64))) (making_at l to name immortal (search.Taking s seen)) (quiet t))
+taking_on t words after l to name immortal s seen same = go (eqb (bit_and (bits_at words l (s / 64)) (bit_of s)) 0) refl
+  where
+    go : (b : Bool) → eqb (bit_and (bits_at words l (s / 64)) (bit_of s)) 0 ≡ b →
+        Goes t words after (making_at l to name immortal (search.Taking s seen))
+        (made_on to name (record { layout = l; name = name; immortal = immortal; at = cond b (search.Counting s) search.Ended })
+        (cond b (nexts.Step (counting l immortal s)) (nexts.Done (Again (record { seen = seen; found = bits_at words l (s / 64) })))) (quiet t))
+    go true e = record { layout = refl; phases = refl; program = refl; count = refl; phase = refl; fewer = rw e (omega arith) }
+    go false e =
+        let many : words_of l.slots ≡ words_of t.layout.slots = ap (λ (x : Extent). words_of x.slots) same in
+        record { layout = refl; phases = refl; program = refl; count = refl; phase = refl; fewer = rw e (omega (arith, many)) }
+
+counted_on : (t : Thread) (words after : List ℕ) (l : Extent) (to : ℕ) (name : ObjectName) (immortal : Bool) (s found : ℕ) →
+    Goes t words after (making_at l to name immortal (search.Counting s)) (turned_at (Some found) (making_at l to name immortal (search.Counting s)) (quiet t))
+counted_on t words after l to name immortal s found = record { layout = refl; phases = refl; program = refl; count = refl; phase = refl; fewer = omega arith }
+
+named : (t : Thread) (words after : List ℕ) (l : Extent) (to : ℕ) (name : ObjectName) (immortal : Bool) (slot found : ℕ) → t.layout.slots ≤ 4096 → t.index < length t.program →
+    Goes t words after (making_at l to name immortal (search.Naming slot)) (turned_at (Some found) (making_at l to name immortal (search.Naming slot)) (quiet t))
+named t words after l to name immortal slot found slots here =
     goes_to t (put (answers.New name) (quiet t)) _ words after _ (4200 * busy_units t + 8) (record { layout = refl; phases = refl; program = refl; count = refl; phase = refl })
     (replaced_comes (put (answers.New name) (quiet t)) to (record { hand = t.hands; place = slot }) slots here) (omega arith)
 
@@ -120,9 +155,9 @@ up_by t l cap to held w r = copied_on to held (up_plan l held.place cap (exchang
 abbrev up_got : Thread → Held → Thread
 up_got t held = put answers.Ok (record (quiet t) { hands = t.hands + 1; event = Some (acts.Copy (Hand held.hand) (t.hands + 1)) })
 
-up_read : (t : Thread) (words : List ℕ) (l : Extent) (cap to : ℕ) (held : Held) (step : Step) (intent : Intent) → t.asked ≡ moves.Step step intent →
+up_read : (t : Thread) (words : List ℕ) (l : Extent) (cap to : ℕ) (held : Held) (step : Step) (intent : Intent) → t.layout.slots ≤ 4096 → t.index < length t.program → t.asked ≡ moves.Step step intent →
     Goes t words words (doings.Copying to held (up_plan l held.place cap attempt.Loading)) (turned_at (Some (count_at words l held.place)) (doings.Copying to held (up_plan l held.place cap attempt.Loading)) (quiet t))
-up_read t words l cap to held step intent asked = go (unpacked (count_at words l held.place))
+up_read t words l cap to held step intent slots here asked = go (unpacked (count_at words l held.place))
   where
     told : Goes t words words (doings.Copying to held (up_plan l held.place cap attempt.Loading)) (quiet t)
     told = record { layout = refl; phases = refl; program = refl; count = refl; phase = stays t.asked step intent t.phase asked; fewer = omega arith }
@@ -136,6 +171,7 @@ up_read t words l cap to held step intent asked = go (unpacked (count_at words l
     go None = told
     go (Some word.Free) = told
     go (Some (word.Slow e)) = told
+    go (Some word.Immortal) = goes_to t (up_got t held) _ words words _ (4200 * busy_units t + 8) (record { layout = refl; phases = refl; program = refl; count = refl; phase = refl }) (replaced_comes (up_got t held) to (record { hand = t.hands + 1; place = held.place }) slots here) (omega arith)
     go (Some (word.Counts c)) = on c.deiniting (eqb c.strong_extra cap) (packed (word.Counts (strong_more c)))
 
 up_made : (t : Thread) (words after : List ℕ) (l : Extent) (cap to : ℕ) (held : Held) (seen new : ℕ) → t.layout.slots ≤ 4096 → t.index < length t.program →
@@ -169,6 +205,7 @@ down_read t words l held step intent slots asked = go (unpacked (count_at words 
     go : (o : Option Word) → Goes t words words (doings.Dropping held (down_plan l held.place attempt.Loading)) (down_by t l held (count_at words l held.place) (strong_down_row o))
     go None = more
     go (Some word.Free) = more
+    go (Some word.Immortal) = more
     go (Some (word.Slow e)) = record { layout = refl; phases = refl; program = refl; count = refl; phase = stays t.asked step intent t.phase asked; fewer = omega arith }
     go (Some (word.Counts c)) = record { layout = refl; phases = refl; program = refl; count = refl; phase = refl; fewer = rw (eqb_same (count_at words l held.place)) (omega arith) }
 
@@ -187,6 +224,7 @@ down_made t words after l held seen new slots = go (eqb (count_at words l held.p
     hit : (o : Option Word) → eqb (count_at words l held.place) seen ≡ true → Goes t words after (doings.Dropping held (down_plan l held.place (attempt.Exchanging seen new))) (down_told t l held (strong_down_end o))
     hit None e = more e
     hit (Some word.Free) e = more e
+    hit (Some word.Immortal) e = more e
     hit (Some (word.Slow x)) e = more e
     hit (Some (word.Counts c)) e = counted (eqb c.strong_extra 0) e
 
@@ -219,6 +257,7 @@ finish_read t words l shape s event slots = go (unpacked (count_at words l s))
     go : (o : Option Word) → Goes t words words (doings.Dying (dying_state l shape s event (at.Finishing (down_plan l s attempt.Loading)))) (dying_by t l shape s event attempt.Loading (exchanging (count_at words l s) (unowned_down_row o)) (chosen (number l (Count s)) (count_at words l s) (unowned_down_row o)))
     go None = over t words words _ _ slots (omega arith)
     go (Some word.Free) = over t words words _ _ slots (omega arith)
+    go (Some word.Immortal) = over t words words _ _ slots (omega arith)
     go (Some (word.Slow e)) = over t words words _ _ slots (omega arith)
     go (Some (word.Counts c)) = record { layout = refl; phases = refl; program = refl; count = refl; phase = refl; fewer = rw (eqb_same (count_at words l s)) (omega arith) }
 
@@ -238,6 +277,7 @@ finish_made t words after l shape s event seen new slots = go (eqb (count_at wor
     hit : (o : Option Word) → eqb (count_at words l s) seen ≡ true → Gone t words after l shape s event seen new (unowned_down_end o)
     hit None e = over t words after _ _ slots (rw e (omega arith))
     hit (Some word.Free) e = over t words after _ _ slots (rw e (omega arith))
+    hit (Some word.Immortal) e = over t words after _ _ slots (rw e (omega arith))
     hit (Some (word.Slow x)) e = over t words after _ _ slots (rw e (omega arith))
     hit (Some (word.Counts c)) e = counted (eqb c.unowned 1) e
 
@@ -258,20 +298,24 @@ falls_at shape t words step intent d slots asked a u o = go d a u o
     l : Extent
     l = extent_of shape
 
-    making : (to : ℕ) (name : ObjectName) (slot : ℕ) (x : Search) → SearchAsks shape t.asked name slot x → slot < t.layout.slots → t.index < length t.program → Falls t words step (doings.Making to name slot (record { layout = extent_of shape; name = name; at = x }))
-    making to name slot search.Start h lt here = absurd h
-    making to name slot (search.Trying x) h lt here =
-        let is : step ≡ trial (extent_of shape) slot = rw (h.0) at (asked_is t.asked step (trial (extent_of shape) x) intent (intents.New name.class) asked h.1) in
-        rw (is, h.0) (trying t words (made_by (trial (extent_of shape) slot) words) (extent_of shape) to name slot (count_at words (extent_of shape) slot) slots lt)
-    making to name slot (search.Naming x) h lt here =
-        rw (h.0) (named t words (made_by step words) (extent_of shape) to name slot (found_by step words) slots here)
-    making to name slot search.Ended h lt here = absurd h
+    making : (to : ℕ) (name : ObjectName) (immortal : Bool) (x : Search) → SearchAsks shape t.asked name x → extent_of shape ≡ t.layout → IsMakingIn t.layout x → t.index < length t.program →
+        Falls t words step (making_at (extent_of shape) to name immortal x)
+    making to name immortal search.Start h same inside here = absurd h
+    making to name immortal (search.Looking k) h same inside here =
+        let is = asked_is t.asked step (looking (extent_of shape) k) intent (intents.New name.class) asked h in
+        rw is (looking_on t words (extent_of shape) to name immortal k slots (subst (λ (e : Extent). k < words_of e.slots) (sym same) inside))
+    making to name immortal (search.Taking s seen) h same inside here =
+        let is = asked_is t.asked step (taking (extent_of shape) s) intent (intents.New name.class) asked h in
+        rw is (taking_on t words (made_by (taking (extent_of shape) s) words) (extent_of shape) to name immortal s seen same)
+    making to name immortal (search.Counting s) h same inside here = counted_on t words (made_by step words) (extent_of shape) to name immortal s (found_by step words)
+    making to name immortal (search.Naming s) h same inside here = named t words (made_by step words) (extent_of shape) to name immortal s (found_by step words) slots here
+    making to name immortal search.Ended h same inside here = absurd h
 
     copying : (to : ℕ) (held : Held) (x : AttemptAt) → AttemptAsks shape t.asked held.place (intents.Copy (Hand held.hand)) x → t.index < length t.program → Falls t words step (doings.Copying to held (up_plan (extent_of shape) held.place shape.caps.strong x))
     copying to held attempt.Start h here = absurd h
     copying to held attempt.Loading h here =
         let is = asked_is t.asked step (Load (number (extent_of shape) (Count held.place))) intent (intents.Copy (Hand held.hand)) asked h in
-        rw is (up_read t words (extent_of shape) shape.caps.strong to held step intent asked)
+        rw is (up_read t words (extent_of shape) shape.caps.strong to held step intent slots here asked)
     copying to held (attempt.Exchanging seen new) h here =
         let is = asked_is t.asked step (Exchange (number (extent_of shape) (Count held.place)) seen new) intent (intents.Copy (Hand held.hand)) asked h in
         rw is (up_made t words (made_by (Exchange (number (extent_of shape) (Count held.place)) seen new) words) (extent_of shape) shape.caps.strong to held seen new slots here)
@@ -314,7 +358,9 @@ falls_at shape t words step intent d slots asked a u o = go d a u o
 
     go : (d : Doing) → Asks shape t d → IsUnderWay t.layout t.shape (length t.vars) d → IsInOperation t d → Falls t words step d
     go doings.Ready a u o = absurd (let k : t.asked ≡ moves.PhaseEnd = a in cc)
-    go (doings.Making to name slot plan) a u o = rw (a.0) (making to name slot plan.at a.1 u.1 o.0)
+    go (doings.Making to name plan) a u o =
+        let same : extent_of shape ≡ t.layout = sym (ap (λ (p : Creation). p.layout) a.0) ∙ u.1 in
+        rw (a.0) (making to name (class_at shape name.class).immortal plan.at a.1 same u.3 o.0)
     go (doings.Copying to held plan) a u o = rw (a.0) (copying to held plan.at a.1 o.0)
     go (doings.Dropping held plan) a u o = rw (a.0) (dropping held plan.at a.1)
     go (doings.Dying c) a u o = rw (a.0) (dying c.slot c.event c.at a.1)
@@ -331,11 +377,13 @@ ready shape t d a asked = go d a
     stepping : (step : Step) (intent : Intent) → t.asked ≡ moves.Step step intent → ⊥
     stepping step intent h = cc
 
-    making : (name : ObjectName) (slot : ℕ) (x : Search) → SearchAsks shape t.asked name slot x → ⊥
-    making name slot search.Start h = h
-    making name slot (search.Trying s) h = stepping _ _ h.1
-    making name slot (search.Naming s) h = stepping _ _ h.1
-    making name slot search.Ended h = h
+    making : (name : ObjectName) (x : Search) → SearchAsks shape t.asked name x → ⊥
+    making name search.Start h = h
+    making name (search.Looking k) h = stepping _ _ h
+    making name (search.Taking s seen) h = stepping _ _ h
+    making name (search.Counting s) h = stepping _ _ h
+    making name (search.Naming s) h = stepping _ _ h
+    making name search.Ended h = h
 
     attempting : (s : ℕ) (intent : Intent) (x : AttemptAt) → AttemptAsks shape t.asked s intent x → ⊥
     attempting s intent attempt.Start h = h
@@ -360,7 +408,7 @@ ready shape t d a asked = go d a
 
     go : (d : Doing) → Asks shape t d → d ≡ doings.Ready
     go doings.Ready a = refl
-    go (doings.Making to name slot plan) a = absurd (making name slot plan.at a.1)
+    go (doings.Making to name plan) a = absurd (making name plan.at a.1)
     go (doings.Copying to held plan) a = absurd (attempting held.place _ plan.at a.1)
     go (doings.Dropping held plan) a = absurd (attempting held.place _ plan.at a.1)
     go (doings.Dying c) a = absurd (dying c.slot c.at a.1)

@@ -160,6 +160,8 @@ op_comes o t rest here slots later = at o
     at (op.Load to of) = skips answers.Nil
     at (op.Get to cell) = skips answers.Nil
     at (op.Set cell from) = skips answers.Nil
+    at (op.IfNil v past) = skips answers.Nil
+    at (op.IfSome v past) = skips answers.Nil
 
 -- the thread goes on to the first of these operations that asks for a step
 begins_at : (ops : List Op) (t : Thread) → t.layout.slots ≤ 4096 → length ops ≤ length t.program - t.index → Comes t (begun_at ops t) (4200 * units t)

@@ -1,12 +1,13 @@
 -- How many steps a thread may still make in its phase, where nobody else makes one meanwhile.
-use Rattle.std.specs.Prelude.{ℕ, ◌+◌, ◌-◌, ◌*◌, ◌==◌, if◌then◌else◌, List, length, slice_index, sum_by, Option, Some, None}
+use Rattle.std.specs.Prelude.{ℕ, ◌+◌, ◌-◌, ◌*◌, ◌/◌, ◌==◌, bit_and, if◌then◌else◌, List, length, slice_index, sum_by, Option, Some, None}
 use Rattle.arc_rule.specs.Places.{number}
-use Rattle.arc_rule.specs.declared.layout.Place.TheVariants.{Count}
+use Rattle.arc_rule.specs.declared.layout.Place.TheVariants.{Count, SlotBits}
 use Rattle.arc_plan.specs.declared.attempt.At.{At as AttemptAt}
 use Rattle.arc_plan.specs.declared.attempt.At.TheVariants.{Loading, Exchanging}
 use Rattle.arc_plan.specs.declared.slots.Making.{Making as Search}
-use Rattle.arc_plan.specs.declared.slots.Making.TheVariants.{Trying}
+use Rattle.arc_plan.specs.declared.slots.Making.TheVariants.{Looking, Taking, Counting}
 use Rattle.arc_rule.specs.Extents.{Extent}
+use Rattle.arc_rule.specs.Bits.{words_of, bit_of}
 use Rattle.arc_cells.specs.declared.cascade.At.{At}
 use Rattle.arc_cells.specs.declared.cascade.At.TheVariants.{Entering, Naming, Leaving, Finishing}
 use Rattle.arc_ops.specs.declared.stepper.Held.{Held}
@@ -26,9 +27,13 @@ units t = 2 * (length t.program - t.index) + sum_by held_unit t.vars
 abbrev pub busy_units : Thread → ℕ
 busy_units t = 2 * (length t.program - t.index) - 1 + sum_by held_unit t.vars
 
-abbrev pub search_left : ℕ → Search → ℕ
-search_left slots (Trying s) = slots - s + 12
-search_left slots _ = 11
+-- The words of bits that are still to be read, the step that takes a slot, and the stores of the object's words. A slot whose bit is set by now
+-- is looked for again.
+abbrev pub search_left : List ℕ → Extent → Search → ℕ
+search_left words l (Looking word) = words_of l.slots - word + 15
+search_left words l (Taking slot seen) = if bit_and (slice_index words (number l (SlotBits (slot / 64)))) (bit_of slot) == 0 then 13 else words_of l.slots + 16
+search_left words l (Counting slot) = 12
+search_left words l _ = 11
 
 -- An attempt that has read another word than the one that is there now is made again.
 abbrev pub attempt_left : ℕ → AttemptAt → ℕ
@@ -48,7 +53,7 @@ cascade_left words (Finishing p) = 1 + attempt_left (count_at words p.layout p.s
 cascade_left words _ = 1
 
 abbrev pub doing_left : List ℕ → Thread → Doing → ℕ
-doing_left words t (Making to name slot plan) = 4200 * busy_units t + search_left t.layout.slots plan.at
+doing_left words t (Making to name plan) = 4200 * busy_units t + search_left words plan.layout plan.at
 doing_left words t (Copying to held plan) = 4200 * busy_units t + 10 + attempt_left (count_at words plan.layout plan.slot) plan.at
 doing_left words t (Dropping held plan) = 4200 * busy_units t + 6 + attempt_left (count_at words plan.layout plan.slot) plan.at
 doing_left words t (Dying c) = 4200 * busy_units t + cascade_left words c.at

@@ -1,3 +1,5 @@
+//! The steppers of a replay, and whose turn it is.
+
 ghost use Rattle.std.specs.Prelude.{◌≡◌, ◌<◌, ◌≤◌, ◌^◌, ◌+◌, true, false, All, length, reverse, slice_get, None, Some, IfOk, OnOk, IsTrue};
 ghost use Rattle.arc_rule.specs.Places.{extent_of};
 ghost use Rattle.arc_rule.specs.Steps.{place_of, found_by};

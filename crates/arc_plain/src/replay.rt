@@ -1,3 +1,5 @@
+//! The replay of a script by its schedule.
+
 ghost use Rattle.std.specs.Prelude.{◌≡◌, ◌≤◌, drop, length, IfOk};
 ghost use Rattle.arc_script.specs.Valid.{IsScript};
 ghost use Rattle.arc_ops.specs.Served.{IsServed};

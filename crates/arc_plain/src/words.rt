@@ -1,3 +1,5 @@
+//! The words of a heap as a plain vector.
+
 ghost use Rattle.std.specs.Prelude.{◌≡◌, ◌<◌, None, length, replicate, IfOk};
 ghost use Rattle.arc_rule.specs.Places.{extent_of, word_count};
 ghost use Rattle.arc_rule.specs.Steps.{place_of, found_by, made_by};
@@ -32,8 +34,8 @@ impl PlainWords {
         Ok(PlainWords { words })
     }
 
-    /// Makes one step, and gives back the word that a load or an exchange finds, and 0 for a store. An exchange writes where it
-    /// finds the old word. Takes no memory.
+    /// Makes one step, and gives back the word that it finds, and 0 for a store. An exchange writes where it finds the old word.
+    /// Takes no memory.
     pub fn step(&mut self, step: Step) -> u64
         requires { place_of step < length self.old }
         ensures found { result ≡ found_by step self.old }
@@ -51,6 +53,16 @@ impl PlainWords {
             Step::Store { place, new } => {
                 self.words[place as usize] = new;
                 0
+            }
+            Step::Or { place, bits } => {
+                let word = self.words[place as usize];
+                self.words[place as usize] = word | bits;
+                word
+            }
+            Step::And { place, bits } => {
+                let word = self.words[place as usize];
+                self.words[place as usize] = word & bits;
+                word
             }
         }
     }

@@ -1,19 +1,22 @@
-//! Scripts, and the events and lines of their replays. Each step is counted by hand: `new` exchanges the word of slot after slot until
-//! one is free and then writes the name, a copy and a drop load the count and exchange it, and the deinit behind a last drop makes six
-//! steps: next word, name (here stands its line), next word, count, count (here is `finish`), and the slot (here is `vacate`).
+//! Scripts, and the events and lines of their replays. Each step is counted by hand: `new` loads the bits of the slots, sets the first
+//! one that is clear (here is `new`) and writes the count and the name, a copy and a drop load the count and exchange it, and the deinit
+//! behind a last drop makes six steps: next word, name (here stands its line), next word, count, count (here is `finish`), and the bit of
+//! the slot (here is `vacate`).
 //!
-//! No thread here sees an object of another, so the one exchange that another thread can make fail is that of `new`.
+//! No thread here sees an object of another, so the one step that another thread can make vain is that which sets a bit: it finds the bit
+//! set that was clear when it was loaded, and `new` is begun again.
 
 use arc_model::{Act, ObjectName, Origin};
 use arc_ops::Answer;
 
-/// A script with its replay: the step, the thread and the act of each event, the operation and the answer of each thread's lines, and
-/// the number of steps.
+/// A script with its replay: the step, the thread and the act of each event, the operation and the answer of each thread's lines, the
+/// number of steps, and the bits of the slots that are taken in the end.
 pub struct Row {
     pub text: &'static str,
     pub events: &'static [(u64, u32, Act)],
     pub lines: &'static [&'static [(u32, Answer)]],
     pub steps: u64,
+    pub taken: u64,
 }
 
 const NEW_IN_0: Act = Act::New {
@@ -40,6 +43,12 @@ const LEAF_IN_1: Act = Act::New {
     slot: 1,
 };
 
+const OTHER_IN_1: Act = Act::New {
+    hand: 3,
+    class: 1,
+    slot: 1,
+};
+
 const COPY: Act = Act::Copy {
     from: Origin::Hand(1),
     hand: 2,
@@ -60,6 +69,16 @@ const DROP_SECOND: Act = Act::Drop {
     last: true,
 };
 
+const DROP_SECOND_MORE: Act = Act::Drop {
+    hand: 2,
+    last: false,
+};
+
+const DROP_THIRD: Act = Act::Drop {
+    hand: 3,
+    last: true,
+};
+
 const FINISH_0: Act = Act::Finish {
     slot: 0,
     last: true,
@@ -74,7 +93,7 @@ const VACATE_0: Act = Act::Vacate { slot: 0 };
 
 const VACATE_1: Act = Act::Vacate { slot: 1 };
 
-/// The first Node of thread 1.
+/// The first object of thread 1, of class 0.
 const NODE: ObjectName = ObjectName {
     class: 0,
     thread: 1,
@@ -102,6 +121,13 @@ const NODE_OF_3: ObjectName = ObjectName {
     number: 1,
 };
 
+/// The second object of thread 1, of class 1.
+const NEXT_LEAF: ObjectName = ObjectName {
+    class: 1,
+    thread: 1,
+    number: 2,
+};
+
 /// The first Leaf of thread 2.
 const LEAF_OF_2: ObjectName = ObjectName {
     class: 1,
@@ -116,33 +142,35 @@ pub static ROWS: &[Row] = &[
         events: &[],
         lines: &[],
         steps: 0,
+        taken: 0,
     },
     // the smallest life
     Row {
         text: "arc 1\nslots 1\nentries 1\nclass Node\nthread 1\nvar a strong Node\nnew a Node\ndrop a\ndone\n",
         events: &[
-            (1, 1, NEW_IN_0),
-            (4, 1, DROP_LAST),
-            (9, 1, FINISH_0),
-            (10, 1, VACATE_0),
+            (2, 1, NEW_IN_0),
+            (6, 1, DROP_LAST),
+            (11, 1, FINISH_0),
+            (12, 1, VACATE_0),
         ],
         lines: &[&[
             (1, Answer::New(NODE)),
             (2, Answer::Ok),
             (2, Answer::Deinit(NODE)),
         ]],
-        steps: 10,
+        steps: 12,
+        taken: 0,
     },
     // a copy keeps the object
     Row {
         text: "arc 1\nslots 1\nentries 1\nclass Node\nthread 1\nvar a strong Node\nvar b strong Node\nnew a Node\ncopy b a\ndrop a\ndrop b\ndone\n",
         events: &[
-            (1, 1, NEW_IN_0),
-            (4, 1, COPY),
-            (6, 1, DROP_MORE),
-            (8, 1, DROP_SECOND),
-            (13, 1, FINISH_0),
-            (14, 1, VACATE_0),
+            (2, 1, NEW_IN_0),
+            (6, 1, COPY),
+            (8, 1, DROP_MORE),
+            (10, 1, DROP_SECOND),
+            (15, 1, FINISH_0),
+            (16, 1, VACATE_0),
         ],
         lines: &[&[
             (1, Answer::New(NODE)),
@@ -151,17 +179,18 @@ pub static ROWS: &[Row] = &[
             (4, Answer::Ok),
             (4, Answer::Deinit(NODE)),
         ]],
-        steps: 14,
+        steps: 16,
+        taken: 0,
     },
-    // no slot is free, and the scope ends
+    // no slot is free, as the first load tells, and the scope ends
     Row {
         text: "arc 1\nslots 1\nentries 1\nclass Node\nthread 1\nvar a strong Node\nvar b strong Node\ndrop b\nnew a Node\nnew b Node\ndone\n",
         events: &[
-            (1, 1, NEW_IN_0),
-            (3, 1, Act::Full),
-            (5, 1, DROP_LAST),
-            (10, 1, FINISH_0),
-            (11, 1, VACATE_0),
+            (2, 1, NEW_IN_0),
+            (5, 1, Act::Full),
+            (7, 1, DROP_LAST),
+            (12, 1, FINISH_0),
+            (13, 1, VACATE_0),
         ],
         lines: &[&[
             (1, Answer::Nil),
@@ -169,20 +198,21 @@ pub static ROWS: &[Row] = &[
             (3, Answer::Full),
             (0, Answer::Deinit(NODE)),
         ]],
-        steps: 11,
+        steps: 13,
+        taken: 0,
     },
     // what a variable held goes when another reference is moved into it, and when nil is copied into it
     Row {
         text: "arc 1\nslots 2\nentries 1\nclass Node\nthread 1\nvar a strong Node\nvar b strong Node\nnew a Node\nnew b Node\nmove b a\ncopy b a\ndone\n",
         events: &[
-            (1, 1, NEW_IN_0),
-            (4, 1, SECOND_IN_1),
-            (7, 1, DROP_SECOND),
-            (12, 1, FINISH_1),
-            (13, 1, VACATE_1),
-            (15, 1, DROP_LAST),
-            (20, 1, FINISH_0),
-            (21, 1, VACATE_0),
+            (2, 1, NEW_IN_0),
+            (6, 1, SECOND_IN_1),
+            (10, 1, DROP_SECOND),
+            (15, 1, FINISH_1),
+            (16, 1, VACATE_1),
+            (18, 1, DROP_LAST),
+            (23, 1, FINISH_0),
+            (24, 1, VACATE_0),
         ],
         lines: &[&[
             (1, Answer::New(NODE)),
@@ -192,20 +222,21 @@ pub static ROWS: &[Row] = &[
             (4, Answer::Nil),
             (4, Answer::Deinit(NODE)),
         ]],
-        steps: 21,
+        steps: 24,
+        taken: 0,
     },
     // without places one thread goes after the other, in the order of their numbers
     Row {
         text: "arc 1\nslots 1\nentries 1\nclass Node\nthread 1\nvar a strong Node\nnew a Node\ndrop a\nthread 2\nvar a strong Node\nnew a Node\ndone\n",
         events: &[
-            (1, 1, NEW_IN_0),
-            (4, 1, DROP_LAST),
-            (9, 1, FINISH_0),
-            (10, 1, VACATE_0),
-            (11, 2, NEW_IN_0),
-            (14, 2, DROP_LAST),
-            (19, 2, FINISH_0),
-            (20, 2, VACATE_0),
+            (2, 1, NEW_IN_0),
+            (6, 1, DROP_LAST),
+            (11, 1, FINISH_0),
+            (12, 1, VACATE_0),
+            (14, 2, NEW_IN_0),
+            (18, 2, DROP_LAST),
+            (23, 2, FINISH_0),
+            (24, 2, VACATE_0),
         ],
         lines: &[
             &[
@@ -215,29 +246,31 @@ pub static ROWS: &[Row] = &[
             ],
             &[(1, Answer::New(NODE_OF_2)), (0, Answer::Deinit(NODE_OF_2))],
         ],
-        steps: 20,
+        steps: 24,
+        taken: 0,
     },
-    // one slot, turn about: thread 1 makes the odd steps, and thread 2 finds its object there at each even one until it is gone
+    // one slot, turn about: thread 1 makes the odd steps; thread 2 loads the bit while it is clear and finds it set at step 4, and then at
+    // each even step until the slot is free again
     Row {
-        text: "arc 1\nslots 1\nentries 1\nclass Node\nthread 1\nvar a strong Node\nnew a Node\ndrop a\nthread 2\nvar a strong Node\nnew a Node\nnew a Node\nnew a Node\nnew a Node\nnew a Node\nnew a Node\nnew a Node\nnew a Node\nnew a Node\nnew a Node\nschedule 1 2 1 2 1 2 1 2 1 2 1 2 1 2 1 2 1 2 1 2\ndone\n",
+        text: "arc 1\nslots 1\nentries 1\nclass Node\nthread 1\nvar a strong Node\nnew a Node\ndrop a\nthread 2\nvar a strong Node\nnew a Node\nnew a Node\nnew a Node\nnew a Node\nnew a Node\nnew a Node\nnew a Node\nnew a Node\nnew a Node\nnew a Node\nschedule 1 2 1 2 1 2 1 2 1 2 1 2 1 2 1 2 1 2 1 2 1 2 1 2\ndone\n",
         events: &[
-            (1, 1, NEW_IN_0),
-            (2, 2, Act::Full),
-            (4, 2, Act::Full),
+            (3, 1, NEW_IN_0),
             (6, 2, Act::Full),
-            (7, 1, DROP_LAST),
             (8, 2, Act::Full),
             (10, 2, Act::Full),
+            (11, 1, DROP_LAST),
             (12, 2, Act::Full),
             (14, 2, Act::Full),
             (16, 2, Act::Full),
-            (17, 1, FINISH_0),
             (18, 2, Act::Full),
-            (19, 1, VACATE_0),
-            (20, 2, NEW_IN_0),
-            (23, 2, DROP_LAST),
-            (28, 2, FINISH_0),
-            (29, 2, VACATE_0),
+            (20, 2, Act::Full),
+            (21, 1, FINISH_0),
+            (22, 2, Act::Full),
+            (23, 1, VACATE_0),
+            (25, 2, NEW_IN_0),
+            (29, 2, DROP_LAST),
+            (34, 2, FINISH_0),
+            (35, 2, VACATE_0),
         ],
         lines: &[
             &[
@@ -259,21 +292,43 @@ pub static ROWS: &[Row] = &[
                 (0, Answer::Deinit(NODE_OF_2)),
             ],
         ],
-        steps: 29,
+        steps: 35,
+        taken: 0,
+    },
+    // both threads load the bits while all are clear: thread 1 sets the first one at step 3, so thread 2 finds it set at step 4, loads the
+    // bits again at step 6 and sets the second one at step 8
+    Row {
+        text: "arc 1\nslots 2\nentries 1\nclass Node\nthread 1\nvar a strong Node\nnew a Node\nthread 2\nvar b strong Node\nnew b Node\nschedule 1 2 1 2 1 2 1 2\ndone\n",
+        events: &[
+            (3, 1, NEW_IN_0),
+            (8, 2, NEW_IN_1),
+            (10, 1, DROP_LAST),
+            (15, 1, FINISH_0),
+            (16, 1, VACATE_0),
+            (20, 2, DROP_LAST),
+            (25, 2, FINISH_1),
+            (26, 2, VACATE_1),
+        ],
+        lines: &[
+            &[(1, Answer::New(NODE)), (0, Answer::Deinit(NODE))],
+            &[(1, Answer::New(NODE_OF_2)), (0, Answer::Deinit(NODE_OF_2))],
+        ],
+        steps: 26,
+        taken: 0,
     },
     // two phases: thread 1's last place of the first phase is used up without a step, the second phase goes on with what is left, and
     // where no place is left thread 1 goes first
     Row {
-        text: "arc 1\nslots 2\nentries 1\nclass Node\nthread 1\nvar a strong Node\nnew a Node\nphase\ndrop a\nthread 2\nvar b strong Node\nnew b Node\nphase\ndrop b\nschedule 2 1 1 1 1 2\nschedule 1 2 1\ndone\n",
+        text: "arc 1\nslots 2\nentries 1\nclass Node\nthread 1\nvar a strong Node\nnew a Node\nphase\ndrop a\nthread 2\nvar b strong Node\nnew b Node\nphase\ndrop b\nschedule 2 2 1 1 1 1 1 2 2\nschedule 1 2 1\ndone\n",
         events: &[
-            (1, 2, NEW_IN_0),
-            (3, 1, NEW_IN_1),
-            (8, 1, DROP_LAST),
-            (13, 1, FINISH_1),
-            (14, 1, VACATE_1),
-            (15, 2, DROP_LAST),
-            (20, 2, FINISH_0),
-            (21, 2, VACATE_0),
+            (2, 2, NEW_IN_0),
+            (4, 1, NEW_IN_1),
+            (11, 1, DROP_LAST),
+            (16, 1, FINISH_1),
+            (17, 1, VACATE_1),
+            (18, 2, DROP_LAST),
+            (23, 2, FINISH_0),
+            (24, 2, VACATE_0),
         ],
         lines: &[
             &[
@@ -287,20 +342,21 @@ pub static ROWS: &[Row] = &[
                 (2, Answer::Deinit(NODE_OF_2)),
             ],
         ],
-        steps: 21,
+        steps: 24,
+        taken: 0,
     },
     // the second phase has no step, so it uses up no place: thread 2 begins the third one
     Row {
-        text: "arc 1\nslots 2\nentries 1\nclass Node\nclass Leaf\nthread 1\nvar a strong Node\nvar b strong Node\nnew a Node\nphase\nmove b a\nphase\ndrop b\ndrop a\nthread 2\nvar c strong Leaf\nnew c Leaf\nphase\nphase\ndrop c\nschedule 1 2 2 1 2\nschedule 2 2\ndone\n",
+        text: "arc 1\nslots 2\nentries 1\nclass Node\nclass Leaf\nthread 1\nvar a strong Node\nvar b strong Node\nnew a Node\nphase\nmove b a\nphase\ndrop b\ndrop a\nthread 2\nvar c strong Leaf\nnew c Leaf\nphase\nphase\ndrop c\nschedule 1 1 2 2 1 1 2 2\nschedule 2 2\ndone\n",
         events: &[
-            (1, 1, NEW_IN_0),
-            (3, 2, LEAF_IN_1),
-            (7, 2, DROP_LAST),
-            (9, 1, DROP_LAST),
-            (14, 1, FINISH_0),
-            (15, 1, VACATE_0),
-            (20, 2, FINISH_1),
-            (21, 2, VACATE_1),
+            (2, 1, NEW_IN_0),
+            (4, 2, LEAF_IN_1),
+            (10, 2, DROP_LAST),
+            (12, 1, DROP_LAST),
+            (17, 1, FINISH_0),
+            (18, 1, VACATE_0),
+            (23, 2, FINISH_1),
+            (24, 2, VACATE_1),
         ],
         lines: &[
             &[
@@ -316,23 +372,48 @@ pub static ROWS: &[Row] = &[
                 (2, Answer::Deinit(LEAF_OF_2)),
             ],
         ],
-        steps: 21,
+        steps: 24,
+        taken: 0,
     },
     // the places of a thread that has ended before it made a step are used up
     Row {
-        text: "arc 1\nslots 1\nentries 1\nclass Node\nthread 1\nthread 2\nvar a strong Node\nnew a Node\nthread 3\nvar a strong Node\nnew a Node\nschedule 1 3 1 2 1 3\ndone\n",
+        text: "arc 1\nslots 1\nentries 1\nclass Node\nthread 1\nthread 2\nvar a strong Node\nnew a Node\nthread 3\nvar a strong Node\nnew a Node\nschedule 1 3 3 1 2 1 3\ndone\n",
         events: &[
-            (1, 3, NEW_IN_0),
-            (2, 2, Act::Full),
-            (5, 3, DROP_LAST),
-            (10, 3, FINISH_0),
-            (11, 3, VACATE_0),
+            (2, 3, NEW_IN_0),
+            (3, 2, Act::Full),
+            (7, 3, DROP_LAST),
+            (12, 3, FINISH_0),
+            (13, 3, VACATE_0),
         ],
         lines: &[
             &[],
             &[(1, Answer::Full)],
             &[(1, Answer::New(NODE_OF_3)), (0, Answer::Deinit(NODE_OF_3))],
         ],
-        steps: 11,
+        steps: 13,
+        taken: 0,
+    },
+    // an immortal object: a copy and a drop of it are a load that shows 1, here in steps 5, 6 and 11, and its slot stays taken
+    Row {
+        text: "arc 2\nslots 2\nentries 1\nimmortal Root\nclass Node\nthread 1\nvar r strong Root\nvar s strong Root\nvar n strong Node\nnew r Root\ncopy s r\ndrop r\nnew n Node\ndone\n",
+        events: &[
+            (2, 1, NEW_IN_0),
+            (5, 1, COPY),
+            (6, 1, DROP_MORE),
+            (8, 1, OTHER_IN_1),
+            (11, 1, DROP_SECOND_MORE),
+            (13, 1, DROP_THIRD),
+            (18, 1, FINISH_1),
+            (19, 1, VACATE_1),
+        ],
+        lines: &[&[
+            (1, Answer::New(NODE)),
+            (2, Answer::Ok),
+            (3, Answer::Ok),
+            (4, Answer::New(NEXT_LEAF)),
+            (0, Answer::Deinit(NEXT_LEAF)),
+        ]],
+        steps: 19,
+        taken: 1,
     },
 ];

@@ -1,3 +1,5 @@
+//! Tests: replays that were worked out by hand, step by step.
+
 use crate::rows::{ROWS, Row};
 use arc_model::{Act, Event, ObjectName};
 use arc_ops::{Answer, Line, Stamped, ThreadLines, is_served};
@@ -79,13 +81,14 @@ fn check_threads(
     Ok(())
 }
 
-/// The end section has no line, and each slot is free: a slot has eleven words, its count first, behind the
-/// word at place 0, and the one entry has four.
-fn check_end(rt: &impl Abort, replay: &Replay) {
+/// The end section has no line, and the words of the bits, which stand last, are these: those of the slots, and that of the one entry,
+/// which is never taken.
+fn check_end(rt: &impl Abort, replay: &Replay, slots: &[u64]) {
     assert_eq!(rt; replay.end.len(), 0);
-    let slots = replay.words.len() / 11;
-    for count in replay.words.iter().skip(1).step_by(11).take(slots) {
-        assert_eq!(rt; *count, 0);
+    assert_eq!(rt; replay.words.last(), Some(&0));
+    let bits = replay.words.iter().rev().skip(1);
+    for (word, taken) in bits.zip(slots.iter().rev()) {
+        assert_eq!(rt; *word, *taken);
     }
 }
 
@@ -96,7 +99,7 @@ fn replays_are_as_worked_out(rt: HostRuntime) -> Result<(), Fail> {
         let replay = replay_of(&rt, alloc, row.text)?;
         check_events(&rt, alloc, &replay.events, row)?;
         check_threads(&rt, alloc, &replay.threads, row)?;
-        check_end(&rt, &replay);
+        check_end(&rt, &replay, &[row.taken]);
         assert_eq!(rt; replay.steps, row.steps, "the steps of {:?}", row.text);
     }
     Ok(())
@@ -133,19 +136,112 @@ fn check_crowd(rt: &impl Abort, alloc: Global, threads: &[ThreadLines]) -> Resul
     Ok(())
 }
 
-/// One after the other they make ten steps each, in the first slot. Turn about, each thread finds the slots of the threads before it
-/// taken: 1 to 64 exchanges and nine steps behind them, the last of which is the last thread's.
+/// One after the other they make twelve steps each, in the first slot. Turn about, all threads that have no slot yet load the bits in one
+/// round and try the first clear one in the next: the lowest of them sets it, the others find it set. So thread t has its slot in round 2t,
+/// and gives it back ten rounds later; it is one of the first six.
 #[test]
 fn sixty_four_threads(rt: HostRuntime) -> Result<(), Fail> {
     let alloc = rt.alloc();
-    for (rounds, slot, steps) in [(0, 0, 640), (73, 63, 2656)] {
+    for (rounds, slot, steps) in [(0, 0, 768), (138, 3, 4800)] {
         let replay = replay_of(&rt, alloc, &crowd(alloc, rounds)?)?;
         assert_eq!(rt; replay.events.len(), 256);
         let vacated = stamped(steps, 64, Act::Vacate { slot });
         assert_eq!(rt; replay.events.last().copied(), Some(vacated));
         check_crowd(&rt, alloc, &replay.threads)?;
-        check_end(&rt, &replay);
+        check_end(&rt, &replay, &[0]);
         assert_eq!(rt; replay.steps, steps);
     }
+    Ok(())
+}
+
+/// A script of 65 slots: thread 1 makes 64 objects, which it keeps over its first phase, and thread 2 two of them.
+fn pool(alloc: Global) -> Result<String, AllocError> {
+    let mut text = "arc 1\nslots 65\nentries 1\nclass Node\nthread 1\n".to_string(alloc)?;
+    for place in 0..64u32 {
+        text.push_str(&format!(in alloc; "var v{place} strong Node\n")?)?;
+    }
+    for place in 0..64u32 {
+        text.push_str(&format!(in alloc; "new v{place} Node\n")?)?;
+    }
+    text.push_str(
+        "phase\nthread 2\nvar a strong Node\nvar b strong Node\nnew a Node\nnew b Node\ndone\n",
+    )?;
+    Ok(text)
+}
+
+/// 64 objects are made in four steps each. Thread 2 loads the full first word of the bits, finds slot 64 in the second one and takes it with
+/// its step 259; with steps 262 and 263 it finds both words full. Then it drops its object, and thread 1 its own, in eight steps each.
+#[test]
+fn two_words_of_bits(rt: HostRuntime) -> Result<(), Fail> {
+    let alloc = rt.alloc();
+    let replay = replay_of(&rt, alloc, &pool(alloc)?)?;
+    let events = replay.events.as_slice();
+    let taken = Act::New {
+        hand: 1,
+        class: 0,
+        slot: 64,
+    };
+    assert_eq!(rt; events.len(), 64 + 1 + 1 + 3 + 64 * 3);
+    assert_eq!(rt; events.get(64), Some(&stamped(259, 2, taken)));
+    assert_eq!(rt; events.get(65), Some(&stamped(263, 2, Act::Full)));
+    assert_eq!(rt;
+        events.get(68),
+        Some(&stamped(271, 2, Act::Vacate { slot: 64 }))
+    );
+    let last = stamped(783, 1, Act::Vacate { slot: 63 });
+    assert_eq!(rt; events.last(), Some(&last));
+    check_end(&rt, &replay, &[0, 0]);
+    assert_eq!(rt; replay.steps, 783);
+    Ok(())
+}
+
+/// The lines of a thread with this number, which has `count` variables, and fills `filled` of them in its first phase.
+fn push_thread(
+    alloc: Global,
+    text: &mut String,
+    thread: u32,
+    count: u32,
+    filled: u32,
+) -> Result<(), AllocError> {
+    text.push_str(&format!(in alloc; "thread {thread}\n")?)?;
+    for place in 0..count {
+        text.push_str(&format!(in alloc; "var v{place} strong Node\n")?)?;
+    }
+    for place in 0..filled {
+        text.push_str(&format!(in alloc; "new v{place} Node\n")?)?;
+    }
+    text.push_str("phase\n")
+}
+
+/// A script of 4,096 slots: in the first phase 64 threads fill all but one, in the second one thread 64 makes two objects more, and the other
+/// threads keep theirs until the third one.
+fn pool_of_most(alloc: Global) -> Result<String, AllocError> {
+    let mut text = "arc 1\nslots 4096\nentries 1\nclass Node\n".to_string(alloc)?;
+    for thread in 1..64u32 {
+        push_thread(alloc, &mut text, thread, 64, 64)?;
+        text.push_str("phase\n")?;
+    }
+    push_thread(alloc, &mut text, 64, 65, 63)?;
+    text.push_str("new v63 Node\nnew v64 Node\ndone\n")?;
+    Ok(text)
+}
+
+/// An object in slot s takes s / 64 loads of full words, a load, the bit and two stores: 145,341 steps for the first 4,095 slots. The last one
+/// takes 67 steps, of which the 65th sets its bit; and the 64th load after it tells that no slot is free.
+#[test]
+fn the_last_slot(rt: HostRuntime) -> Result<(), Fail> {
+    let alloc = rt.alloc();
+    let replay = replay_of(&rt, alloc, &pool_of_most(alloc)?)?;
+    let taken = Act::New {
+        hand: 64,
+        class: 0,
+        slot: 4095,
+    };
+    let events = replay.events.as_slice();
+    assert_eq!(rt; events.get(4095), Some(&stamped(145_341 + 65, 64, taken)));
+    let full = stamped(145_341 + 67 + 64, 64, Act::Full);
+    assert_eq!(rt; events.get(4096), Some(&full));
+    check_end(&rt, &replay, &[0; 64]);
+    assert_eq!(rt; replay.steps, 145_341 + 67 + 64 + 4096 * 8);
     Ok(())
 }

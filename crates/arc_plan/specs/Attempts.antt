@@ -1,8 +1,8 @@
 -- An attempt on one inline word: it loads the word, and answers at once or exchanges the word for another.
-use Rattle.std.specs.Prelude.{ℕ, ◌≡◌, ◌≢◌, ◌≤◌, ◌<◌, ◌==◌, if◌then◌else◌, Option, Some, None}
+use Rattle.std.specs.Prelude.{ℕ, ◌≡◌, ◌≢◌, ◌≤◌, ◌<◌, ◌==◌, if◌then◌else◌, Option, Some, None, ⊤}
 use Rattle.arc_bits.specs.declared.packing.Inline.{Inline}
 use Rattle.arc_bits.specs.declared.packing.Word.{Word}
-use Rattle.arc_bits.specs.declared.packing.Word.TheVariants.{Free, Counts, Slow}
+use Rattle.arc_bits.specs.declared.packing.Word.TheVariants.{Free, Counts, Slow, Immortal}
 use Rattle.arc_rule.specs.declared.step.Step.{Step}
 use Rattle.arc_rule.specs.declared.step.Step.TheVariants.{Load, Exchange}
 use Rattle.arc_rule.specs.declared.step.Changed.{Changed}
@@ -28,12 +28,14 @@ pub record CappedAttempt : Type 0 where
   pub cap : ℕ
   pub at : At
 
--- A slot's inline word that an attempt may be given: counts with a fact and with an unowned count of at least 1, or the number of an entry.
+-- A slot's inline word that an attempt may be given: counts with a fact and with an unowned count of at least 1, the number of an entry, or
+-- the word of an immortal object.
 abbrev pub IsCountWord : ℕ → (Inline → Type 0) → Option Word → Type 0
 IsCountWord entries Fact None = ⊥
 IsCountWord entries Fact (Some Free) = ⊥
 IsCountWord entries Fact (Some (Counts c)) = (1 ≤ c.unowned) × Fact c
 IsCountWord entries Fact (Some (Slow e)) = e < entries
+IsCountWord entries Fact (Some Immortal) = ⊤
 
 -- what may be given: nothing at the start, a word of this kind for the load, and any word for the exchange
 abbrev pub takes_at : (ℕ → Type 0) → At → Option ℕ → Type 0

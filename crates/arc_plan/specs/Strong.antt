@@ -2,7 +2,7 @@
 use Rattle.std.specs.Prelude.{ℕ, ◌≡◌, ◌≤◌, ◌==◌, false, if◌then◌else◌, Option, Some, None}
 use Rattle.std.specs.Option.{unwrap_or}
 use Rattle.arc_bits.specs.declared.packing.Word.{Word}
-use Rattle.arc_bits.specs.declared.packing.Word.TheVariants.{Free, Counts, Slow}
+use Rattle.arc_bits.specs.declared.packing.Word.TheVariants.{Free, Counts, Slow, Immortal}
 use Rattle.arc_bits.specs.Words.{packed, unpacked}
 use Rattle.arc_bits.specs.Moves.{strong_more, strong_less}
 use Rattle.arc_rule.specs.declared.layout.Place.TheVariants.{Count}
@@ -17,12 +17,13 @@ use Rattle.arc_plan.specs.declared.strong.StrongDownAnswer.{StrongDownAnswer}
 use Rattle.arc_plan.specs.declared.strong.StrongDownAnswer.TheVariants as downs
 use Rattle.arc_plan.specs.Attempts.{Attempt, CappedAttempt, IsCountWord, takes_at, turned_at, answer_at}
 
--- by the word read: Dead where it is deiniting, AtCap at the cap, Slow with the entry; else one strong reference more
+-- by the word read: Dead where it is deiniting, AtCap at the cap, Slow with the entry, and Up where the object is immortal; else one strong reference more
 abbrev pub strong_up_row : ℕ → Option Word → Choice StrongUpAnswer
 strong_up_row cap (Some (Counts c)) =
     if c.deiniting then Tell ups.Dead else
     if c.strong_extra == cap then Tell ups.AtCap else Write (packed (Counts (strong_more c)))
 strong_up_row cap (Some (Slow e)) = Tell (ups.Slow e)
+strong_up_row cap (Some Immortal) = Tell ups.Up
 strong_up_row cap (Some Free) = Tell ups.Dead
 strong_up_row cap None = Tell ups.Dead
 
@@ -42,10 +43,11 @@ abbrev pub strong_up_change : StrongUpAnswer → Option Changed
 strong_up_change (ups.Again c) = Some c
 strong_up_change _ = None
 
--- by the word read: Slow with the entry; else one strong reference fewer, or deiniting
+-- by the word read: Slow with the entry, and More where the object is immortal; else one strong reference fewer, or deiniting
 abbrev pub strong_down_row : Option Word → Choice StrongDownAnswer
 strong_down_row (Some (Counts c)) = Write (packed (Counts (strong_less c)))
 strong_down_row (Some (Slow e)) = Tell (downs.Slow e)
+strong_down_row (Some Immortal) = Tell downs.More
 strong_down_row (Some Free) = Tell downs.More
 strong_down_row None = Tell downs.More
 
@@ -53,6 +55,7 @@ strong_down_row None = Tell downs.More
 abbrev pub strong_down_end : Option Word → StrongDownAnswer
 strong_down_end (Some (Counts c)) = if c.strong_extra == 0 then downs.Last else downs.More
 strong_down_end (Some (Slow e)) = downs.More
+strong_down_end (Some Immortal) = downs.More
 strong_down_end (Some Free) = downs.More
 strong_down_end None = downs.More
 

@@ -2,7 +2,7 @@
 use Rattle.std.specs.Prelude.{ℕ, ◌≡◌, ◌≤◌, ◌==◌, false, if◌then◌else◌, Option, Some, None}
 use Rattle.std.specs.Option.{unwrap_or}
 use Rattle.arc_bits.specs.declared.packing.Word.{Word}
-use Rattle.arc_bits.specs.declared.packing.Word.TheVariants.{Free, Counts, Slow}
+use Rattle.arc_bits.specs.declared.packing.Word.TheVariants.{Free, Counts, Slow, Immortal}
 use Rattle.arc_bits.specs.Words.{packed, unpacked}
 use Rattle.arc_bits.specs.Moves.{unowned_more, unowned_less}
 use Rattle.arc_rule.specs.declared.layout.Place.TheVariants.{Count}
@@ -17,11 +17,12 @@ use Rattle.arc_plan.specs.declared.unowned.UnownedDownAnswer.{UnownedDownAnswer}
 use Rattle.arc_plan.specs.declared.unowned.UnownedDownAnswer.TheVariants as downs
 use Rattle.arc_plan.specs.Attempts.{Attempt, CappedAttempt, IsCountWord, takes_at, turned_at, answer_at}
 
--- by the word read: AtCap at the cap, Slow with the entry; else one unowned reference more
+-- by the word read: AtCap at the cap, Slow with the entry, and Up where the object is immortal; else one unowned reference more
 abbrev pub unowned_up_row : ℕ → Option Word → Choice UnownedUpAnswer
 unowned_up_row cap (Some (Counts c)) =
     if c.unowned == cap then Tell ups.AtCap else Write (packed (Counts (unowned_more c)))
 unowned_up_row cap (Some (Slow e)) = Tell (ups.Slow e)
+unowned_up_row cap (Some Immortal) = Tell ups.Up
 unowned_up_row cap (Some Free) = Tell ups.AtCap
 unowned_up_row cap None = Tell ups.AtCap
 
@@ -41,10 +42,11 @@ abbrev pub unowned_up_change : UnownedUpAnswer → Option Changed
 unowned_up_change (ups.Again c) = Some c
 unowned_up_change _ = None
 
--- by the word read: Slow with the entry; else one unowned reference fewer
+-- by the word read: Slow with the entry, and More where the object is immortal; else one unowned reference fewer
 abbrev pub unowned_down_row : Option Word → Choice UnownedDownAnswer
 unowned_down_row (Some (Counts c)) = Write (packed (Counts (unowned_less c)))
 unowned_down_row (Some (Slow e)) = Tell (downs.Slow e)
+unowned_down_row (Some Immortal) = Tell downs.More
 unowned_down_row (Some Free) = Tell downs.More
 unowned_down_row None = Tell downs.More
 
@@ -52,6 +54,7 @@ unowned_down_row None = Tell downs.More
 abbrev pub unowned_down_end : Option Word → UnownedDownAnswer
 unowned_down_end (Some (Counts c)) = if c.unowned == 1 then downs.Last else downs.More
 unowned_down_end (Some (Slow e)) = downs.More
+unowned_down_end (Some Immortal) = downs.More
 unowned_down_end (Some Free) = downs.More
 unowned_down_end None = downs.More
 

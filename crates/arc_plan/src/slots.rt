@@ -1,12 +1,14 @@
-ghost use Rattle.std.specs.Prelude.{◌≡◌};
+ghost use Rattle.std.specs.Prelude.{◌≡◌, ◌<◌, ◌≤◌, ◌/◌, Some, IfSome};
+ghost use Rattle.arc_rule.specs.Bits.{words_of, bit_of};
 ghost use Rattle.arc_rule.specs.Isa.{IsName};
 ghost use Rattle.arc_rule.specs.Places.{IsPlace, number};
+ghost use Rattle.arc_rule.specs.Plans.{WaitsFor, FewerLeft, RestsOn, HoldsChange};
 ghost use Rattle.arc_rule.specs.declared.layout.Place.TheVariants.{Count, Isa};
-ghost use Rattle.arc_plan.specs.Slots.{creation_takes, creation_turned, creation_answer, creation_asked, creation_left, trial, vacate_takes, vacate_answer, vacate_asked, name_of_takes, one_turned, name_of_answer, name_of_asked, one_left, no_reading, no_change};
+ghost use Rattle.arc_plan.specs.Slots.{creation_takes, creation_turned, creation_answer, creation_asked, creation_left, creation_rests, creation_change, free_slot, slot_taken, looked, looked_answer, looking, taking, new_word, IsTaking, vacate_takes, vacate_answer, vacate_asked, name_of_takes, one_turned, name_of_answer, name_of_asked, one_left, no_reading, no_change};
 
 use arc_bits::{Inline, Word, pack};
 use arc_model::ObjectName;
-use arc_rule::{Layout, Next, Plan, Step, isa_name, isa_word};
+use arc_rule::{Changed, Layout, Next, Plan, Step, isa_name, isa_word};
 use std::alloc::AllocError;
 use std::marker::Model;
 
@@ -17,14 +19,20 @@ pub enum NewObjectAnswer {
     Slot(u32),
     /// Each slot was found taken.
     NoSlot,
+    /// The slot was taken in the meantime: its bit was clear in the one word, and set in the other.
+    Again(Changed),
 }
 
 /// Where the making of an object is.
 #[derive(Clone, Copy, Debug, PartialEq, Eq)]
 pub enum Making {
     Start,
-    /// It asked for the slot, and waits for the word that was found.
-    Trying { slot: u32 },
+    /// It waits for a word of the slots' bits.
+    Looking { word: u32 },
+    /// It sets the slot's bit, which was clear in the word `seen`, and waits for the word that was found.
+    Taking { slot: u32, seen: u64 },
+    /// It has the slot, and stores the inline word.
+    Counting { slot: u32 },
     /// It has the slot, and stores the name.
     Naming { slot: u32 },
     Ended,
@@ -38,12 +46,13 @@ pub enum Once {
     Ended,
 }
 
-/// An object is made in the first slot that is free: for each slot from 0 one exchange of its inline word, until one succeeds, and
-/// then a store of the isa word.
+/// An object is made in the first slot that is free: the words of the slots' bits are loaded in turn until one has a clear bit, that
+/// bit is set, and then the inline word and the isa word are stored.
 #[derive(Debug)]
 pub struct NewObject {
     layout: Layout,
     name: ObjectName,
+    immortal: bool,
     at: Making,
 }
 
@@ -52,11 +61,11 @@ impl Model for NewObject {
 
     ghost Value = { Creation };
 
-    ghost view = { λ p. record { layout = p.layout; name = p.name; at = p.at } };
+    ghost view = { λ p. record { layout = p.layout; name = p.name; immortal = p.immortal; at = p.at } };
 
     ghost invariant = { λ p. IsCreation p.layout p.name p.at };
 
-    ghost inverse = { λ p. record { layout = p.layout; name = p.name; at = p.at } };
+    ghost inverse = { λ p. record { layout = p.layout; name = p.name; immortal = p.immortal; at = p.at } };
 }
 
 impl Clone for NewObject {
@@ -70,25 +79,83 @@ impl Clone for NewObject {
 impl Copy for NewObject {}
 
 impl NewObject {
-    ghost use Rattle.arc_plan.specs.declared.slots.Making.TheVariants.{Start};
+    ghost use Rattle.arc_plan.specs.declared.slots.Making.TheVariants.{Start, Looking};
 
-    /// The making of the object with this name.
-    pub fn start(layout: &Layout, name: ObjectName) -> NewObject
+    /// The making of the object with this name. `immortal` says whether its class is.
+    pub fn start(layout: &Layout, name: ObjectName, immortal: bool) -> NewObject
         requires { IsName name }
-        ensures { result ≡ record { layout = layout.now; name = name; at = Start } }
+        ensures { result ≡ record { layout = layout.now; name = name; immortal = immortal; at = Start } }
     {
         NewObject {
             layout: *layout,
             name,
+            immortal,
             at: Making::Start,
         }
     }
+
+    /// The slot that its last step took: both words of the new object are still to be stored.
+    pub fn took(&self) -> Option<u32>
+        ensures { result ≡ slot_taken self.now.at }
+    {
+        match self.at {
+            Making::Counting { slot } => Some(slot),
+            _ => None,
+        }
+    }
+
+    /// After the word of the slots' bits: the lowest slot that it leaves free is taken, or the next word is read.
+    fn look_on(&mut self, word: u32, bits: u64) -> Next<NewObjectAnswer>
+        requires at { self.old.at ≡ Looking word }
+        ensures turned { self.new ≡ record self.old { at = looked self.old.layout.slots word bits (free_slot self.old.layout.slots word bits) } }
+        ensures answer { result ≡ looked_answer self.old.layout word (free_slot self.old.layout.slots word bits) }
+        ensures waits { WaitsFor result (creation_asked self.new) }
+        ensures fewer { FewerLeft result (creation_left self.old) (creation_left self.new) }
+        ensures rests { RestsOn (creation_asked self.old) (Some bits) (creation_rests self.old) (creation_rests self.new) }
+        ensures change { HoldsChange creation_change (creation_asked self.old) (Some bits) (creation_rests self.old) result }
+    {
+        let layout = self.layout;
+        if let Some(slot) = free_slot(layout.slots(), word, bits) {
+            self.at = Making::Taking { slot, seen: bits };
+            return Next::Step(taking(&layout, slot));
+        }
+        if word + 1 < layout.slot_words() {
+            self.at = Making::Looking { word: word + 1 };
+            return Next::Step(looking(&layout, word + 1));
+        }
+        self.at = Making::Ended;
+        Next::Done(NewObjectAnswer::NoSlot)
+    }
 }
 
-/// One strong reference, and one unowned reference on its behalf.
-fn new_object_word() -> u64
-    ensures { result ≡ 2 }
+fn bit(slot: u32) -> u64
+    ensures { result ≡ bit_of slot }
 {
+    1u64 << (slot % 64)
+}
+
+/// The lowest slot whose bit is clear in this word of the slots' bits.
+fn free_slot(slots: u32, word: u32, bits: u64) -> Option<u32>
+    requires some { word < words_of slots }
+    requires few { slots ≤ 4096 }
+    ensures free { result ≡ free_slot slots word bits }
+    ensures clear { IfSome result (λ s. IsTaking slots s bits × (s / 64 ≡ word)) }
+{
+    let slot = 64 * word + bits.trailing_ones();
+    if slot < slots.min(64 * (word + 1)) {
+        Some(slot)
+    } else {
+        None
+    }
+}
+
+/// One strong reference, and one unowned reference on its behalf, or the word of an immortal object.
+fn new_word(immortal: bool) -> u64
+    ensures { result ≡ new_word immortal }
+{
+    if immortal {
+        return pack(Word::Immortal);
+    }
     pack(Word::Counts(Inline {
         strong_extra: 0,
         unowned: 1,
@@ -96,14 +163,23 @@ fn new_object_word() -> u64
     }))
 }
 
-fn trial(layout: &Layout, slot: u32) -> Step
-    requires { IsPlace layout.now (Count slot) }
-    ensures { result ≡ trial layout.now slot }
+fn looking(layout: &Layout, word: u32) -> Step
+    requires { word < words_of layout.now.slots }
+    ensures { result ≡ looking layout.now word }
 {
-    Step::Exchange {
-        place: layout.count_of(slot),
-        old: 0,
-        new: new_object_word(),
+    let _few = layout.slots();
+    Step::Load {
+        place: layout.slot_bits(64 * word),
+    }
+}
+
+fn taking(layout: &Layout, slot: u32) -> Step
+    requires { slot < layout.now.slots }
+    ensures { result ≡ taking layout.now slot }
+{
+    Step::Or {
+        place: layout.slot_bits(slot),
+        bits: bit(slot),
     }
 }
 
@@ -120,32 +196,35 @@ impl Plan for NewObject {
 
     ghost left = { creation_left };
 
-    ghost rests = { no_reading };
+    ghost rests = { creation_rests };
 
-    ghost changed = { no_change };
+    ghost changed = { creation_change };
 
     fn next(&mut self, last: Option<u64>) -> Next<NewObjectAnswer> {
-        let word = last.unwrap_or(0);
-        let slots = self.layout.slots();
+        let found = last.unwrap_or(0);
         match self.at {
             Making::Start => {
-                self.at = Making::Trying { slot: 0 };
-                Next::Step(trial(&self.layout, 0))
+                self.at = Making::Looking { word: 0 };
+                Next::Step(looking(&self.layout, 0))
             }
-            Making::Trying { slot } => {
-                if word == 0 {
-                    self.at = Making::Naming { slot };
-                    return Next::Step(Step::Store {
-                        place: self.layout.isa_of(slot),
-                        new: isa_word(self.name),
-                    });
+            Making::Looking { word } => self.look_on(word, found),
+            Making::Taking { slot, seen } => {
+                if found & bit(slot) != 0 {
+                    self.at = Making::Ended;
+                    return Next::Done(NewObjectAnswer::Again(Changed { seen, found }));
                 }
-                if slot + 1 < slots {
-                    self.at = Making::Trying { slot: slot + 1 };
-                    return Next::Step(trial(&self.layout, slot + 1));
-                }
-                self.at = Making::Ended;
-                Next::Done(NewObjectAnswer::NoSlot)
+                self.at = Making::Counting { slot };
+                Next::Step(Step::Store {
+                    place: self.layout.count_of(slot),
+                    new: new_word(self.immortal),
+                })
+            }
+            Making::Counting { slot } => {
+                self.at = Making::Naming { slot };
+                Next::Step(Step::Store {
+                    place: self.layout.isa_of(slot),
+                    new: isa_word(self.name),
+                })
             }
             Making::Naming { slot } => {
                 self.at = Making::Ended;
@@ -156,7 +235,7 @@ impl Plan for NewObject {
     }
 }
 
-/// The slot is given up: a store of 0 as its inline word.
+/// The slot is given up: its bit is cleared.
 #[derive(Debug)]
 pub struct Vacate {
     layout: Layout,
@@ -225,9 +304,9 @@ impl Plan for Vacate {
         match self.at {
             Once::Start => {
                 self.at = Once::Asked;
-                Next::Step(Step::Store {
-                    place: self.layout.count_of(self.slot),
-                    new: 0,
+                Next::Step(Step::And {
+                    place: self.layout.slot_bits(self.slot),
+                    bits: !bit(self.slot),
                 })
             }
             Once::Asked => {

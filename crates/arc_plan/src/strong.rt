@@ -27,7 +27,7 @@ pub enum StrongUpAnswer {
     Again(Changed),
 }
 
-/// A retain by the inline word of a slot: one load and one exchange.
+/// A retain by the inline word of a slot: one load, and one exchange unless the object is immortal.
 #[derive(Debug)]
 pub struct StrongUp {
     layout: Layout,
@@ -91,6 +91,7 @@ impl StrongUp {
                 }
             }
             Some(Word::Slow(entry)) => Choice::Tell(StrongUpAnswer::Slow(entry)),
+            Some(Word::Immortal) => Choice::Tell(StrongUpAnswer::Up),
             Some(Word::Free) => unreachable!(),
             None => unreachable!(),
         }
@@ -162,7 +163,7 @@ pub enum StrongDownAnswer {
     Again(Changed),
 }
 
-/// A release by the inline word of a slot: one load and one exchange.
+/// A release by the inline word of a slot: one load, and one exchange unless the object is immortal.
 #[derive(Debug)]
 pub struct StrongDown {
     layout: Layout,
@@ -214,6 +215,7 @@ impl StrongDown {
         match unpack(word) {
             Some(Word::Counts(counts)) => Choice::Write(pack(Word::Counts(strong_down(counts)))),
             Some(Word::Slow(entry)) => Choice::Tell(StrongDownAnswer::Slow(entry)),
+            Some(Word::Immortal) => Choice::Tell(StrongDownAnswer::More),
             Some(Word::Free) => unreachable!(),
             None => unreachable!(),
         }

@@ -86,6 +86,19 @@ fn counts_go_down(rt: HostRuntime) {
 }
 
 #[test]
+#[tactic(auto, unfolding(arc_bits::specs::Words::unpacked))]
+fn immortal_object_keeps_its_word(rt: HostRuntime) {
+    let layout = small_layout(rt.alloc()).expect(&rt, "a layout");
+    let mut up = StrongUp::start(&layout, 0, 5);
+    assert_eq!(rt; up.next(None), Next::Step(Step::Load { place: 1 }));
+    assert_eq!(rt; up.next(Some(1)), Next::Done(StrongUpAnswer::Up));
+    let mut down = StrongDown::start(&layout, 0);
+    assert_eq!(rt; down.next(None), Next::Step(Step::Load { place: 1 }));
+    assert_eq!(rt; down.next(Some(1)), Next::Done(StrongDownAnswer::More));
+}
+
+/// Two slots, whose bits are at place 27.
+#[test]
 fn second_slot_is_taken_named_and_left(rt: HostRuntime) {
     let layout = small_layout(rt.alloc()).expect(&rt, "a layout");
     let name = ObjectName {
@@ -93,9 +106,16 @@ fn second_slot_is_taken_named_and_left(rt: HostRuntime) {
         thread: 1,
         number: 1,
     };
-    let mut new = NewObject::start(&layout, name);
-    assert_eq!(rt; new.next(None), Next::Step(exchange(1, 0, 2)));
-    assert_eq!(rt; new.next(Some(2)), Next::Step(exchange(12, 0, 2)));
+    let mut new = NewObject::start(&layout, name, false);
+    assert_eq!(rt; new.next(None), Next::Step(Step::Load { place: 27 }));
+    assert_eq!(rt;
+        new.next(Some(1)),
+        Next::Step(Step::Or { place: 27, bits: 2 })
+    );
+    assert_eq!(rt;
+        new.next(Some(1)),
+        Next::Step(Step::Store { place: 12, new: 2 })
+    );
     assert_eq!(rt;
         new.next(Some(0)),
         Next::Step(Step::Store {
@@ -110,7 +130,33 @@ fn second_slot_is_taken_named_and_left(rt: HostRuntime) {
     let mut vacate = Vacate::start(&layout, 1);
     assert_eq!(rt;
         vacate.next(None),
-        Next::Step(Step::Store { place: 12, new: 0 })
+        Next::Step(Step::And {
+            place: 27,
+            bits: 0xffff_ffff_ffff_fffd
+        })
     );
-    assert_eq!(rt; vacate.next(Some(0)), Next::Done(()));
+    assert_eq!(rt; vacate.next(Some(3)), Next::Done(()));
+}
+
+#[test]
+fn bit_is_lost_or_none_is_clear(rt: HostRuntime) {
+    let layout = small_layout(rt.alloc()).expect(&rt, "a layout");
+    let name = ObjectName {
+        class: 0,
+        thread: 1,
+        number: 1,
+    };
+    let mut lost = NewObject::start(&layout, name, true);
+    assert_eq!(rt; lost.next(None), Next::Step(Step::Load { place: 27 }));
+    assert_eq!(rt;
+        lost.next(Some(0)),
+        Next::Step(Step::Or { place: 27, bits: 1 })
+    );
+    assert_eq!(rt;
+        lost.next(Some(1)),
+        Next::Done(NewObjectAnswer::Again(Changed { seen: 0, found: 1 }))
+    );
+    let mut full = NewObject::start(&layout, name, true);
+    assert_eq!(rt; full.next(None), Next::Step(Step::Load { place: 27 }));
+    assert_eq!(rt; full.next(Some(3)), Next::Done(NewObjectAnswer::NoSlot));
 }

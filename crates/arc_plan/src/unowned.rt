@@ -25,7 +25,7 @@ pub enum UnownedUpAnswer {
     Again(Changed),
 }
 
-/// One unowned reference more, by the inline word of a slot: one load and one exchange. The object may be deiniting.
+/// One unowned reference more, by the inline word of a slot: one load, and one exchange unless the object is immortal. The object may be deiniting.
 #[derive(Debug)]
 pub struct UnownedUp {
     layout: Layout,
@@ -84,6 +84,7 @@ impl UnownedUp {
                 Err(_) => Choice::Tell(UnownedUpAnswer::AtCap),
             },
             Some(Word::Slow(entry)) => Choice::Tell(UnownedUpAnswer::Slow(entry)),
+            Some(Word::Immortal) => Choice::Tell(UnownedUpAnswer::Up),
             Some(Word::Free) => unreachable!(),
             None => unreachable!(),
         }
@@ -155,7 +156,7 @@ pub enum UnownedDownAnswer {
     Again(Changed),
 }
 
-/// One unowned reference fewer, by the inline word of a slot: one load and one exchange.
+/// One unowned reference fewer, by the inline word of a slot: one load, and one exchange unless the object is immortal.
 #[derive(Debug)]
 pub struct UnownedDown {
     layout: Layout,
@@ -207,6 +208,7 @@ impl UnownedDown {
         match unpack(word) {
             Some(Word::Counts(counts)) => Choice::Write(pack(Word::Counts(unowned_down(counts)))),
             Some(Word::Slow(entry)) => Choice::Tell(UnownedDownAnswer::Slow(entry)),
+            Some(Word::Immortal) => Choice::Tell(UnownedDownAnswer::More),
             Some(Word::Free) => unreachable!(),
             None => unreachable!(),
         }

@@ -17,7 +17,7 @@ use Rattle.arc_script.specs.declared.script.Op.{Op}
 use Rattle.arc_programs.specs.Variables.{Held, Variables, value, put}
 use Rattle.arc_programs.specs.Programs.{Hands, Replaces, IsAnswered, OpsDone, ScopeEnds}
 use Rattle.arc_programs.specs.Programs.IsAnswered.{made, full, copied, unowned_formed, weak_formed, loaded, found_dead, weakly_loaded, found_nil, looked, got, put_in_nil, swapped, no_owner, given_up, nothing_there, moved, from_nil, count_full, no_entry}
-use Rattle.arc_programs.specs.Programs.OpsDone.{none, one}
+use Rattle.arc_programs.specs.Programs.OpsDone.{none, one, block}
 use Rattle.arc_programs.specs.Programs.ScopeEnds.{begins, nil as var_nil, dropped as var_dropped}
 use Rattle.arc_programs.specs.Programs.GlobalsCleared.{begins as end_begins, nil as global_nil, cleared}
 use Rattle.arc_programs.specs.ProgramsHistories.{ScopesEmpty, swapped_in, globals_below, EachGlobalIsCleared}
@@ -57,6 +57,7 @@ ops-count : {shape : HeapShape} {p : ℕ} {came : Hands} {program : List Op} {co
     OpsDone shape p came program count n vars now → length vars ≡ count
 ops-count {count = count} (none e) = ap length e ∙ length-replicate count None
 ops-count (one d there e x) = answered-count x.does ∙ ops-count d
+ops-count (block d there is next forth) = ops-count d
 
 scope-count : {shape : HeapShape} {first vars : Variables} {n : ℕ} {b ns : List Note} → ScopeEnds shape first n vars b ns → length vars ≡ length first
 scope-count begins = refl

@@ -1,8 +1,8 @@
 -- One operation more, for a stepper over the notes of its thread: each lemma is what its last step needs. Where the destination
 -- held something, whatever completes the drop of that completes the operation.
-use Rattle.std.proofs.Common.{◌≡◌, ◌+◌, ◌<◌, ◌≤◌, ℕ, zero, suc, List, ◌∷◌, Option, Some, None, ◌⊎◌, inl, inr, refl, sym, subst, length, arith}
+use Rattle.std.proofs.Common.{◌≡◌, ◌+◌, ◌<◌, ◌≤◌, ℕ, zero, suc, true, List, ◌∷◌, Option, Some, None, ◌⊎◌, inl, inr, refl, sym, subst, length, arith}
 use Rattle.std.proofs.lemmas.Bool.{cases_lt}
-use Rattle.std.specs.Prelude.{slice_get}
+use Rattle.std.specs.Prelude.{slice_get, take}
 use Rattle.arc_model.specs.declared.answer.Answer.{Answer}
 use Rattle.arc_model.specs.declared.answer.Answer.TheVariants as answers
 use Rattle.arc_model.specs.declared.event.Origin.TheVariants as origins
@@ -16,13 +16,19 @@ use Rattle.arc_model.specs.SpellingGains.IsReady.{start as ready}
 use Rattle.arc_model.specs.SpellingGains.IsSettled.{unclaimed}
 use Rattle.arc_script.specs.declared.script.Op.{Op}
 use Rattle.arc_script.specs.declared.script.Op.TheVariants as op
+use Rattle.arc_script.specs.Valid.{begins_block}
+use Rattle.arc_script.specs.OneList.{numbered}
 use Rattle.arc_programs.specs.Variables.{Held, Variables, value, put}
-use Rattle.arc_programs.specs.Programs.{Hands, made_of, OpsDone, IsAnswered, ScopeEnds}
+use Rattle.arc_programs.specs.Programs.{Hands, made_of, OpsDone, goes_on, IsAnswered, ScopeEnds}
 use Rattle.arc_programs.specs.Programs.IsDropped.{nothing, dropped}
 use Rattle.arc_programs.specs.Programs.IsFromNil.{copy as copy_from_nil}
 use Rattle.arc_programs.specs.Programs.IsAnswered.{made, full, copied, given_up, nothing_there, from_nil}
-use Rattle.arc_programs.specs.Programs.OpsDone.{one}
+use Rattle.arc_programs.specs.Programs.OpsDone.{one, block}
 use Rattle.arc_programs.specs.Programs.ScopeEnds.{nil as var_nil}
+
+-- the number of the operation at this place
+abbrev pub number_at : List Op → ℕ → ℕ
+number_at program i = numbered (take (i + 1) program)
 
 -- the operation at this place is next, after these notes
 pub record IsNext (shape : HeapShape) (p : ℕ) (came : Hands) (program : List Op) (count i : ℕ) (o : Op) (vars : Variables) (b : List Note) : Type 0 where
@@ -31,16 +37,21 @@ pub record IsNext (shape : HeapShape) (p : ℕ) (came : Hands) (program : List O
 
 -- it answers and has nothing to drop
 pub answers_last : {shape : HeapShape} {p count i : ℕ} {came : Hands} {program : List Op} {o : Op} {vars vars' : Variables} {answer : Answer} {b ns : List Note} →
-    IsNext shape p came program count i o vars b → IsAnswered p came o vars (Operation (i + 1) ∷ b) vars' answer None ns →
+    IsNext shape p came program count i o vars b → IsAnswered p came o vars (Operation (number_at program i) ∷ b) vars' answer None ns →
     OpsDone shape p came program count (i + 1) vars' (Line answer ∷ ns)
 answers_last {answer = answer} {ns = ns} n d = one n.done n.there refl (record { answer = answer; last = None; answered = ns; does = d; ends = nothing })
 
 -- it answers, and then drops what its destination held
 pub drops_last : {shape : HeapShape} {p count i : ℕ} {came : Hands} {program : List Op} {o : Op} {vars vars' : Variables} {answer : Answer} {old : Held} {b ns after : List Note} →
-    IsNext shape p came program count i o vars b → IsAnswered p came o vars (Operation (i + 1) ∷ b) vars' answer (Some old) ns →
+    IsNext shape p came program count i o vars b → IsAnswered p came o vars (Operation (number_at program i) ∷ b) vars' answer (Some old) ns →
     IsDrop shape old.kind old.place old.hand (Line answer ∷ ns) after →
     OpsDone shape p came program count (i + 1) vars' after
 drops_last {answer = answer} {old = old} {ns = ns} n d x = one n.done n.there refl (record { answer = answer; last = Some old; answered = ns; does = d; ends = dropped x })
+
+-- a block begins there: it notes nothing
+pub goes_to_block : {shape : HeapShape} {p count i n : ℕ} {came : Hands} {program : List Op} {o : Op} {vars : Variables} {b : List Note} →
+    IsNext shape p came program count i o vars b → begins_block o ≡ true → n ≡ goes_on vars i o → i < n → OpsDone shape p came program count n vars b
+goes_to_block n begins next forth = block n.done n.there begins next forth
 
 -- ---- how operations over strong variables answer; what the destination held is the last thing to drop
 

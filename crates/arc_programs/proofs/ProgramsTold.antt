@@ -1,9 +1,11 @@
 -- The lines that an operation, a program and the end section put down.
-use Rattle.std.proofs.Common.{◌≡◌, ◌≤◌, ℕ, suc, true, false, List, [], ◌∷◌, ◌++◌, refl, sym, ap, ◌∙◌, append_assoc, arith}
-use Rattle.std.specs.Prelude.{map, Option, Some}
+use Rattle.std.proofs.Common.{◌≡◌, ◌≤◌, ◌+◌, ◌-◌, ℕ, suc, true, false, true≢false, List, [], ◌∷◌, ◌++◌, refl, sym, ap, subst, ◌∙◌, append_assoc, arith}
+use Rattle.std.specs.Prelude.{map, take, length, slice_get, Option, Some}
 use Rattle.std.specs.List.{list_all}
 use Rattle.std.proofs.lemmas.Bool.{and_parts}
 use Rattle.std.proofs.lemmas.List.{map-append}
+use Rattle.std.proofs.lemmas.Option.{slice_get_within}
+use Rattle.std.proofs.Math.Seq.{take-length}
 use Rattle.arc_model.specs.declared.answer.Answer.{Answer}
 use Rattle.arc_model.specs.declared.event.ObjectName.{ObjectName}
 use Rattle.arc_model.specs.declared.event.Act.{Act}
@@ -21,16 +23,20 @@ use Rattle.arc_model.specs.SpellingGains.IsSettled.{unclaimed, published as stay
 use Rattle.arc_model.specs.SpellingGains.IsRefused.{no_entry as entry_refused}
 use Rattle.arc_script.specs.declared.answer.Line.{Line}
 use Rattle.arc_script.specs.declared.script.Op.{Op}
+use Rattle.arc_script.specs.Valid.{begins_block}
+use Rattle.arc_script.specs.OneList.{numbered, HasNoBlock}
+use Rattle.arc_script.proofs.OneList.{number_next, numbers_grow, number_is_place}
 use Rattle.arc_programs.specs.Variables.{Held, Variables}
-use Rattle.arc_programs.specs.Programs.{Hands, IsDropped, Source, HasSource, IsAnswered, OpsDone, ScopeEnds, GlobalsCleared}
+use Rattle.arc_programs.specs.Programs.{Hands, IsFromNil, IsDropped, Source, HasSource, IsAnswered, OpsDone, ScopeEnds, GlobalsCleared}
 use Rattle.arc_programs.specs.Programs.IsDropped.{nothing, dropped}
+use Rattle.arc_programs.specs.Programs.IsFromNil.{copy as nil_copy, move as nil_move, unown as nil_unown, weak as nil_weak, load as nil_load, get as nil_get}
 use Rattle.arc_programs.specs.Programs.HasSource.{copy, unown, weak, load, get}
 use Rattle.arc_programs.specs.Programs.IsAnswered.{made, full, copied, unowned_formed, weak_formed, loaded, found_dead, weakly_loaded, found_nil, looked, got, put_in_nil, swapped, no_owner, given_up, nothing_there, moved, from_nil, count_full, no_entry}
-use Rattle.arc_programs.specs.Programs.OpsDone.{none, one}
+use Rattle.arc_programs.specs.Programs.OpsDone.{none, one, block}
 use Rattle.arc_programs.specs.Programs.ScopeEnds.{begins, nil as var_nil, dropped as var_dropped}
 use Rattle.arc_programs.specs.Programs.GlobalsCleared.{begins as end_begins, nil as global_nil, cleared}
 use Rattle.arc_programs.specs.ProgramsLines.{number_of, lines_of, is_deinit, deinit_line, answered, down_from}
-use Rattle.arc_programs.specs.ProgramsLaws.{OperationsHaveLines, NeverRise, ProgramsAreNumbered, EndSectionsTellDeinits}
+use Rattle.arc_programs.specs.ProgramsLaws.{OperationsHaveLines, NeverRise, Fall, ProgramsAreNumbered, EndSectionsTellDeinits}
 
 -- deinits alone were told, as the same operation's
 record Deinits (before after : List Note) : Type 0 where
@@ -200,30 +206,86 @@ later-never-rise : (i n : ℕ) (ls : List Line) → i ≤ n → NeverRise i ls �
 later-never-rise i n [] e r = tt
 later-never-rise i n (l ∷ ls) e r = let a = r.1 in (r.0, omega arith, r.2)
 
-record Worked (n : ℕ) (notes : List Note) : Type 0 where
-  answers : answered (lines_of notes) ≡ down_from n
-  numbers : NeverRise n (lines_of notes)
+record Worked (program : List Op) (i : ℕ) (notes : List Note) : Type 0 where
+  answers : Fall (numbered (take i program)) (answered (lines_of notes))
+  each : HasNoBlock program → (i ≤ length program) × (answered (lines_of notes) ≡ down_from i)
+  numbers : NeverRise (numbered (take i program)) (lines_of notes)
 
 answer-first : (n : ℕ) (a : Answer) (ls : List Line) → is_deinit a ≡ false → answered (record { operation = n; answer = a } ∷ ls) ≡ n ∷ answered ls
 answer-first n a ls e = rw e refl
 
-works : {shape : HeapShape} {p : ℕ} {came : Hands} {program : List Op} {count n : ℕ} {vars : Variables} {now : List Note} →
-    OpsDone shape p came program count n vars now → Worked n now
-works (none e) = record { answers = refl; numbers = tt }
-works {shape = shape} {p = p} {came = came} (one {i = i} {n = n} {o = o} {vars = vars} {vars' = vars'} {b = b} {now = now} d there e x) =
+-- what is answered begins no block
+from-nil-answers : {vars : Variables} {o : Op} {to : ℕ} → IsFromNil vars o to → begins_block o ≡ false
+from-nil-answers (nil_copy e) = refl
+from-nil-answers (nil_move e) = refl
+from-nil-answers (nil_unown e) = refl
+from-nil-answers (nil_weak e) = refl
+from-nil-answers (nil_load e) = refl
+from-nil-answers (nil_get e) = refl
+
+source-answers : {vars : Variables} {o : Op} {source : Source} {b s : List Note} → HasSource vars o source b s → begins_block o ≡ false
+source-answers (copy e s) = refl
+source-answers (unown e s) = refl
+source-answers (weak e s) = refl
+source-answers (load e s) = refl
+source-answers (get e s) = refl
+
+no-block : {p : ℕ} {came : Hands} {o : Op} {vars vars' : Variables} {answer : Answer} {last : Option Held} {b after : List Note} →
+    IsAnswered p came o vars b vars' answer last after → begins_block o ≡ false
+no-block (made k n r) = refl
+no-block (full v) = refl
+no-block (copied e k g r) = refl
+no-block (unowned_formed e k g r) = refl
+no-block (weak_formed e k g r) = refl
+no-block (loaded e u k g r) = refl
+no-block (found_dead e u g r) = refl
+no-block (weakly_loaded e u k g r) = refl
+no-block (found_nil e u g r) = refl
+no-block (looked e r) = refl
+no-block (got e k c g r) = refl
+no-block (put_in_nil e h v) = refl
+no-block (swapped e h v k c l) = refl
+no-block (no_owner e v n) = refl
+no-block (given_up e r n) = refl
+no-block (nothing_there e v n) = refl
+no-block (moved e r v n) = refl
+no-block (from_nil f r n) = from-nil-answers f
+no-block (count_full s g v) = source-answers s
+no-block (no_entry s g v) = source-answers s
+
+falls-below : (i n : ℕ) (ks : List ℕ) → i ≤ n → Fall i ks → Fall n ks
+falls-below i n [] e f = tt
+falls-below i n (k ∷ ks) e f = let a = f.1 in (f.0, omega arith, f.2)
+
+works : {shape : HeapShape} {p : ℕ} {came : Hands} {program : List Op} {count i : ℕ} {vars : Variables} {now : List Note} →
+    OpsDone shape p came program count i vars now → Worked program i now
+works (none e) = record { answers = tt; each = λ free. (omega arith, refl); numbers = tt }
+works {shape = shape} {p = p} {came = came} {program = program} (one {i = i} {n = j} {o = o} {vars = vars} {vars' = vars'} {b = b} {now = now} d there e x) =
     let w = works d in
+    let n = numbered (take j program) in
+    let m = numbered (take i program) in
     let t = operations_told shape p came n o vars vars' b now x in
-    let is : n ≡ suc i = omega arith in
+    let next : n ≡ m + 1 = ap (λ k. numbered (take k program)) e ∙ number_next program i o there (no-block x.does) in
+    let said : answered (lines_of now) ≡ n ∷ answered (lines_of b) =
+    ap answered t.lines ∙ answered-behind n t.deinits (record { operation = n; answer = t.answer } ∷ lines_of b) ∙ answer-first n t.answer (lines_of b) t.no_deinit in
     record {
-      answers =
-          ap answered t.lines
-          ∙ answered-behind n t.deinits (record { operation = n; answer = t.answer } ∷ lines_of b)
-          ∙ answer-first n t.answer (lines_of b) t.no_deinit
-          ∙ ap (λ ns. n ∷ ns) w.answers
-          ∙ ap (λ m. m ∷ down_from i) is
-          ∙ ap down_from (sym is);
+      answers = rw said (omega arith, omega arith, falls-below m (n - 1) (answered (lines_of b)) (omega arith) w.answers);
+      each = λ free.
+          let a = w.each free in
+          let most = slice_get_within program i o there in
+          let is : n ≡ j = number_is_place program j free (omega arith) in
+          let more : j ≡ suc i = omega arith in
+          (omega arith, said ∙ ap (λ ns. n ∷ ns) a.1 ∙ ap (λ k. k ∷ down_from i) (is ∙ more) ∙ ap down_from (sym more));
       numbers =
-          rw t.lines (rises-not n t.deinits (record { operation = n; answer = t.answer } ∷ lines_of b) (omega arith) (omega arith, omega arith, later-never-rise i n (lines_of b) (omega arith) w.numbers));
+          rw t.lines (rises-not n t.deinits (record { operation = n; answer = t.answer } ∷ lines_of b) (omega arith) (omega arith, omega arith, later-never-rise m n (lines_of b) (omega arith) w.numbers));
+    }
+works {program = program} (block {i = i} {n = n} {o = o} {now = now} d there is next forth) =
+    let w = works d in
+    let grow = numbers_grow program i n (omega arith) in
+    record {
+      answers = falls-below (numbered (take i program)) (numbered (take n program)) (answered (lines_of now)) grow w.answers;
+      each = λ free. absurd (true≢false (sym is ∙ free i o there));
+      numbers = later-never-rise (numbered (take i program)) (numbered (take n program)) (lines_of now) grow w.numbers;
     }
 
 scope-told : {shape : HeapShape} {first vars : Variables} {v : ℕ} {b ns : List Note} → ScopeEnds shape first v vars b ns → Deinits (Operation 0 ∷ b) ns
@@ -235,7 +297,15 @@ pub programs_numbered : ProgramsAreNumbered
 programs_numbered shape p came program count notes x =
     let w = works x.ops in
     let d = scope-told x.scope in
-    record { deinits = d.names; worked = lines_of x.worked; lines = d.lines; answers = w.answers; numbers = w.numbers }
+    let whole : numbered (take (length program) program) ≡ numbered program = ap numbered (take-length program) in
+    record {
+      deinits = d.names;
+      worked = lines_of x.worked;
+      lines = d.lines;
+      answers = subst (λ n. Fall n (answered (lines_of x.worked))) whole w.answers;
+      each = λ free. (w.each free).1;
+      numbers = subst (λ n. NeverRise n (lines_of x.worked)) whole w.numbers;
+    }
 
 end-told : {shape : HeapShape} {came : Hands} {n : ℕ} {notes : List Note} → GlobalsCleared shape came n notes → Deinits (Operation 0 ∷ []) notes
 end-told end_begins = no-deinits

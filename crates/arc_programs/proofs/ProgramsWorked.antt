@@ -52,17 +52,17 @@ variable letter kind class = record { name = letters letter; kind = kind; class 
 
 -- one slot, one entry, one class without fields; the greatest caps
 abbrev pub plain : HeapShape
-plain = record { slots = 1; entries = 1; caps = record { strong = 1073741823; unowned = 2147483647; wide = 4294967295 }; classes = [] ∷ []; globals = [] }
+plain = record { slots = 1; entries = 1; caps = record { strong = 1073741823; unowned = 2147483647; wide = 4294967295 }; classes = record { fields = []; immortal = false } ∷ []; globals = [] }
 
 abbrev pub object : ClassDecl
-object = record { name = letters 78; fields = [] }
+object = record { name = letters 78; immortal = false; fields = [] }
 
 abbrev pub node : ℕ → ObjectName
 node n = record { class = 0; thread = 1; number = n }
 
 -- a script of one thread with one phase, whose class has no fields
 abbrev pub alone : HeapShape → List VarDecl → List Op → Script
-alone shape vars ops = record { shape = shape; classes = object ∷ []; globals = []; threads = record { vars = vars; phases = ops ∷ [] } ∷ []; schedule = [] }
+alone shape vars ops = record { version = 1; shape = shape; classes = object ∷ []; globals = []; threads = record { vars = vars; phases = ops ∷ [] } ∷ []; schedule = [] }
 
 -- One object, made and dropped.
 

@@ -41,13 +41,13 @@ use Rattle.arc_programs.proofs.ProgramsWorked.{held, letters, variable, plain}
 -- A person's strong field refers to an apartment, whose weak field refers back.
 
 abbrev tenancy : HeapShape
-tenancy = record plain { slots = 8; entries = 8; classes = (record { kind = Strong; class = 1 } ∷ []) ∷ (record { kind = Weak; class = 0 } ∷ []) ∷ [] }
+tenancy = record plain { slots = 8; entries = 8; classes = record { fields = record { kind = Strong; class = 1 } ∷ []; immortal = false } ∷ record { fields = record { kind = Weak; class = 0 } ∷ []; immortal = false } ∷ [] }
 
 abbrev person_class : ClassDecl
-person_class = record { name = letters 80; fields = record { name = letters 97; kind = Strong; class = 1 } ∷ [] }
+person_class = record { name = letters 80; immortal = false; fields = record { name = letters 97; kind = Strong; class = 1 } ∷ [] }
 
 abbrev apartment_class : ClassDecl
-apartment_class = record { name = letters 65; fields = record { name = letters 116; kind = Weak; class = 0 } ∷ [] }
+apartment_class = record { name = letters 65; immortal = false; fields = record { name = letters 116; kind = Weak; class = 0 } ∷ [] }
 
 abbrev person : ObjectName
 person = record { class = 0; thread = 1; number = 1 }
@@ -74,7 +74,7 @@ moves =
     []
 
 abbrev tenancy_script : Script
-tenancy_script = record { shape = tenancy; classes = person_class ∷ apartment_class ∷ []; globals = []; threads = record { vars = tenants; phases = moves ∷ [] } ∷ []; schedule = [] }
+tenancy_script = record { version = 1; shape = tenancy; classes = person_class ∷ apartment_class ∷ []; globals = []; threads = record { vars = tenants; phases = moves ∷ [] } ∷ []; schedule = [] }
 
 abbrev moved_in_one_steps : List Step
 moved_in_one_steps =

@@ -54,7 +54,7 @@ changes =
     []
 
 abbrev renewed_script : Script
-renewed_script = record { shape = one_global; classes = object ∷ []; globals = variable 103 Strong 0 ∷ []; threads = record { vars = variable 97 Strong 0 ∷ variable 98 Strong 0 ∷ []; phases = changes ∷ [] } ∷ []; schedule = [] }
+renewed_script = record { version = 1; shape = one_global; classes = object ∷ []; globals = variable 103 Strong 0 ∷ []; threads = record { vars = variable 97 Strong 0 ∷ variable 98 Strong 0 ∷ []; phases = changes ∷ [] } ∷ []; schedule = [] }
 
 abbrev renewed_one_steps : List Step
 renewed_one_steps =

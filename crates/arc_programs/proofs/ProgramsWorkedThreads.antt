@@ -49,7 +49,7 @@ abbrev second_thread : ThreadDecl
 second_thread = record { vars = variable 120 Weak 0 ∷ variable 98 Strong 0 ∷ []; phases = [] ∷ (op.Get 0 (opcell.Global 0) ∷ []) ∷ (op.Load 1 0 ∷ []) ∷ [] }
 
 abbrev race_script : Script
-race_script = record { shape = weak_global; classes = object ∷ []; globals = variable 103 Weak 0 ∷ []; threads = first_thread ∷ second_thread ∷ []; schedule = [] }
+race_script = record { version = 1; shape = weak_global; classes = object ∷ []; globals = variable 103 Weak 0 ∷ []; threads = first_thread ∷ second_thread ∷ []; schedule = [] }
 
 -- the events of all threads
 

@@ -1,6 +1,6 @@
 -- How a thread's events and lines spell its program. A list of notes has the newest first, and each relation goes from the
 -- notes before to the notes after.
-use Rattle.std.specs.Prelude.{ℕ, Bool, true, false, ◌≡◌, ◌+◌, ◌<◌, List, [], ◌∷◌, length, slice_get, Option, Some, None}
+use Rattle.std.specs.Prelude.{ℕ, Bool, true, false, ◌≡◌, ◌+◌, ◌<◌, List, [], ◌∷◌, length, take, slice_get, if◌then◌else◌, is_some, Option, Some, None}
 use Rattle.arc_model.specs.declared.answer.Answer.{Answer}
 use Rattle.arc_model.specs.declared.answer.Answer.TheVariants as answers
 use Rattle.arc_model.specs.declared.event.ObjectName.{ObjectName}
@@ -22,6 +22,8 @@ use Rattle.arc_script.specs.declared.script.Op.{Op}
 use Rattle.arc_script.specs.declared.script.Op.TheVariants as op
 use Rattle.arc_script.specs.declared.script.OpCell.{OpCell}
 use Rattle.arc_script.specs.declared.script.OpCell.TheVariants as opcell
+use Rattle.arc_script.specs.Valid.{begins_block}
+use Rattle.arc_script.specs.OneList.{numbered}
 use Rattle.arc_programs.specs.Variables.{Held, Variables, all_nil, value, put, hand_in, cell_of}
 
 abbrev pub makes : Act → Bool
@@ -180,12 +182,22 @@ pub record IsOp (shape : HeapShape) (p : ℕ) (came : Hands) (n : ℕ) (o : Op) 
   pub does : IsAnswered p came o vars (Operation n ∷ before) vars_after answer last answered
   pub ends : IsDropped shape last (Line answer ∷ answered) after
 
--- The first operations of a program are done: how many, the variables then, and the notes. All variables are nil at first.
+-- where a thread goes on that comes to a block at place i: in the block where that is run, else behind it
+abbrev pub goes_on : Variables → ℕ → Op → ℕ
+goes_on vars i (op.IfNil v to) = if is_some (value vars v) then to else i + 1
+goes_on vars i (op.IfSome v to) = if is_some (value vars v) then i + 1 else to
+goes_on vars i o = i + 1
+
+-- A program is done up to a place, and these are the variables then, and the notes. All variables are nil at first. An operation has
+-- its number among all that have one, run or not. At the beginning of a block there is nothing to note, and a thread never goes back.
 pub data OpsDone (shape : HeapShape) (p : ℕ) (came : Hands) (program : List Op) (count : ℕ) : (done : ℕ) (vars : Variables) (now : List Note) → Type 0 where
   none : {vars : Variables} → vars ≡ all_nil count → OpsDone shape p came program count 0 vars []
   one : {i n : ℕ} {o : Op} {vars vars' : Variables} {b now : List Note} →
       OpsDone shape p came program count i vars b → slice_get program i ≡ Some o → n ≡ i + 1 →
-      IsOp shape p came n o vars b vars' now → OpsDone shape p came program count n vars' now
+      IsOp shape p came (numbered (take n program)) o vars b vars' now → OpsDone shape p came program count n vars' now
+  block : {i n : ℕ} {o : Op} {vars : Variables} {now : List Note} →
+      OpsDone shape p came program count i vars now → slice_get program i ≡ Some o → begins_block o ≡ true → n ≡ goes_on vars i o → i < n →
+      OpsDone shape p came program count n vars now
 
 -- The end of the scope: the variables below one are nil, those that weren't were dropped, in the order of declaration.
 pub data ScopeEnds (shape : HeapShape) (first : Variables) : (done : ℕ) (vars : Variables) (before after : List Note) → Type 0 where

@@ -1,11 +1,12 @@
 -- Laws of the lines of a program.
-use Rattle.std.specs.Prelude.{ℕ, false, ◌≡◌, ◌≤◌, List, [], ◌∷◌, ◌++◌, length, map, ⊤}
+use Rattle.std.specs.Prelude.{ℕ, false, ◌≡◌, ◌≤◌, ◌-◌, List, [], ◌∷◌, ◌++◌, length, map, ⊤}
 use Rattle.arc_model.specs.declared.answer.Answer.{Answer}
 use Rattle.arc_model.specs.declared.event.ObjectName.{ObjectName}
 use Rattle.arc_model.specs.Shapes.{HeapShape}
 use Rattle.arc_model.specs.Spelling.{Note}
 use Rattle.arc_script.specs.declared.answer.Line.{Line}
 use Rattle.arc_script.specs.declared.script.Op.{Op}
+use Rattle.arc_script.specs.OneList.{numbered, HasNoBlock}
 use Rattle.arc_programs.specs.Variables.{Variables}
 use Rattle.arc_programs.specs.Programs.{Hands, IsOp, IsProgram, GlobalsCleared}
 use Rattle.arc_programs.specs.ProgramsLines.{lines_of, is_deinit, deinit_line, answered, down_from}
@@ -26,18 +27,24 @@ abbrev pub NeverRise : ℕ → List Line → Type 0
 NeverRise n [] = ⊤
 NeverRise n (line ∷ lines) = (1 ≤ line.operation) × (line.operation ≤ n) × NeverRise line.operation lines
 
--- The lines of a program of n operations: each has one answer, in their order; deinits stand behind the operations that brought
--- them about, and those at the end of the scope, with number 0, behind all.
-pub record AreLinesOf (n : ℕ) (notes : List Note) : Type 0 where
+-- from n downwards each number is less than the one before and at least 1
+abbrev pub Fall : ℕ → List ℕ → Type 0
+Fall n [] = ⊤
+Fall n (k ∷ ks) = (1 ≤ k) × (k ≤ n) × Fall (k - 1) ks
+
+-- The lines of a program: each operation has one answer at most, in their order, and each has one where there is no block; deinits
+-- stand behind the operations that brought them about, and those at the end of the scope, with number 0, behind all.
+pub record AreLinesOf (program : List Op) (notes : List Note) : Type 0 where
   pub deinits : List ObjectName
   pub worked : List Line
   pub lines : lines_of notes ≡ map (deinit_line 0) deinits ++ worked
-  pub answers : answered worked ≡ down_from n
-  pub numbers : NeverRise n worked
+  pub answers : Fall (numbered program) (answered worked)
+  pub each : HasNoBlock program → answered worked ≡ down_from (length program)
+  pub numbers : NeverRise (numbered program) worked
 
 abbrev pub ProgramsAreNumbered : Type 0
 ProgramsAreNumbered = (shape : HeapShape) (p : ℕ) (came : Hands) (program : List Op) (count : ℕ) (notes : List Note) →
-    IsProgram shape p came program count notes → AreLinesOf (length program) notes
+    IsProgram shape p came program count notes → AreLinesOf program notes
 
 abbrev pub EndSectionsTellDeinits : Type 0
 EndSectionsTellDeinits = (shape : HeapShape) (came : Hands) (n : ℕ) (notes : List Note) → GlobalsCleared shape came n notes →

@@ -1,5 +1,5 @@
 -- A history has a thread's program, with these lines.
-use Rattle.std.specs.Prelude.{ℕ, Bool, ◌&&◌, ◌≡◌, ◌≤◌, ◌-◌, if◌then◌else◌, List, [], ◌∷◌, length, flat_map, slice_get, Some, None}
+use Rattle.std.specs.Prelude.{ℕ, Bool, ◌&&◌, ◌≡◌, ◌≤◌, ◌-◌, if◌then◌else◌, List, [], ◌∷◌, length, slice_get, Some, None}
 use Rattle.arc_model.specs.declared.event.Event.{Event}
 use Rattle.arc_model.specs.Heaps.{Hand}
 use Rattle.arc_model.specs.Holders.{is_number}
@@ -12,6 +12,7 @@ use Rattle.arc_script.specs.declared.answer.Line.{Line}
 use Rattle.arc_script.specs.declared.script.Op.{Op}
 use Rattle.arc_script.specs.declared.script.ThreadDecl.{ThreadDecl}
 use Rattle.arc_script.specs.declared.script.Script.{Script}
+use Rattle.arc_script.specs.OneList.{in_one_list}
 use Rattle.arc_programs.specs.Programs.{Hands, IsProgram, GlobalsCleared}
 use Rattle.arc_programs.specs.ProgramsLines.{told}
 
@@ -24,9 +25,9 @@ abbrev pub hands_in : ℕ → History → Hands
 hands_in p [] k = None
 hands_in p (e ∷ h) k = if brings_it p k e then reference_of (Hand p k) (heap_after (e ∷ h)) else hands_in p h k
 
--- a thread's operations, phase by phase
+-- a thread's operations, phase by phase, in one list
 abbrev pub operations : ThreadDecl → List Op
-operations decl = flat_map (λ ops. ops) decl.phases
+operations decl = in_one_list 0 decl.phases
 
 -- The notes spell what the script has thread p do; thread 0 clears the globals.
 pub data Spells (script : Script) (came : Hands) : (p : ℕ) (notes : List Note) → Type 0 where

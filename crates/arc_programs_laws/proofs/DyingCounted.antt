@@ -10,17 +10,17 @@ use Rattle.arc_model.specs.declared.event.Got.TheVariants as got
 use Rattle.arc_model.specs.declared.shape.Kind.{Kind}
 use Rattle.arc_model.specs.declared.shape.Kind.TheVariants.{Strong, Unowned, Weak}
 use Rattle.arc_model.specs.Shapes.{HeapShape}
-use Rattle.arc_model.specs.Cells.{cell, origin, are_all_nil}
+use Rattle.arc_model.specs.Cells.{cell, origin, are_all_nil, holders_of, holders_with}
 use Rattle.arc_model.specs.Effects.{effect, made, ended_if, loaded, given_up, becomes, put_in, taken_out, finished, left_slot, vacated, gone, entry_to, entry_left, claimed_if, owing_none}
 use Rattle.arc_model.specs.Heaps.{Holder, Hand, Strongs, Duty, Deinit, Vacating, Gone, Owed, Object, Heap}
-use Rattle.arc_model.specs.Holders.{is_in, is_alone, gains, without, renamed, with_last, lists, with_list, list_of, list_with, holds, kind_in, in_slot, has_entry, held_by, at_slot, at_entry, at_first, owes_to, is_by, is_duty, same_duty}
+use Rattle.arc_model.specs.Holders.{is_in, is_alone, gains, without, renamed, with_last, lists, with_list, holds, kind_in, in_slot, has_entry, held_by, at_slot, at_entry, at_first, owes_to, is_by, is_duty, same_duty}
 use Rattle.arc_model.specs.History.{History, heap_after, next_hand, sight, IsLegal}
 use Rattle.arc_model.specs.Lookup.{duty_in, owed_by}
 use Rattle.arc_model.specs.Needs.{needs, passes, same_bool}
 use Rattle.arc_model.specs.Others.{IsQuiet}
 use Rattle.arc_model.specs.Spelling.{one_more_if}
 use Rattle.arc_model.specs.WellFormed.{more, total, IsWhole}
-use Rattle.arc_model.proofs.Basics.{met, at_found, None≢Some, in-not_empty}
+use Rattle.arc_model.proofs.Basics.{met, at_found, None≢Some, in-strong}
 use Rattle.arc_model.proofs.Builds.{some-is, whole-of, find-passes}
 use Rattle.arc_model.proofs.Courses.{well_formed}
 use Rattle.arc_model.proofs.Keeps.{total-end}
@@ -89,10 +89,10 @@ other-duty d o apart is = go (is_duty Deinit o.owed) refl
 -- ---- drops
 
 -- after the last strong holder the deinit is owed; after another one no more is
-dropped-dying : (p k : ℕ) (last : Bool) (o : Object) → IsWhole o → holds (Hand p k) o ≡ true → same_bool last (is_alone (list_with (Hand p k) o)) ≡ true →
+dropped-dying : (shape : HeapShape) (p k : ℕ) (last : Bool) (o : Object) → IsWhole shape o → holds (Hand p k) o ≡ true → same_bool last (is_alone (holders_with shape (Hand p k) o)) ≡ true →
     dying (given_up p (Hand p k) last o) ≡ dying o + one_more_if (last && is_in (Hand p k) o.strong) 0
-dropped-dying p k false o whole has alone = let a = listed (kind_in (Hand p k) o) (without (Hand p k)) o in omega arith
-dropped-dying p k true o whole has alone = go (is_in (Hand p k) o.strong) (is_in (Hand p k) o.unowned) refl refl alone
+dropped-dying shape p k false o whole has alone = let a = listed (kind_in (Hand p k) o) (without (Hand p k)) o in omega arith
+dropped-dying shape p k true o whole has alone = go (is_in (Hand p k) o.strong) (is_in (Hand p k) o.unowned) refl refl alone
   where
     not-dying : is_in (Hand p k) o.unowned ≡ true → is_alone o.unowned ≡ true → dying o ≡ 0
     not-dying held one = step (is_duty Deinit o.owed) refl
@@ -103,10 +103,10 @@ dropped-dying p k true o whole has alone = go (is_in (Hand p k) o.strong) (is_in
             no (alone-two (Hand p k) Strongs o.unowned one (in-tally (Hand p k) o.unowned held) (omega arith))
         step false e = refl
 
-    go : (s u : Bool) → is_in (Hand p k) o.strong ≡ s → is_in (Hand p k) o.unowned ≡ u → is_alone (list_of (cond s Strong (cond u Unowned Weak)) o) ≡ true →
+    go : (s u : Bool) → is_in (Hand p k) o.strong ≡ s → is_in (Hand p k) o.unowned ≡ u → is_alone (holders_of shape (cond s Strong (cond u Unowned Weak)) o) ≡ true →
         dying (ended_if true p (cond s Strong (cond u Unowned Weak)) (with_list (cond s Strong (cond u Unowned Weak)) (without (Hand p k)) o)) ≡ dying o + one_more_if s 0
     go true u es eu one =
-        let none : dying o ≡ 0 = ap (λ m. more (is_duty Deinit m) zero) (live-facts o whole (in-not_empty (Hand p k) o.strong es)).owed in omega arith
+        let none : dying o ≡ 0 = ap (λ m. more (is_duty Deinit m) zero) (live-facts o whole (in-strong shape (Hand p k) o es)).owed in omega arith
     go false true es eu one = let none = not-dying eu one in omega arith
     go false false es eu one = omega arith
 
@@ -124,8 +124,8 @@ drop-counted shape p k last h legal =
     let after = at_first (holds x) (given_up p x last) heap.objects in
     let put = put-found (holds x) (given_up p x last) heap.objects r.0 r.1 in
     let whole = whole-of (λ q. next_hand q h) heap after r.0 (given_up p x last r.0) (well_formed shape h legal.1) put in
-    let alone = at_found (λ o. same_bool last (is_alone (list_with x o))) (held_by x heap) r.0 r.1 m.1.0 in
-    let one = dropped-dying p k last r.0 whole (find-passes (holds x) heap.objects r.0 r.1) alone in
+    let alone = at_found (λ o. same_bool last (is_alone (holders_with shape x o))) (held_by x heap) r.0 r.1 m.1.0 in
+    let one = dropped-dying shape p k last r.0 whole (find-passes (holds x) heap.objects r.0 r.1) alone in
     let all = total-put dying heap.objects after r.0 (given_up p x last r.0) put in
     let new : Heap = record heap { objects = after } in
     let objects = entry-same p (entry_left x last (held_by x heap)) new in

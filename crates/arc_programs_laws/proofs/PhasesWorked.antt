@@ -1,6 +1,6 @@
 -- Two histories of one script: in one the phases follow, in the other they don't.
 use Rattle.std.proofs.Common.{◌≡◌, ℕ, zero, suc, ◌-◌, ◌≤◌, List, [], ◌∷◌, ◌++◌, length, Some, None, refl, sym, ap, ◌∙◌, subst, arith, lit≤}
-use Rattle.std.specs.Prelude.{Option, slice_get}
+use Rattle.std.specs.Prelude.{Option, slice_get, take}
 use Rattle.std.proofs.lemmas.List.{length-map}
 use Rattle.arc_model.specs.declared.answer.Answer.{Answer}
 use Rattle.arc_model.specs.declared.answer.Answer.TheVariants as answers
@@ -19,7 +19,7 @@ use Rattle.arc_model.specs.SpellingGains.IsRefused.{no_entry as entry_refused}
 use Rattle.arc_model.specs.SpellingTies.{Ties}
 use Rattle.arc_model.specs.SpellingTies.Causes.{Judged}
 use Rattle.arc_model.specs.SpellingTies.Ties.{start, own, other, noted}
-use Rattle.arc_model.proofs.Basics.{None≢Some, Some-inj}
+use Rattle.arc_model.proofs.Basics.{None≢Some, Some-inj, true≢false}
 use Rattle.arc_model.proofs.SpellTies.{share_is}
 use Rattle.arc_script.specs.declared.script.Op.{Op}
 use Rattle.arc_script.specs.declared.script.Op.TheVariants as op
@@ -27,18 +27,20 @@ use Rattle.arc_script.specs.declared.script.OpCell.TheVariants as opcell
 use Rattle.arc_script.specs.declared.script.Script.{Script}
 use Rattle.arc_script.specs.declared.script.ThreadDecl.{ThreadDecl}
 use Rattle.arc_script.specs.Valid as valid
+use Rattle.arc_script.specs.Valid.{begins_block}
+use Rattle.arc_script.specs.OneList.{numbered}
 use Rattle.arc_programs.specs.Variables.{Held, Variables}
 use Rattle.arc_programs.specs.Programs.{Hands, IsAnswered, OpsDone, IsProgram}
 use Rattle.arc_programs.specs.Programs.IsDropped.{nothing}
 use Rattle.arc_programs.specs.Programs.IsAnswered.{looked, got, from_nil, count_full, no_entry}
-use Rattle.arc_programs.specs.Programs.OpsDone.{none, one}
+use Rattle.arc_programs.specs.Programs.OpsDone.{none, one, block}
 use Rattle.arc_programs.specs.Programs.ScopeEnds.{begins, nil as var_nil}
 use Rattle.arc_programs.specs.Programs.GlobalsCleared.{begins as end_begins, nil as global_nil}
 use Rattle.arc_programs.specs.ProgramsLines.{told}
 use Rattle.arc_programs.specs.ProgramsTied.{hands_in}
 use Rattle.arc_programs.specs.ProgramsTied.Spells.{thread, end}
 use Rattle.arc_quiet.specs.Whole.{AllFinish}
-use Rattle.arc_quiet.proofs.Small.{by, strong, bare_class, script_of, heading, bare-classes, one-var}
+use Rattle.arc_quiet.proofs.Small.{by, strong, bare_class, script_of, heading, bare-classes, one-var, of-first, no-blocks}
 use Rattle.arc_programs_laws.specs.Phases.{HasDonePhases, PhasesFollow, PhasesAreTold}
 use Rattle.arc_programs_laws.specs.Phases.HasDonePhases.{some, all}
 use Rattle.arc_programs_laws.proofs.Additions.{Adds, none as none_added, fact, did, begun, told as line_told, dropped-tells}
@@ -59,11 +61,14 @@ readers = script_of (bare_class ∷ []) (strong 97 0 ∷ []) (first ∷ second �
 
 readers_valid : valid.IsScript readers
 readers_valid = record {
-  heading = heading (bare_class ∷ []) (strong 97 0 ∷ []) bare-classes (one-var 64 0 1 (lit≤ tt) (lit≤ tt));
+  version = (lit≤ tt, lit≤ tt);
+  classes_of_version = (of-first, tt);
+  threads_of_version = (((of-first, tt), (tt, tt)), ((tt, ((of-first, tt), tt)), tt));
+  heading = heading (bare_class ∷ []) (strong 97 0 ∷ []) bare-classes (one-var 64 0 1 (lit≤ tt) (lit≤ tt)) (tt, tt) (refl, tt);
   few_threads = lit≤ tt;
   threads = (
-    record { vars = one-var 256 0 1 (lit≤ tt) (lit≤ tt); some_phase = lit≤ tt; few_phases = lit≤ tt; ops = (((lit≤ tt, lit≤ tt, refl), tt), (tt, tt)) },
-    (record { vars = one-var 256 0 1 (lit≤ tt) (lit≤ tt); some_phase = lit≤ tt; few_phases = lit≤ tt; ops = (tt, (((lit≤ tt, lit≤ tt, refl), tt), tt)) }, tt),
+    record { vars = one-var 256 0 1 (lit≤ tt) (lit≤ tt); vars_allowed = (refl, tt); nested = (no-blocks 8 0 _ (refl, tt), (no-blocks 8 0 _ tt, tt)); some_phase = lit≤ tt; few_phases = lit≤ tt; ops = (((lit≤ tt, lit≤ tt, refl), tt), (tt, tt)) },
+    (record { vars = one-var 256 0 1 (lit≤ tt) (lit≤ tt); vars_allowed = (refl, tt); nested = (no-blocks 8 0 _ tt, (no-blocks 8 0 _ (refl, tt), tt)); some_phase = lit≤ tt; few_phases = lit≤ tt; ops = (tt, (((lit≤ tt, lit≤ tt, refl), tt), tt)) }, tt),
   );
   few_ops = lit≤ tt;
   few_places = lit≤ tt;
@@ -157,6 +162,7 @@ follow (suc (suc k)) = record {
 none-done : {shape : HeapShape} {p count n : ℕ} {came : Hands} {program : List Op} {vars : Variables} {now : List Note} → OpsDone shape p came program count n vars now → n ≡ 0 → now ≡ []
 none-done (none e) z = refl
 none-done (one d there e x) z = absurd (omega arith)
+none-done (block d there is next forth) z = absurd (omega arith)
 
 settled-acts : {spare : Spare} {b after : List Note} → IsSettled spare b after → 1 ≤ length (acts_of b) → 1 ≤ length (acts_of after)
 settled-acts unclaimed l = l
@@ -195,9 +201,12 @@ one-done (none e) z = absurd (omega arith)
 one-done {p = p} {came = came} (one {i = i} {n = n} {o = o} {vars = vars} {vars' = vars'} {b = b} d there e x) z =
     let first-place : i ≡ 0 = omega arith in
     let is : o ≡ read = Some-inj (sym there ∙ ap (slice_get (read ∷ [])) first-place) in
-    let acted = answer-acts (subst (λ q. IsAnswered p came q vars (Operation n ∷ b) vars' x.answer x.last x.answered) is x.does) in
+    let acted = answer-acts (subst (λ q. IsAnswered p came q vars (Operation (numbered (take n (read ∷ []))) ∷ b) vars' x.answer x.last x.answered) is x.does) in
     let grown = adds-acts (dropped-tells x.ends).adds in
     omega arith
+one-done (block {i = i} d there is next forth) z =
+    let first-place : i ≡ 0 = omega arith in
+    absurd (true≢false (sym is ∙ ap begins_block (Some-inj (sym there ∙ ap (slice_get (read ∷ [])) first-place))))
 
 share-length : (p : ℕ) (ns : List Note) (h : History) → Ties Judged readers.shape p ns h → length (share h p) ≡ length (acts_of ns)
 share-length p ns h tied = ap (λ es. length es) (sym (share_is Judged readers.shape p ns h tied)) ∙ length-map (acts_of ns) (λ a. record { thread = p; act = a })

@@ -1,10 +1,10 @@
 -- What a program tells and makes: each deinit that it tells ends, `new` alone makes an object, and its lines name what was read or made.
 use Rattle.std.proofs.Common.{◌≡◌, ℕ, zero, suc, ◌+◌, ◌-◌, ◌≤◌, ◌<◌, Bool, true, false, cond, eqb, List, [], ◌∷◌, ◌++◌, length, take, Some, None, refl, sym, ap, ◌∙◌, subst, arith}
-use Rattle.std.specs.Prelude.{map, flat_map, slice_get, get_or, Option}
+use Rattle.std.specs.Prelude.{◌==◌, if◌then◌else◌, not, map, flat_map, slice_get, get_or, Option}
 use Rattle.std.specs.List.{count_by}
 use Rattle.std.proofs.lemmas.Bool.{ne_eqb}
 use Rattle.std.proofs.lemmas.List.{take_all, length-map}
-use Rattle.std.proofs.lemmas.List.Sums.{count_by_more_yes, count_by_more_no}
+use Rattle.std.proofs.lemmas.List.Sums.{sum_by-append, sum_by-cons, count_by-le-length, count_by_more_yes, count_by_more_no}
 use Rattle.std.proofs.lemmas.Option.{slice_get_within, get_or_from_slice_get}
 use Rattle.arc_model.specs.declared.answer.Answer.{Answer}
 use Rattle.arc_model.specs.declared.answer.Answer.TheVariants as answers
@@ -13,6 +13,9 @@ use Rattle.arc_model.specs.Shapes.{HeapShape}
 use Rattle.arc_model.specs.Spelling.{Note, one_more_if, deinits_of}
 use Rattle.arc_model.specs.Spelling.Note.{Did, Line as Says, Operation, Name, Entry, NeedsEntry, Nil, Refers}
 use Rattle.arc_script.specs.Valid as valid
+use Rattle.arc_script.specs.Valid.{begins_block}
+use Rattle.arc_script.specs.OneList.{moved_behind, in_one_list, numbered}
+use Rattle.arc_script.proofs.OneList.{length_in_one}
 use Rattle.arc_script.specs.declared.answer.Line.{Line}
 use Rattle.arc_script.specs.declared.script.ClassDecl.{ClassDecl}
 use Rattle.arc_script.specs.declared.script.VarDecl.{VarDecl}
@@ -24,14 +27,15 @@ use Rattle.arc_programs.specs.Variables.{Held, Variables}
 use Rattle.arc_programs.specs.Programs.{Hands, made_of, Source, HasSource, IsAnswered, IsOp, OpsDone, ScopeEnds, IsProgram, GlobalsCleared}
 use Rattle.arc_programs.specs.Programs.HasSource.{copy, unown, weak, load, get}
 use Rattle.arc_programs.specs.Programs.IsAnswered.{made, full, copied, unowned_formed, weak_formed, loaded, found_dead, weakly_loaded, found_nil, looked, got, put_in_nil, swapped, no_owner, given_up, nothing_there, moved, from_nil, count_full, no_entry}
-use Rattle.arc_programs.specs.Programs.OpsDone.{none as no_ops, one}
+use Rattle.arc_programs.specs.Programs.OpsDone.{none as no_ops, one, block}
 use Rattle.arc_programs.specs.Programs.ScopeEnds.{begins, nil as var_nil, dropped as var_dropped}
 use Rattle.arc_programs.specs.Programs.GlobalsCleared.{begins as end_begins, nil as global_nil, cleared}
-use Rattle.arc_programs.specs.ProgramsLines.{lines_of, is_deinit, deinit_line, answered, down_from}
+use Rattle.arc_programs.specs.ProgramsLines.{lines_of, is_deinit, deinit_line, answered}
+use Rattle.arc_programs.specs.ProgramsLaws.{Fall}
 use Rattle.arc_programs.specs.ProgramsTied.{operations, Spells}
 use Rattle.arc_programs.specs.ProgramsTied.Spells.{thread, end}
 use Rattle.arc_programs.proofs.ProgramsTold.{programs_numbered, end_sections_told}
-use Rattle.arc_quiet.proofs.ProgramsCounted.{all-flat, all-at}
+use Rattle.arc_quiet.proofs.ProgramsCounted.{all-at, ops_are}
 use Rattle.arc_programs_laws.specs.Names.{AnswerFits}
 use Rattle.arc_programs_laws.specs.Room.{is_new, phases_in, operations_of}
 use Rattle.arc_programs_laws.proofs.Additions.{none as none_added, did, fact, ActsFit, NamesFit, LinesFit, NamesLines, adds-made, adds-acts, adds-names, Tells, same, over, then-begun, drop-tells, dropped-tells, gain-tells, refused-tells, read-fits}
@@ -185,6 +189,19 @@ news-taken program i o there = go (is_new o) (ap is_new (get_or_from_slice_get p
     go true e = count_by_more_yes is_new program i o (slice_get_within program i o there) e
     go false e = let a = count_by_more_no is_new program i o (slice_get_within program i o there) e in omega arith
 
+-- along a program there are more and more
+news-grow : (program : List Op) (i j : ℕ) → i ≤ j → count_by is_new (take i program) ≤ count_by is_new (take j program)
+news-grow [] zero j l = omega arith
+news-grow [] (suc i) j l = omega arith
+news-grow (o ∷ program) zero j l = omega arith
+news-grow (o ∷ program) (suc i) zero l = absurd (omega arith)
+news-grow (o ∷ program) (suc i) (suc j) l =
+    let w : Op → ℕ = λ x. cond (is_new x) 1 0 in
+    let a : count_by is_new (o ∷ take i program) ≡ w o + count_by is_new (take i program) = sum_by-cons w o (take i program) in
+    let b : count_by is_new (o ∷ take j program) ≡ w o + count_by is_new (take j program) = sum_by-cons w o (take j program) in
+    let c = news-grow program i j (omega arith) in
+    omega arith
+
 -- the operations of a program fit
 abbrev pub OpsFit : ℕ → List Op → Type 0
 OpsFit m program = (i : ℕ) (o : Op) → slice_get program i ≡ Some o → OpFits m o
@@ -214,6 +231,11 @@ done-works {program = program} (one {i = i} {n = n} {o = o} d there e x) =
       acts = λ m fits. w.acts m (fits i o there) (h.acts m fits);
       names = λ m fits f. let g = w.names m (fits i o there) f in g.1 (h.names m fits g.0);
     }
+done-works {program = program} (block {i = i} {n = n} d there is next forth) =
+    let h = done-works d in
+    let m = h.makes in
+    let grow = news-grow program i n (omega arith) in
+    record { ends = h.ends; makes = omega arith; acts = h.acts; names = h.names }
 
 -- what is added behind
 then-adds : {program : List Op} {most : ℕ} {b ns : List Note} → Worked program most b → Tells 0 b ns → Worked program most ns
@@ -277,43 +299,92 @@ answered-none : (n : ℕ) (names : List ObjectName) → answered (map (deinit_li
 answered-none n [] = refl
 answered-none n (x ∷ names) = answered-none n names
 
-length-down_from : (n : ℕ) → length (down_from n) ≡ n
-length-down_from zero = refl
-length-down_from (suc n) = let ih = length-down_from n in omega arith
+fall-length : (n : ℕ) (ks : List ℕ) → Fall n ks → length ks ≤ n
+fall-length n [] f = omega arith
+fall-length n (k ∷ ks) f = let some = f.0 in let most = f.1 in let rest = fall-length (k - 1) ks f.2 in omega arith
 
 -- ---- threads
 
+-- the phases of a thread, and its operations in one list
+abbrev pub phases_of : Script → ℕ → List (List Op)
+phases_of script p = phases_in (if p == 0 then None else slice_get script.threads (p - 1))
+
+abbrev pub running : Script → ℕ → List Op
+running script p = in_one_list 0 (phases_of script p)
+
+declared-phases : (script : Script) (p : ℕ) (decl : ThreadDecl) → 1 ≤ p → slice_get script.threads (p - 1) ≡ Some decl → phases_of script p ≡ decl.phases
+declared-phases script p decl some at =
+    ap (λ b. phases_in (cond b None (slice_get script.threads (p - 1)))) (ne_eqb p 0 (λ e. omega (arith, e, some))) ∙ ap phases_in at
+
 -- the operations of a thread that is declared
-pub declared-ops : (script : Script) (p : ℕ) (decl : ThreadDecl) → 1 ≤ p → slice_get script.threads (p - 1) ≡ Some decl → operations_of script p ≡ operations decl
-declared-ops script p decl some at =
-    ap (λ b. flat_map (λ ops. ops) (phases_in (cond b None (slice_get script.threads (p - 1))))) (ne_eqb p 0 (λ e. omega (arith, e, some)))
-    ∙ ap (λ d. flat_map (λ ops. ops) (phases_in d)) at
+pub declared-ops : (script : Script) (p : ℕ) (decl : ThreadDecl) → 1 ≤ p → slice_get script.threads (p - 1) ≡ Some decl → operations_of script p ≡ flat_map (λ (ops : List Op). ops) decl.phases
+declared-ops script p decl some at = ap (λ (phases : List (List Op)). flat_map (λ (ops : List Op). ops) phases) (declared-phases script p decl some at)
+
+-- in one list as many make an object
+news-moved : (n : ℕ) (ops : List Op) → count_by is_new (map (moved_behind n) ops) ≡ count_by is_new ops
+news-moved n [] = refl
+news-moved n (o ∷ ops) =
+    let w : Op → ℕ = λ x. cond (is_new x) 1 0 in
+    let a : count_by is_new (moved_behind n o ∷ map (moved_behind n) ops) ≡ w (moved_behind n o) + count_by is_new (map (moved_behind n) ops) = sum_by-cons w (moved_behind n o) (map (moved_behind n) ops) in
+    let b : count_by is_new (o ∷ ops) ≡ w o + count_by is_new ops = sum_by-cons w o ops in
+    let c = news-moved n ops in
+    let same-news : w (moved_behind n o) ≡ w o = ap (λ (b : Bool). cond b 1 0) (moved-new o) in
+    omega arith
+  where
+    moved-new : (o : Op) → is_new (moved_behind n o) ≡ is_new o
+    moved-new (op.New to class) = refl
+    moved-new (op.Copy to from) = refl
+    moved-new (op.Drop var) = refl
+    moved-new (op.Move to from) = refl
+    moved-new (op.Unown to of) = refl
+    moved-new (op.Weak to of) = refl
+    moved-new (op.Load to of) = refl
+    moved-new (op.Get to c) = refl
+    moved-new (op.Set c from) = refl
+    moved-new (op.IfNil var to) = refl
+    moved-new (op.IfSome var to) = refl
+
+news-in-one : (n : ℕ) (phases : List (List Op)) → count_by is_new (in_one_list n phases) ≡ count_by is_new (flat_map (λ (ops : List Op). ops) phases)
+news-in-one n [] = refl
+news-in-one n (ops ∷ phases) =
+    let w : Op → ℕ = λ x. cond (is_new x) 1 0 in
+    let rest = in_one_list (n + length ops) phases in
+    let flat = flat_map (λ (xs : List Op). xs) phases in
+    let a : count_by is_new (map (moved_behind n) ops ++ rest) ≡ count_by is_new (map (moved_behind n) ops) + count_by is_new rest = sum_by-append w (map (moved_behind n) ops) rest in
+    let b : count_by is_new (ops ++ flat) ≡ count_by is_new ops + count_by is_new flat = sum_by-append w ops flat in
+    let c = news-moved n ops in
+    let d = news-in-one (n + length ops) phases in
+    omega arith
 
 pub class_count : (script : Script) → valid.IsScript script → length script.shape.classes ≡ length script.classes
-class_count script is = ap (λ cs. length cs) is.heading.of_classes ∙ length-map script.classes (λ (c : ClassDecl). valid.field_refs c.fields)
+class_count script is = ap (λ cs. length cs) is.heading.of_classes ∙ length-map script.classes (λ (c : ClassDecl). record { fields = valid.field_refs c.fields; immortal = c.immortal })
 
--- the notes of a thread: what they tell of its operations, a line for each of these and one for each deinit
+-- the notes of a thread: what they tell of its operations, a line for each of these that is run and one for each deinit
 pub record Told (script : Script) (p : ℕ) (notes : List Note) : Type 0 where
-  pub worked : Worked (operations_of script p) (count_by is_new (operations_of script p)) notes
-  pub lines : length (lines_of notes) ≡ length (operations_of script p) + length (deinits_of notes)
+  pub worked : Worked (running script p) (count_by is_new (operations_of script p)) notes
+  pub lines : length (lines_of notes) ≤ length (operations_of script p) + length (deinits_of notes)
 
 pub spelled-told : (script : Script) (came : Hands) (p : ℕ) (notes : List Note) → Spells script came p notes → Told script p notes
 spelled-told script came p notes (thread {decl = decl} some at x) =
-    subst (λ ops. Worked ops (count_by is_new ops) notes → length (lines_of notes) ≡ length ops + length (deinits_of notes) → Told script p notes) (declared-ops script p decl some at) (λ w l. record { worked = w; lines = l }) (program-works x) lines
+    subst (λ (phases : List (List Op)). Worked (in_one_list 0 phases) (count_by is_new (flat_map (λ (ops : List Op). ops) phases)) notes → length (lines_of notes) ≤ length (flat_map (λ (ops : List Op). ops) phases) + length (deinits_of notes) → Told script p notes)
+    (declared-phases script p decl some at) (λ w l. record { worked = w; lines = l })
+    (subst (λ n. Worked (operations decl) n notes) (news-in-one 0 decl.phases) (program-works x)) lines
   where
-    lines : length (lines_of notes) ≡ length (operations decl) + length (deinits_of notes)
+    lines : length (lines_of notes) ≤ length (flat_map (λ (ops : List Op). ops) decl.phases) + length (deinits_of notes)
     lines =
         let t = programs_numbered script.shape p came (operations decl) (length decl.vars) notes x in
         let a = lines-told notes in
-        let b : length (answered (lines_of notes)) ≡ length (operations decl) =
-        ap (λ ls. length (answered ls)) t.lines ∙ ap (λ ns. length ns) (answered-behind 0 t.deinits t.worked ∙ t.answers) ∙ length-down_from (length (operations decl)) in
+        let b : length (answered (lines_of notes)) ≡ length (answered t.worked) = ap (λ ls. length (answered ls)) t.lines ∙ ap (λ ns. length ns) (answered-behind 0 t.deinits t.worked) in
+        let c = fall-length (numbered (operations decl)) (answered t.worked) t.answers in
+        let d : numbered (operations decl) ≤ length (operations decl) = count_by-le-length (λ o. not (begins_block o)) (operations decl) in
+        let e = length_in_one 0 decl.phases in
         omega arith
 spelled-told script came p notes (end {n = n} c e) = record { worked = then-adds nothing (end-tells c); lines = lines }
   where
     nothing : Worked [] 0 []
     nothing = record { ends = refl; makes = omega arith; acts = λ m fits. tt; names = λ m fits f. tt }
 
-    lines : length (lines_of notes) ≡ 0 + length (deinits_of notes)
+    lines : length (lines_of notes) ≤ 0 + length (deinits_of notes)
     lines =
         let t = end_sections_told script.shape came n notes c in
         let a = lines-told notes in
@@ -321,12 +392,12 @@ spelled-told script came p notes (end {n = n} c e) = record { worked = then-adds
         omega arith
 
 -- the operations of a script name its classes
-pub ops_fit : (script : Script) (p : ℕ) → valid.IsScript script → OpsFit (length script.shape.classes) (operations_of script p)
+pub ops_fit : (script : Script) (p : ℕ) → valid.IsScript script → OpsFit (length script.shape.classes) (running script p)
 ops_fit script p is = go (eqb p 0) (slice_get script.threads (p - 1)) refl
   where
-    go : (b : Bool) (d : Option ThreadDecl) → slice_get script.threads (p - 1) ≡ d → OpsFit (length script.shape.classes) (flat_map (λ ops. ops) (phases_in (cond b None d)))
+    go : (b : Bool) (d : Option ThreadDecl) → slice_get script.threads (p - 1) ≡ d → OpsFit (length script.shape.classes) (in_one_list 0 (phases_in (cond b None d)))
     go true d at i o there = absurd cc
     go false None at i o there = absurd cc
     go false (Some decl) at i o there =
         let t = all-at (valid.IsThread script.classes script.globals) script.threads (p - 1) decl is.threads at in
-        subst (λ m. OpFits m o) (sym (class_count script is)) (op-fits script.classes script.globals decl.vars o (all-flat (valid.IsOp script.classes script.globals decl.vars) decl.phases i o t.ops there))
+        subst (λ m. OpFits m o) (sym (class_count script is)) (op-fits script.classes script.globals decl.vars o (ops_are script.classes script.globals decl t i o there))

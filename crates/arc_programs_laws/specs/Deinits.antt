@@ -22,7 +22,7 @@ use Rattle.arc_quiet.specs.Whole.{NoOtherThread}
 abbrev pub deinit_lines : List Line → ℕ
 deinit_lines lines = count_by tells_deinit lines
 
--- the act of thread p is the drop of a strong reference, the last to its object
+-- the act of thread p is the drop of a strong reference, the last to its object; none is the last to an immortal one
 abbrev pub drops_last_strong : ℕ → Act → Heap → Bool
 drops_last_strong p (acts.Drop k true) heap = passes (λ o. is_in (Hand p k) o.strong) (held_by (Hand p k) heap)
 drops_last_strong p _ heap = false
@@ -35,7 +35,7 @@ emptied (e ∷ h) = one_more_if (drops_last_strong e.thread e.act (heap_after h)
 -- What is counted is that: the object had a strong holder before the event, and has none after it.
 abbrev pub LastDropsEmpty : Type 0
 LastDropsEmpty = (shape : HeapShape) (before : History) (e : Event) → IsLegal shape (e ∷ before) →
-    (drops_last_strong e.thread e.act (heap_after before) ≡ true) ↔ ((i : ℕ) × Empties i before e)
+    (drops_last_strong e.thread e.act (heap_after before) ≡ true) ↔ ((i : ℕ) × Empties shape i before e)
 
 -- Where all threads of a script have their programs, with these lines of each thread and of the end section, the lines have as many
 -- deinits as there are events that emptied a strong list.

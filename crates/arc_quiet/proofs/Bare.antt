@@ -10,8 +10,8 @@ use Rattle.arc_model.specs.declared.shape.Kind.{Kind}
 use Rattle.arc_model.specs.declared.shape.Kind.TheVariants.{Strong, Unowned, Weak}
 use Rattle.arc_model.specs.Shapes.{HeapShape}
 use Rattle.arc_model.specs.Heaps.{Holder, Hand, Vacating, Object, Heap}
-use Rattle.arc_model.specs.Holders.{at_first, at_slot, change, gains, has_entry, held_by, holds, in_slot, is_by, is_duty, is_live, kind_in, lists, owes_to, renamed, with_last, with_list, without}
-use Rattle.arc_model.specs.Cells.{cell, origin}
+use Rattle.arc_model.specs.Holders.{at_first, at_slot, change, gains, has_entry, held_by, holds, in_slot, is_by, is_duty, kind_in, lists, owes_to, renamed, with_last, with_list, without}
+use Rattle.arc_model.specs.Cells.{cell, is_live, origin}
 use Rattle.arc_model.specs.Effects.{becomes, claimed_if, effect, ended_if, entry_left, finished, given_up, gone, left_slot, made, owing_none, put_in, taken_out, vacated}
 use Rattle.arc_model.specs.Needs.{Sight, first_failing, is_at_cap, needs}
 use Rattle.arc_model.specs.WellFormed.{more, total, IsWhole}
@@ -102,23 +102,23 @@ gone-keeps p q s true o = λ slot owed. no owed
 gone-keeps p q s false o = λ slot owed. no owed
 
 -- an object whose vacating is owed needs no entry
-no-side : {A : Type 0} (shape : HeapShape) (p : ℕ) (why : Kind) (o : Object) → 1 ≤ shape.caps.unowned → IsWhole o → owes_to p Vacating o ≡ true → is_at_cap shape why o ≡ true → A
+no-side : {A : Type 0} (shape : HeapShape) (p : ℕ) (why : Kind) (o : Object) → 1 ≤ shape.caps.unowned → IsWhole shape o → owes_to p Vacating o ≡ true → is_at_cap shape why o ≡ true → A
 no-side shape p why o cap whole owed full = go why full
   where
     duty : is_duty Vacating o.owed ≡ true
     duty = (and_parts (is_by p o.owed) (is_duty Vacating o.owed) owed).1
 
-    lifeless : is_live o ≡ false
+    lifeless : is_live shape o ≡ false
     lifeless = ap not (vacating-facts o whole duty).strong
 
     go : {A : Type 0} (why : Kind) → is_at_cap shape why o ≡ true → A
-    go Strong full = clash (is_live o) (and_parts (is_live o) (eqb (length o.strong) (shape.caps.strong + 1)) full).0 lifeless
+    go Strong full = clash (is_live shape o) (and_parts (is_live shape o) (eqb (length o.strong) (shape.caps.strong + 1)) full).0 lifeless
     go Unowned full =
         let none : o.unowned ≡ [] = empty-is o.unowned (vacating-facts o whole duty).unowned in
         let zero-cap : length o.unowned ≡ shape.caps.unowned = eqb-true (length o.unowned) shape.caps.unowned full in
         let nothing : length o.unowned ≡ 0 = ap length none in
         absurd (omega arith)
-    go Weak full = clash (is_live o) full lifeless
+    go Weak full = clash (is_live shape o) full lifeless
 
 renames-was : (p s i : ℕ) (q : Object) (x y : Holder) (heap : Heap) → slice_get (becomes x y heap).objects i ≡ Some q → in_slot s q ≡ true → owes_to p Vacating q ≡ true → Was p s i q heap.objects
 renames-was p s i q x y heap = change-was p s i q (holds x) (lists (renamed x y)) heap.objects (λ o at found slot owed. (slot, owed, λ e. e))
@@ -133,7 +133,7 @@ puts-was p r s i q c (Some h) heap here slot owed = renames-was p s i q (Hand r 
 
 -- an act of another thread q
 act-was : (shape : HeapShape) (sight : Sight) (p r : ℕ) (act : Act) (s i : ℕ) (q : Object) → eqb r p ≡ false → 1 ≤ shape.caps.unowned → first_failing (needs shape sight r act) ≡ None →
-    ((j : ℕ) (o : Object) → slice_get sight.heap.objects j ≡ Some o → IsWhole o) → slice_get (effect r act sight.heap).objects i ≡ Some q → in_slot s q ≡ true → owes_to p Vacating q ≡ true → Was p s i q sight.heap.objects
+    ((j : ℕ) (o : Object) → slice_get sight.heap.objects j ≡ Some o → IsWhole shape o) → slice_get (effect r act sight.heap).objects i ≡ Some q → in_slot s q ≡ true → owes_to p Vacating q ≡ true → Was p s i q sight.heap.objects
 act-was shape sight p r (acts.New k c t) s i q other cap ok whole here slot owed =
     elim (end-back sight.heap.objects (made r k c t sight.heap.objects) i q here) [
       | inl same ↦ unchanged p s i q sight.heap.objects same slot owed

@@ -1,6 +1,6 @@
 -- Cells refer to objects of their classes where each hand that is put into one does.
 use Rattle.std.proofs.Common.{◌≡◌, ◌≤◌, ℕ, Bool, true, false, cond, eqb, [], ◌∷◌, Option, Some, None, refl, sym, ap, ◌∙◌}
-use Rattle.std.specs.Prelude.{slice_get, slice_index_or, is_some, ⊤}
+use Rattle.std.specs.Prelude.{slice_get, is_some, ⊤}
 use Rattle.std.specs.List.{AllByRecursion}
 use Rattle.std.proofs.lemmas.Bool.{and_parts, eqb-true, eq-eqb}
 use Rattle.arc_model.specs.declared.event.Act.{Act}
@@ -9,7 +9,7 @@ use Rattle.arc_model.specs.declared.event.CellName.{CellName}
 use Rattle.arc_model.specs.declared.event.CellName.TheVariants as cells
 use Rattle.arc_model.specs.declared.event.Event.{Event}
 use Rattle.arc_model.specs.declared.shape.RefShape.{RefShape}
-use Rattle.arc_model.specs.Shapes.{HeapShape}
+use Rattle.arc_model.specs.Shapes.{HeapShape, class_at}
 use Rattle.arc_model.specs.Heaps.{Holder, Hand, Field, Global, Object, Heap}
 use Rattle.arc_model.specs.Holders.{at_first, at_slot, in_slot, same_holder, same_id}
 use Rattle.arc_model.specs.Cells.{cell, cell_shape, field_shape, id_of}
@@ -115,7 +115,7 @@ field-of : (shape : HeapShape) (e : Event) (g : History) → IsLegal shape (e �
 field-of shape e g legal j r before i o after same f =
     let s = step_after shape e g legal j r before in
     let one = one-name o.id (heap_after (e ∷ g)).objects j i s.q o (names-once (λ q. next_hand q (e ∷ g)) (heap_after (e ∷ g)) (well_formed shape (e ∷ g) legal) o.id) s.here (s.id ∙ same) after refl in
-    ap (λ c. slice_get (slice_index_or shape.classes c []) f) (sym s.class ∙ ap (λ (q : Object). q.class) one)
+    ap (λ c. slice_get (class_at shape c).fields f) (sym s.class ∙ ap (λ (q : Object). q.class) one)
 
 cells-step : (shape : HeapShape) (e : Event) (g : History) → IsLegal shape (e ∷ g) → CellsKeepClasses shape (heap_after g) → PutFits shape e g → CellsKeepClasses shape (heap_after (e ∷ g))
 cells-step shape e g legal before fits = record {

@@ -37,7 +37,7 @@ use Rattle.arc_programs.specs.Programs.{Hands, IsDropped, HasSource, Source, Rep
 use Rattle.arc_programs.specs.Programs.IsDropped.{nothing, dropped}
 use Rattle.arc_programs.specs.Programs.HasSource.{copy, unown, weak, load, get}
 use Rattle.arc_programs.specs.Programs.IsAnswered.{made, full, copied, unowned_formed, weak_formed, loaded, found_dead, weakly_loaded, found_nil, looked, got, put_in_nil, swapped, no_owner, given_up, nothing_there, moved, from_nil, count_full, no_entry}
-use Rattle.arc_programs.specs.Programs.OpsDone.{none as no_ops, one as one_more}
+use Rattle.arc_programs.specs.Programs.OpsDone.{none as no_ops, one as one_more, block as at_block}
 use Rattle.arc_programs.specs.Programs.ScopeEnds.{begins, nil as var_nil, dropped as var_dropped}
 use Rattle.arc_programs.specs.Programs.GlobalsCleared.{begins as end_begins, nil as global_nil, cleared}
 use Rattle.arc_programs.specs.ProgramsTied.{hands_in, Spells}
@@ -49,7 +49,7 @@ use Rattle.arc_quiet.proofs.HandFits.{Fit, fit-step}
 use Rattle.arc_quiet.proofs.Pasts.{legal-past, Spares, spares-both, AtNotes, over-event, along}
 use Rattle.arc_quiet.proofs.Pasts.Past.{now, before}
 use Rattle.arc_quiet.proofs.Pasts.Spares.{here as none_added, more}
-use Rattle.arc_quiet.proofs.ProgramsCounted.{all-flat, all-at}
+use Rattle.arc_quiet.proofs.ProgramsCounted.{ops_are, all-at}
 use Rattle.arc_quiet.proofs.Spared.{Leaves, puts_none, leaves-all, spares-grow, drop-spares, ready-spares, settled-spares, read-spares, refused-spares}
 
 -- up to an operation's line: the variables are good, and what is dropped last is none of theirs
@@ -307,6 +307,7 @@ ops-good x are (one_more {i = i} {n = n} {o = o} {vars = vars} {vars' = vars'} d
     let good = ops-good x are d in
     let a = answers x (are i o there) (keep-good x vars good (more none_added tt)) y.does in
     last-good x vars' y.last (record { good = keep-good x vars' a.good (more none_added tt); away = a.away }) y.ends
+ops-good x are (at_block d there is next forth) = ops-good x are d
 
 scope-good : (x : Setting) {first vars : Variables} {n : ℕ} {b ns : List Note} → Good x first b → ScopeEnds x.shape first n vars b ns → Good x vars ns
 scope-good x {first = first} good begins = keep-good x first good (more none_added tt)
@@ -328,7 +329,7 @@ pub program_puts : (causes : Causes) (script : Script) (p : ℕ) (h : History) (
 program_puts causes script p h notes is legal tied (thread {decl = decl} some at y) =
     let x : Setting = record { causes = causes; shape = script.shape; p = p; h = h; legal = legal; classes = script.classes; globals = script.globals; decls = decl.vars; heading = is.heading } in
     let t = all-at (valid.IsThread script.classes script.globals) script.threads (p - 1) decl is.threads at in
-    let worked = ops-good x (λ i o. all-flat (valid.IsOp script.classes script.globals decl.vars) decl.phases i o t.ops) y.ops in
+    let worked = ops-good x (ops_are script.classes script.globals decl t) y.ops in
     ((scope-good x worked y.scope).fits h now tied).0
 program_puts causes script p h notes is legal tied (end c e) =
     let x : Setting = record { causes = causes; shape = script.shape; p = 0; h = h; legal = legal; classes = script.classes; globals = script.globals; decls = []; heading = is.heading } in

@@ -8,7 +8,7 @@ use Rattle.arc_model.specs.declared.event.CellName.TheVariants as cells
 use Rattle.arc_model.specs.declared.event.Event.{Event}
 use Rattle.arc_model.specs.declared.shape.Kind.TheVariants.{Strong}
 use Rattle.arc_model.specs.declared.shape.RefShape.{RefShape}
-use Rattle.arc_model.specs.Shapes.{HeapShape}
+use Rattle.arc_model.specs.Shapes.{ObjectClass, HeapShape}
 use Rattle.arc_model.specs.Heaps.{Object}
 use Rattle.arc_model.specs.Holders.{at_slot, in_slot, is_number}
 use Rattle.arc_model.specs.Cells.{cell_shape, field_shape}
@@ -195,7 +195,7 @@ put-good x vars vars' ns to new good e fresh came fits = record {
 
 -- ---- the cell that an operation names
 
-refs-at : (classes : List ClassDecl) (i : ℕ) → slice_index_or (valid.class_refs classes) i [] ≡ valid.field_refs (valid.fields_at classes i)
+refs-at : (classes : List ClassDecl) (i : ℕ) → (slice_index_or (valid.class_refs classes) i (record { fields = []; immortal = false })).fields ≡ valid.field_refs (valid.fields_at classes i)
 refs-at [] i = refl
 refs-at (c ∷ classes) zero = refl
 refs-at (c ∷ classes) (suc i) = refs-at classes i
@@ -230,5 +230,5 @@ cell-declared x vars g (opcell.Field owner f) name legal fits is e = go (value v
         let a : cell_shape x.shape (heap_after g) name ≡ cell_shape x.shape (heap_after g) (cells.Field held.place f) = ap (cell_shape x.shape (heap_after g)) (Some-inj (sym e)) in
         let l = length-refs (valid.owner_fields x.classes x.decls owner) in
         let within = is.2 in
-        a ∙ ap (field_shape x.shape f) found ∙ ap (λ cs. slice_get (slice_index_or cs fit.object.class []) f) x.heading.of_classes ∙ ap (λ k. slice_get (slice_index_or (valid.class_refs x.classes) k []) f) fit.is_class
+        a ∙ ap (field_shape x.shape f) found ∙ ap (λ (cs : List ObjectClass). slice_get (slice_index_or {A = ObjectClass} cs fit.object.class (record { fields = []; immortal = false })).fields f) x.heading.of_classes ∙ ap (λ k. slice_get (slice_index_or {A = ObjectClass} (valid.class_refs x.classes) k (record { fields = []; immortal = false })).fields f) fit.is_class
         ∙ ap (λ fs. slice_get fs f) (refs-at x.classes (declared x owner).class) ∙ slice_get-get_or (valid.field_refs (valid.owner_fields x.classes x.decls owner)) f (record { kind = Strong; class = 0 }) (omega (arith, within, l))

@@ -31,18 +31,23 @@ use Rattle.arc_programs.specs.ProgramsTied.Spells.{thread, end}
 use Rattle.arc_programs.specs.ProgramsLines.{told}
 use Rattle.arc_quiet.specs.Premises.{CanBeMet}
 use Rattle.arc_quiet.specs.Premises.Premise.{Finished}
-use Rattle.arc_quiet.proofs.Small.{by, held, strong, bare_class, chain_class, script_of, runs, node, heading, pair-classes, no-vars, two-vars, pair-ways}
+use Rattle.arc_quiet.proofs.Small.{by, held, strong, bare_class, chain_class, script_of, runs, node, heading, pair-classes, no-vars, two-vars, of-first, no-blocks, pair-mortal, pair-ways}
 
 abbrev pair_script : Script
 pair_script = script_of (chain_class 65 1 ∷ bare_class ∷ []) [] (runs (strong 97 0 ∷ strong 98 1 ∷ []) (op.New 0 0 ∷ op.New 1 1 ∷ op.Set (opcell.Field 0 0) 1 ∷ []) ∷ [])
 
 pair_valid : valid.IsScript pair_script
 pair_valid = record {
-  heading = heading (chain_class 65 1 ∷ bare_class ∷ []) [] pair-classes (no-vars 64 2);
+  version = (lit≤ tt, lit≤ tt);
+  classes_of_version = (of-first, (of-first, tt));
+  threads_of_version = (((of-first, (of-first, (of-first, tt))), tt), tt);
+  heading = heading (chain_class 65 1 ∷ bare_class ∷ []) [] pair-classes (no-vars 64 2) ((refl, tt), (tt, tt)) tt;
   few_threads = lit≤ tt;
   threads = (
     record {
       vars = two-vars 256 0 1 2 (lit≤ tt) (lit≤ tt) (lit≤ tt);
+      vars_allowed = (refl, (refl, tt));
+      nested = (no-blocks 8 0 _ (refl, (refl, (refl, tt))), tt);
       some_phase = lit≤ tt;
       few_phases = lit≤ tt;
       ops = (((lit≤ tt, lit≤ tt, refl), ((lit≤ tt, lit≤ tt, refl), ((lit≤ tt, (lit≤ tt, refl, lit≤ tt), refl, λ e. omega (arith, e)), tt))), tt);
@@ -117,6 +122,7 @@ can_be_met = (
   pair_history,
   record {
     valid = λ x. pair_valid;
+    mortal = λ x. pair-mortal [];
     one_way = λ x. pair-ways [];
     legal = λ x. (refl, (refl, (refl, (refl, (refl, (refl, (refl, (refl, (refl, (refl, tt))))))))));
     finished = finishes;

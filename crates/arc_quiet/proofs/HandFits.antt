@@ -14,7 +14,8 @@ use Rattle.arc_model.specs.History.{History, heap_after, next_hand, brings, is_o
 use Rattle.arc_model.specs.Lookup.{spot}
 use Rattle.arc_model.specs.Own.{ends_hand}
 use Rattle.arc_model.specs.SpellingTies.{place_of}
-use Rattle.arc_model.proofs.Basics.{Some-inj, in-not_empty}
+use Rattle.arc_model.specs.Cells.{strong_holders}
+use Rattle.arc_model.proofs.Basics.{Some-inj, in-not_empty, in-strong}
 use Rattle.arc_model.proofs.Builds.{advance}
 use Rattle.arc_model.proofs.Courses.{course_after, well_formed}
 use Rattle.arc_model.proofs.Keeps.{end-at, Course, still, makes, turn, turns}
@@ -92,11 +93,11 @@ fit-step shape e g legal p j i kind class place keeps f =
     let at = spot-step shape e g legal p j keeps (ap is_some f.at) ∙ f.at in
     record { at = at; object = s.q; here = s.here; is_class = s.class ∙ f.is_class; placed = λ n is. stays kind (fit-in shape g legal.1 p j i kind f.object f.at f.here) (fit-in shape (e ∷ g) legal p j i kind s.q at s.here) n (f.placed n is) }
   where
-    slot : (o q : Object) (kind : Kind) → (kind ≡ Weak → ⊥) → (q.slot ≡ o.slot) ⊎ IsLeaving e.act o → is_in (Hand p j) (list_of kind o) ≡ true → q.slot ≡ o.slot
+    slot : (o q : Object) (kind : Kind) → (kind ≡ Weak → ⊥) → (q.slot ≡ o.slot) ⊎ IsLeaving shape e.act o → is_in (Hand p j) (list_of kind o) ≡ true → q.slot ≡ o.slot
     slot o q Strong k (inl same) inside = same
     slot o q Unowned k (inl same) inside = same
     slot o q Weak k r inside = absurd (k refl)
-    slot o q Strong k (inr leaves) inside = clash (is_empty o.strong) leaves.3 (in-not_empty (Hand p j) o.strong inside)
+    slot o q Strong k (inr leaves) inside = clash (is_empty (strong_holders shape o)) leaves.3 (in-strong shape (Hand p j) o inside)
     slot o q Unowned k (inr leaves) inside = clash (is_empty o.unowned) leaves.4 (in-not_empty (Hand p j) o.unowned inside)
 
     course : Course shape e.thread e.act (λ q. next_hand q g) (advance (brings e.act) e.thread (λ q. next_hand q g)) (heap_after g) (heap_after (e ∷ g))

@@ -230,5 +230,5 @@ whole_is_quiet causes script h is legal finish last few = record {
 }
 
 pub leaves_nothing : LeavesNothing
-leaves_nothing causes script h is ways legal finish last few =
-    quiet_is_dead script.shape h legal ways (cells_keep_classes causes script h is legal finish few) (whole_is_quiet causes script h is legal finish last few)
+leaves_nothing causes script h is mortal ways legal finish last few =
+    quiet_is_dead script.shape h legal mortal ways (cells_keep_classes causes script h is legal finish few) (whole_is_quiet causes script h is legal finish last few)

@@ -30,8 +30,8 @@ use Rattle.arc_programs.specs.ProgramsTied.{hands_in, HasProgram, IsSpelledIn}
 use Rattle.arc_programs.specs.ProgramsTied.Spells.{thread, end}
 use Rattle.arc_programs.specs.ProgramsLines.{told}
 use Rattle.arc_quiet.specs.Premises.{IsNeeded, EachIsNeeded}
-use Rattle.arc_quiet.specs.Premises.Premise.{Valid, OneWay, Legal, Finished, Last, NoOther}
-use Rattle.arc_quiet.proofs.Small.{by, held, strong, bare_class, chain_class, script_of, runs, node, heading, bare-classes, ring-classes, no-vars, one-var, two-vars, bare-ways}
+use Rattle.arc_quiet.specs.Premises.Premise.{Valid, Mortal, OneWay, Legal, Finished, Last, NoOther}
+use Rattle.arc_quiet.proofs.Small.{by, held, strong, bare_class, chain_class, script_of, runs, node, heading, bare-classes, ring-classes, no-vars, one-var, two-vars, of-first, no-blocks, bare-mortal, ring-mortal, bare-ways, immortal_class, immortal-classes, immortal-ways}
 
 -- ---- a thread that makes an object and goes on to its end, or doesn't
 
@@ -40,9 +40,12 @@ one_script = script_of (bare_class ∷ []) [] (runs (strong 97 0 ∷ []) (op.New
 
 one_valid : valid.IsScript one_script
 one_valid = record {
-  heading = heading (bare_class ∷ []) [] bare-classes (no-vars 64 1);
+  version = (lit≤ tt, lit≤ tt);
+  classes_of_version = (of-first, tt);
+  threads_of_version = (((of-first, tt), tt), tt);
+  heading = heading (bare_class ∷ []) [] bare-classes (no-vars 64 1) (tt, tt) tt;
   few_threads = lit≤ tt;
-  threads = (record { vars = one-var 256 0 1 (lit≤ tt) (lit≤ tt); some_phase = lit≤ tt; few_phases = lit≤ tt; ops = (((lit≤ tt, lit≤ tt, refl), tt), tt) }, tt);
+  threads = (record { vars = one-var 256 0 1 (lit≤ tt) (lit≤ tt); vars_allowed = (refl, tt); nested = (no-blocks 8 0 _ (refl, tt), tt); some_phase = lit≤ tt; few_phases = lit≤ tt; ops = (((lit≤ tt, lit≤ tt, refl), tt), tt) }, tt);
   few_ops = lit≤ tt;
   few_places = lit≤ tt;
   places = tt;
@@ -63,6 +66,7 @@ stops = (
   made_history,
   record {
     valid = λ x. one_valid;
+    mortal = λ x. bare-mortal [];
     one_way = λ x. bare-ways [];
     legal = λ x. (refl, tt);
     finished = finishes;
@@ -110,6 +114,7 @@ wrong = (
   wrong_history,
   record {
     valid = λ x. one_valid;
+    mortal = λ x. bare-mortal [];
     one_way = λ x. bare-ways [];
     legal = λ x. absurd (x refl);
     finished = finishes;
@@ -124,6 +129,58 @@ wrong = (
     finishes : (p : ℕ) → p ≤ 1 → (Some Legal ≡ Some (Finished p) → ⊥) → (lines : List ThreadLine) × HasProgram Judged one_script p lines wrong_history
     finishes zero l x = ([], record { notes = notes_by wrong_zero_steps []; tied = tied_by one_script.shape 0 wrong_zero_steps (refl, (refl, (tt, tt))) start; spelled = end end_begins refl; lines_are = refl })
     finishes (suc zero) l x = (told (notes_by wrong_one_steps []), wrong_one)
+    finishes (suc (suc p)) l x = absurd (omega (arith, l))
+
+-- ---- an object of an immortal class is released, and lives on
+
+abbrev undying_script : Script
+undying_script = script_of (immortal_class ∷ []) [] (runs (strong 97 0 ∷ []) (op.New 0 0 ∷ []) ∷ [])
+
+undying_valid : valid.IsScript undying_script
+undying_valid = record {
+  version = (lit≤ tt, lit≤ tt);
+  classes_of_version = (λ e. refl, tt);
+  threads_of_version = (((of-first, tt), tt), tt);
+  heading = heading (immortal_class ∷ []) [] immortal-classes (no-vars 64 1) (tt, tt) tt;
+  few_threads = lit≤ tt;
+  threads = (record { vars = one-var 256 0 1 (lit≤ tt) (lit≤ tt); vars_allowed = (refl, tt); nested = (no-blocks 8 0 _ (refl, tt), tt); some_phase = lit≤ tt; few_phases = lit≤ tt; ops = (((lit≤ tt, lit≤ tt, refl), tt), tt) }, tt);
+  few_ops = lit≤ tt;
+  few_places = lit≤ tt;
+  places = tt;
+}
+
+undying_does : IsOp undying_script.shape 1 (hands_in 1 wrong_history) 1 (op.New 0 0) (None ∷ []) [] (Some (held 1 0) ∷ []) made_notes
+undying_does = record { answer = answers.New (node 0 1); last = None; answered = Did (acts.New 1 0 0) ∷ Operation 1 ∷ []; does = made refl refl (record { replaced = refl; old = refl }); ends = nothing }
+
+undying : IsNeeded Mortal
+undying = (
+  undying_script,
+  wrong_history,
+  record {
+    valid = λ x. undying_valid;
+    mortal = λ x. absurd (x refl);
+    one_way = λ x. immortal-ways [];
+    legal = λ x. (refl, (refl, tt));
+    finished = finishes;
+    last = λ x. refl;
+    no_other = λ x. (lit≤ tt, (lit≤ tt, tt));
+  },
+  _,
+  refl,
+  λ e. cc,
+)
+  where
+    finishes : (p : ℕ) → p ≤ 1 → (Some Mortal ≡ Some (Finished p) → ⊥) → (lines : List ThreadLine) × HasProgram Judged undying_script p lines wrong_history
+    finishes zero l x = ([], record { notes = notes_by wrong_zero_steps []; tied = tied_by undying_script.shape 0 wrong_zero_steps (refl, (refl, (tt, tt))) start; spelled = end end_begins refl; lines_are = refl })
+    finishes (suc zero) l x = (
+      told (notes_by wrong_one_steps []),
+      record {
+        notes = notes_by wrong_one_steps [];
+        tied = tied_by undying_script.shape 1 wrong_one_steps (tt, (tt, (tt, tt))) start;
+        spelled = thread (omega arith) refl (record { vars = Some (held 1 0) ∷ []; worked = made_notes; ops = next_op (no_ops refl) refl refl undying_does; left = None ∷ []; scope = var_dropped begins (omega arith) refl refl refl drop_more });
+        lines_are = refl;
+      },
+    )
     finishes (suc (suc p)) l x = absurd (omega (arith, l))
 
 -- ---- an operation without a variable to take what it makes
@@ -143,6 +200,7 @@ lost = (
   made_history,
   record {
     valid = λ x. absurd (x refl);
+    mortal = λ x. bare-mortal [];
     one_way = λ x. bare-ways [];
     legal = λ x. (refl, tt);
     finished = finishes;
@@ -183,7 +241,8 @@ stranger = (
   no_script,
   stranger_history,
   record {
-    valid = λ x. record { heading = heading (bare_class ∷ []) [] bare-classes (no-vars 64 1); few_threads = lit≤ tt; threads = tt; few_ops = lit≤ tt; few_places = lit≤ tt; places = tt };
+    valid = λ x. record { version = (lit≤ tt, lit≤ tt); classes_of_version = (of-first, tt); threads_of_version = tt; heading = heading (bare_class ∷ []) [] bare-classes (no-vars 64 1) (tt, tt) tt; few_threads = lit≤ tt; threads = tt; few_ops = lit≤ tt; few_places = lit≤ tt; places = tt };
+    mortal = λ x. bare-mortal [];
     one_way = λ x. bare-ways [];
     legal = λ x. (refl, tt);
     finished = finishes;
@@ -206,9 +265,12 @@ global_script = script_of (bare_class ∷ []) (strong 97 0 ∷ []) (runs (strong
 
 global_valid : valid.IsScript global_script
 global_valid = record {
-  heading = heading (bare_class ∷ []) (strong 97 0 ∷ []) bare-classes (one-var 64 0 1 (lit≤ tt) (lit≤ tt));
+  version = (lit≤ tt, lit≤ tt);
+  classes_of_version = (of-first, tt);
+  threads_of_version = (((of-first, (of-first, tt)), tt), tt);
+  heading = heading (bare_class ∷ []) (strong 97 0 ∷ []) bare-classes (one-var 64 0 1 (lit≤ tt) (lit≤ tt)) (tt, tt) (refl, tt);
   few_threads = lit≤ tt;
-  threads = (record { vars = one-var 256 0 1 (lit≤ tt) (lit≤ tt); some_phase = lit≤ tt; few_phases = lit≤ tt; ops = (((lit≤ tt, lit≤ tt, refl), ((lit≤ tt, lit≤ tt, refl, tt), tt)), tt) }, tt);
+  threads = (record { vars = one-var 256 0 1 (lit≤ tt) (lit≤ tt); vars_allowed = (refl, tt); nested = (no-blocks 8 0 _ (refl, (refl, tt)), tt); some_phase = lit≤ tt; few_phases = lit≤ tt; ops = (((lit≤ tt, lit≤ tt, refl), ((lit≤ tt, lit≤ tt, refl, tt), tt)), tt) }, tt);
   few_ops = lit≤ tt;
   few_places = lit≤ tt;
   places = tt;
@@ -238,6 +300,7 @@ kept = (
   kept_history,
   record {
     valid = λ x. global_valid;
+    mortal = λ x. bare-mortal (strong 97 0 ∷ []);
     one_way = λ x. bare-ways (strong 97 0 ∷ []);
     legal = λ x. (refl, (refl, tt));
     finished = finishes;
@@ -285,6 +348,7 @@ early = (
   early_history,
   record {
     valid = λ x. global_valid;
+    mortal = λ x. bare-mortal (strong 97 0 ∷ []);
     one_way = λ x. bare-ways (strong 97 0 ∷ []);
     legal = λ x. (refl, (refl, (refl, tt)));
     finished = finishes;
@@ -316,11 +380,16 @@ ring_script = script_of (chain_class 78 0 ∷ []) [] (runs (strong 97 0 ∷ stro
 
 ring_valid : valid.IsScript ring_script
 ring_valid = record {
-  heading = heading (chain_class 78 0 ∷ []) [] ring-classes (no-vars 64 1);
+  version = (lit≤ tt, lit≤ tt);
+  classes_of_version = (of-first, tt);
+  threads_of_version = (((of-first, (of-first, (of-first, tt))), tt), tt);
+  heading = heading (chain_class 78 0 ∷ []) [] ring-classes (no-vars 64 1) ((refl, tt), tt) tt;
   few_threads = lit≤ tt;
   threads = (
     record {
       vars = two-vars 256 0 0 1 (lit≤ tt) (lit≤ tt) (lit≤ tt);
+      vars_allowed = (refl, (refl, tt));
+      nested = (no-blocks 8 0 _ (refl, (refl, (refl, tt))), tt);
       some_phase = lit≤ tt;
       few_phases = lit≤ tt;
       ops = (((lit≤ tt, lit≤ tt, refl), ((record { to_there = lit≤ tt; of_there = lit≤ tt; kind_of_to = refl; kind_of_of = refl; one_class = refl }, λ e. omega (arith, e)), ((lit≤ tt, (lit≤ tt, refl, lit≤ tt), refl, λ e. omega (arith, e)), tt))), tt);
@@ -364,6 +433,7 @@ ring = (
   ring_history,
   record {
     valid = λ x. ring_valid;
+    mortal = λ x. ring-mortal [];
     one_way = λ x. absurd (x refl);
     legal = λ x. (refl, (refl, (refl, (refl, tt))));
     finished = finishes;
@@ -395,4 +465,4 @@ ring = (
     finishes (suc (suc p)) l x = absurd (omega (arith, l))
 
 pub each_is_needed : EachIsNeeded
-each_is_needed = record { valid = lost; one_way = ring; legal = wrong; end_section = kept; threads = stops; last = early; no_other = stranger }
+each_is_needed = record { valid = lost; mortal = undying; one_way = ring; legal = wrong; end_section = kept; threads = stops; last = early; no_other = stranger }

@@ -1,6 +1,6 @@
 -- A program that came to its end has ended each hand that came and paid each debt that it made.
-use Rattle.std.proofs.Common.{◌≡◌, ◌<◌, ◌≤◌, ◌+◌, ◌-◌, ℕ, zero, suc, List, [], ◌∷◌, ◌++◌, Option, Some, None, refl, ap, ◌∙◌, length, subst, arith}
-use Rattle.std.specs.Prelude.{flat_map, slice_get}
+use Rattle.std.proofs.Common.{◌≡◌, ◌<◌, ◌≤◌, ◌+◌, ◌-◌, ℕ, zero, suc, List, [], ◌∷◌, Option, Some, None, refl, ap, ◌∙◌, length, subst, arith}
+use Rattle.std.specs.Prelude.{slice_get}
 use Rattle.std.specs.List.{AllByRecursion}
 use Rattle.std.proofs.lemmas.List.{length-set, length-replicate}
 use Rattle.arc_model.specs.declared.answer.Answer.{Answer}
@@ -15,17 +15,20 @@ use Rattle.arc_model.specs.Shapes.{HeapShape}
 use Rattle.arc_model.specs.Spelling.{Note, hands_of, one_more_if}
 use Rattle.arc_model.specs.Spelling.Note.{Name, Entry}
 use Rattle.arc_script.specs.Valid as valid
+use Rattle.arc_script.specs.OneList.{moved_behind}
+use Rattle.arc_script.proofs.OneList.{all_in_one}
 use Rattle.arc_script.specs.declared.script.ClassDecl.{ClassDecl}
 use Rattle.arc_script.specs.declared.script.VarDecl.{VarDecl}
 use Rattle.arc_script.specs.declared.script.ThreadDecl.{ThreadDecl}
 use Rattle.arc_script.specs.declared.script.Script.{Script}
 use Rattle.arc_script.specs.declared.script.Op.{Op}
+use Rattle.arc_script.specs.declared.script.Op.TheVariants as op
 use Rattle.arc_programs.specs.Variables.{Held, Variables, value, put, hand_in}
 use Rattle.arc_programs.specs.Programs.{Hands, IsDropped, HasSource, Source, Replaces, IsAnswered, OpsDone, ScopeEnds, IsProgram, GlobalsCleared}
 use Rattle.arc_programs.specs.Programs.IsDropped.{nothing, dropped}
 use Rattle.arc_programs.specs.Programs.HasSource.{copy, unown, weak, load, get}
 use Rattle.arc_programs.specs.Programs.IsAnswered.{made, full, copied, unowned_formed, weak_formed, loaded, found_dead, weakly_loaded, found_nil, looked, got, put_in_nil, swapped, no_owner, given_up, nothing_there, moved, from_nil, count_full, no_entry}
-use Rattle.arc_programs.specs.Programs.OpsDone.{none, one}
+use Rattle.arc_programs.specs.Programs.OpsDone.{none, one, block}
 use Rattle.arc_programs.specs.Programs.ScopeEnds.{begins, nil as var_nil, dropped as var_dropped}
 use Rattle.arc_programs.specs.Programs.GlobalsCleared.{begins as end_begins, nil as global_nil, cleared}
 use Rattle.arc_programs.specs.ProgramsTied.{operations, Spells}
@@ -194,14 +197,31 @@ record Worked (vars : Variables) (now : List Note) : Type 0 where
   hands : hands_of now ≤ non_nil vars + ended_in now
   debts : debts_in now ≡ paid_in now
 
-pub all-flat : (P : Op → Type 0) (phases : List (List Op)) (i : ℕ) (o : Op) → AllByRecursion (λ (ops : List Op). AllByRecursion P ops) phases → slice_get (flat_map (λ ops. ops) phases) i ≡ Some o → P o
-all-flat P [] i o a at = absurd (None≢Some o at)
-all-flat P (ops ∷ phases) i o a at = in-ops ops i a.0 at (λ j. all-flat P phases j o a.1)
-  where
-    in-ops : (ops : List Op) (i : ℕ) → AllByRecursion P ops → slice_get (ops ++ flat_map (λ ops. ops) phases) i ≡ Some o → ((j : ℕ) → slice_get (flat_map (λ ops. ops) phases) j ≡ Some o → P o) → P o
-    in-ops [] i a at rest = rest i at
-    in-ops (x ∷ ops) zero a at rest = subst P (Some-inj at) a.0
-    in-ops (x ∷ ops) (suc i) a at rest = in-ops ops i a.1 at rest
+pub all-at : {X : Type 0} (P : X → Type 0) (xs : List X) (i : ℕ) (x : X) → AllByRecursion P xs → slice_get xs i ≡ Some x → P x
+all-at P [] i x a at = absurd (None≢Some x at)
+all-at P (y ∷ xs) zero x a at = subst P (Some-inj at) a.0
+all-at P (y ∷ xs) (suc i) x a at = all-at P xs i x a.1 at
+
+-- what holds of each operation of a thread, and stays when a block's end is moved, holds of each in one list
+pub all-ops : (P : Op → Type 0) → ((n : ℕ) (o : Op) → P o → P (moved_behind n o)) → (decl : ThreadDecl) (i : ℕ) (o : Op) → AllByRecursion (λ (ops : List Op). AllByRecursion P ops) decl.phases → slice_get (operations decl) i ≡ Some o → P o
+all-ops P stays decl i o a at = all-at P (operations decl) i o (all_in_one P stays 0 decl.phases a) at
+
+pub is_op_moved : (classes : List ClassDecl) (globals decls : List VarDecl) (n : ℕ) (o : Op) → valid.IsOp classes globals decls o → valid.IsOp classes globals decls (moved_behind n o)
+is_op_moved classes globals decls n (op.New to class) is = is
+is_op_moved classes globals decls n (op.Copy to from) is = is
+is_op_moved classes globals decls n (op.Drop var) is = is
+is_op_moved classes globals decls n (op.Move to from) is = is
+is_op_moved classes globals decls n (op.Unown to of) is = is
+is_op_moved classes globals decls n (op.Weak to of) is = is
+is_op_moved classes globals decls n (op.Load to of) is = is
+is_op_moved classes globals decls n (op.Get to c) is = is
+is_op_moved classes globals decls n (op.Set c from) is = is
+is_op_moved classes globals decls n (op.IfNil var to) is = is
+is_op_moved classes globals decls n (op.IfSome var to) is = is
+
+-- each operation of a valid thread is valid
+pub ops_are : (classes : List ClassDecl) (globals : List VarDecl) (decl : ThreadDecl) → valid.IsThread classes globals decl → (i : ℕ) (o : Op) → slice_get (operations decl) i ≡ Some o → valid.IsOp classes globals decl.vars o
+ops_are classes globals decl is i o = all-ops (valid.IsOp classes globals decl.vars) (is_op_moved classes globals decl.vars) decl i o is.ops
 
 last-adds : {shape : HeapShape} {last : Option Held} {b after : List Note} → IsDropped shape last b after → Adds 0 (is_one last) 0 0 b after
 last-adds nothing = adds-none
@@ -215,6 +235,7 @@ ops-count classes globals decls are (one {i = i} {o = o} {vars = vars} {vars' = 
     let a = answers classes globals decls (are i o there) w.1 x.does in let ah = a.hands in let ad = a.debts in
     let l = last-adds x.ends in let lh = l.hands in let ld = l.debts in
     (record { hands = omega arith; debts = omega arith }, a.count ∙ w.1)
+ops-count classes globals decls are (block d there is next forth) = ops-count classes globals decls are d
 
 scope-count : {shape : HeapShape} {first vars : Variables} {n : ℕ} {b ns : List Note} → ScopeEnds shape first n vars b ns → Worked first b → Worked vars ns × (length vars ≡ length first)
 scope-count begins w = let wh = w.hands in let wd = w.debts in (record { hands = omega arith; debts = omega arith }, refl)
@@ -234,7 +255,7 @@ pub record Balanced (notes : List Note) : Type 0 where
 
 program-balanced : (classes : List ClassDecl) (globals : List VarDecl) (decl : ThreadDecl) {shape : HeapShape} {p : ℕ} {came : Hands} {notes : List Note} → valid.IsThread classes globals decl → IsProgram shape p came (operations decl) (length decl.vars) notes → Balanced notes
 program-balanced classes globals decl {shape = shape} {p = p} {came = came} {notes = notes} is x =
-    let w = ops-count classes globals decl.vars (λ i o. all-flat (valid.IsOp classes globals decl.vars) decl.phases i o is.ops) x.ops in
+    let w = ops-count classes globals decl.vars (ops_are classes globals decl is) x.ops in
     let s = scope-count x.scope w.0 in let sh = s.0.hands in
     let len : length x.left ≡ length decl.vars = s.1 ∙ w.1 in
     let nils = none-non_nil x.left (λ v l. scopes_empty shape p came (operations decl) (length decl.vars) notes x v (omega arith)) in
@@ -247,17 +268,12 @@ end-balanced (cleared c l e k r d) =
     let h = end-balanced c in let hh = h.hands in let hd = h.debts in
     let a = drop-adds d in let ah = a.hands in let ad = a.debts in record { hands = omega arith; debts = omega arith }
 
-pub all-at : {X : Type 0} (P : X → Type 0) (xs : List X) (i : ℕ) (x : X) → AllByRecursion P xs → slice_get xs i ≡ Some x → P x
-all-at P [] i x a at = absurd (None≢Some x at)
-all-at P (y ∷ xs) zero x a at = subst P (Some-inj at) a.0
-all-at P (y ∷ xs) (suc i) x a at = all-at P xs i x a.1 at
-
 -- between two operations each debt is paid
 pub ops_balanced : (script : Script) (p n : ℕ) (decl : ThreadDecl) (came : Hands) (vars : Variables) (notes : List Note) → valid.IsScript script → slice_get script.threads (p - 1) ≡ Some decl → OpsDone script.shape p came (operations decl) (length decl.vars) n vars notes →
     debts_in notes ≡ paid_in notes
 ops_balanced script p n decl came vars notes is at d =
     let t = all-at (valid.IsThread script.classes script.globals) script.threads (p - 1) decl is.threads at in
-    (ops-count script.classes script.globals decl.vars (λ i o. all-flat (valid.IsOp script.classes script.globals decl.vars) decl.phases i o t.ops) d).0.debts
+    (ops-count script.classes script.globals decl.vars (ops_are script.classes script.globals decl t) d).0.debts
 
 pub spelled_balanced : (script : Script) (came : Hands) (p : ℕ) (notes : List Note) → valid.IsScript script → Spells script came p notes → Balanced notes
 spelled_balanced script came p notes is (thread {decl = decl} some at x) = program-balanced script.classes script.globals decl (all-at (valid.IsThread script.classes script.globals) script.threads (p - 1) decl is.threads at) x

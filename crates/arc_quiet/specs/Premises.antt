@@ -11,13 +11,15 @@ use Rattle.arc_script.specs.declared.answer.Line.{Line}
 use Rattle.arc_script.specs.declared.script.Script.{Script}
 use Rattle.arc_script.specs.Valid.{IsScript}
 use Rattle.arc_programs.specs.ProgramsTied.{HasProgram}
-use Rattle.arc_quiet.specs.OneWay.{StrongFieldsLeadOneWay}
+use Rattle.arc_quiet.specs.OneWay.{NoClassIsImmortal, StrongFieldsLeadOneWay}
 use Rattle.arc_quiet.specs.Whole.{NoOtherThread, StandsLast}
 
 -- The premises of the law that a program leaves nothing behind.
 pub data Premise : Type 0 where
   -- the script is valid
   Valid : Premise
+  -- no class is immortal
+  Mortal : Premise
   -- strong fields lead one way
   OneWay : Premise
   -- the history is legal
@@ -32,6 +34,7 @@ pub data Premise : Type 0 where
 -- all premises hold but the one that is named
 pub record AllBut (failing : Option Premise) (script : Script) (h : History) : Type 0 where
   pub valid : failing ≢ Some Valid → IsScript script
+  pub mortal : failing ≢ Some Mortal → NoClassIsImmortal script.shape
   pub one_way : failing ≢ Some OneWay → StrongFieldsLeadOneWay script.shape
   pub legal : failing ≢ Some Legal → IsLegal script.shape h
   pub finished : (p : ℕ) → p ≤ length script.threads → failing ≢ Some (Finished p) → (lines : List Line) × HasProgram Judged script p lines h
@@ -40,11 +43,12 @@ pub record AllBut (failing : Option Premise) (script : Script) (h : History) : T
 
 -- without this premise an object may be left: in some history all others hold, and the first object isn't dead
 abbrev pub IsNeeded : Premise → Type 0
-IsNeeded premise = (script : Script) × (h : History) × AllBut (Some premise) script h × (o : Object) × (slice_get (heap_after h).objects 0 ≡ Some o) × (life_of o ≢ Dead)
+IsNeeded premise = (script : Script) × (h : History) × AllBut (Some premise) script h × (o : Object) × (slice_get (heap_after h).objects 0 ≡ Some o) × (life_of script.shape o ≢ Dead)
 
 -- Each premise is needed: that the end section runs and that each other thread comes to its end, too.
 pub record EachIsNeeded : Type 0 where
   pub valid : IsNeeded Valid
+  pub mortal : IsNeeded Mortal
   pub one_way : IsNeeded OneWay
   pub legal : IsNeeded Legal
   pub end_section : IsNeeded (Finished 0)

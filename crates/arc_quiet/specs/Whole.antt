@@ -9,7 +9,7 @@ use Rattle.arc_script.specs.declared.script.Script.{Script}
 use Rattle.arc_script.specs.Valid.{IsScript}
 use Rattle.arc_programs.specs.ProgramsTied.{HasProgram}
 use Rattle.arc_quiet.specs.Quiet.{IsQuietHeap}
-use Rattle.arc_quiet.specs.OneWay.{StrongFieldsLeadOneWay, CellsKeepClasses, AllDead}
+use Rattle.arc_quiet.specs.OneWay.{NoClassIsImmortal, StrongFieldsLeadOneWay, CellsKeepClasses, AllDead}
 
 -- every thread's share, thread 0's too, is spelled to its end
 abbrev pub AllFinish : Causes → Script → History → Type 0
@@ -31,8 +31,8 @@ CellsKeepClassesAfter = (causes : Causes) (script : Script) (h : History) → Is
 abbrev pub WholeIsQuiet : Type 0
 WholeIsQuiet = (causes : Causes) (script : Script) (h : History) → IsScript script → IsLegal script.shape h → AllFinish causes script h → StandsLast 0 h → NoOtherThread script h → IsQuietHeap (heap_after h)
 
--- A script whose strong fields lead one way leaves nothing behind: where every thread's share is spelled to its end, thread 0's events
+-- A script without an immortal class whose strong fields lead one way leaves nothing behind: where every thread's share is spelled to its end, thread 0's events
 -- stand last and no event is of another thread, every object is dead.
 abbrev pub LeavesNothing : Type 0
-LeavesNothing = (causes : Causes) (script : Script) (h : History) → IsScript script → StrongFieldsLeadOneWay script.shape → IsLegal script.shape h → AllFinish causes script h → StandsLast 0 h → NoOtherThread script h →
-    AllDead (heap_after h)
+LeavesNothing = (causes : Causes) (script : Script) (h : History) → IsScript script → NoClassIsImmortal script.shape → StrongFieldsLeadOneWay script.shape → IsLegal script.shape h → AllFinish causes script h → StandsLast 0 h → NoOtherThread script h →
+    AllDead script.shape (heap_after h)

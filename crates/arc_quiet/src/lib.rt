@@ -8,14 +8,14 @@ ghost use Rattle.arc_quiet.specs.Premises.{CanBeMet, EachIsNeeded};
 ghost use Rattle.arc_quiet.specs.Quiet.{LiveIsHeld};
 ghost use Rattle.arc_quiet.specs.Whole.{CellsKeepClassesAfter, LeavesNothing, WholeIsQuiet};
 
-/// In a heap in which no thread has a hand, a duty or a claim, and each global is nil, a live object is held by a strong field
-/// of a live object. Source: The Swift Programming Language, strong reference cycles between class instances.
+/// In a heap in which no thread has a hand, a duty or a claim, and each global is nil, a live object that isn't immortal is held by
+/// a strong field of a live object. Source: The Swift Programming Language, strong reference cycles between class instances.
 pub fn live_is_held()
     ensures { LiveIsHeld }
 {}
 
-/// Where the class of each strong field stands later among the class lines than the class that declares it, and each cell refers
-/// to an object of its class, every object of such a heap is dead. This project's own.
+/// Where no class is immortal, the class of each strong field stands later among the class lines than the class that declares it, and
+/// each cell refers to an object of its class, every object of such a heap is dead. This project's own.
 pub fn quiet_is_dead()
     ensures { QuietIsDead }
 {}
@@ -45,7 +45,7 @@ pub fn cells_keep_classes()
     ensures { CellsKeepClassesAfter }
 {}
 
-/// A program whose strong fields lead one way leaves nothing behind: where the class of each strong field stands later among the
+/// A program without an immortal class whose strong fields lead one way leaves nothing behind: where the class of each strong field stands later among the
 /// class lines than the class that declares it, every thread's share is spelled to its end, thread 0's events stand last and
 /// no event is of another thread, every object is dead. Source: The Swift Programming Language, a leak is a strong reference
 /// cycle; the order of the classes is this project's own.
@@ -53,8 +53,8 @@ pub fn leaves_nothing()
     ensures { LeavesNothing }
 {}
 
-/// Each premise of that law is needed: where one fails and all others hold an object may be left, as in a strong cycle, where a
-/// thread stops before its end, where a global isn't cleared or is written behind the end section, and where a thread without
+/// Each premise of that law is needed: where one fails and all others hold an object may be left, as in a strong cycle, for an
+/// immortal object, where a thread stops before its end, where a global isn't cleared or is written behind the end section, and where a thread without
 /// a program has an event. All premises hold of some history.
 pub fn each_premise_is_needed()
     ensures needed { EachIsNeeded }

@@ -1,5 +1,5 @@
 -- The history text of a run is the canonical text of its events.
-use Rattle.std.proofs.Common.{◌≡◌, ℕ, ◌^◌, ◌<◌, ◌≤◌, List, [], ◌∷◌, ◌++◌, length, map, Option, Some, None, Ok, refl, sym, ap, ◌∙◌, append_assoc, append-nil}
+use Rattle.std.proofs.Common.{◌≡◌, ℕ, List, [], ◌∷◌, ◌++◌, length, map, Option, Some, None, Ok, refl, sym, ap, ◌∙◌, append_assoc, append-nil}
 use Rattle.std.specs.Prelude.{codes}
 use Rattle.std.specs.List.{AllByRecursion, flat_map}
 use Rattle.std.specs.Fmt.{decimal}
@@ -15,7 +15,7 @@ use Rattle.arc_model.specs.declared.event.Act.TheVariants as act
 use Rattle.arc_script.specs.declared.script.ClassDecl.{ClassDecl}
 use Rattle.arc_script.specs.declared.script.VarDecl.{VarDecl}
 use Rattle.arc_script.specs.declared.script.Script.{Script}
-use Rattle.arc_script.specs.Valid.{name_at, class_names, var_names, IsHeading}
+use Rattle.arc_script.specs.Valid.{name_at, class_names, var_names}
 use Rattle.arc_script.specs.Canonical.{kind_word, spaced, line_text, text_of, numbers_line, heading_lines, heading_text}
 use Rattle.arc_ops.specs.declared.told.Stamped.{Stamped}
 use Rattle.arc_report.specs.Names.{cell_text, origin_text}
@@ -26,7 +26,7 @@ use Rattle.arc_check.specs.EventTexts.{history_of}
 use Rattle.arc_check.specs.Behind.{GoesBefore}
 use Rattle.arc_check.specs.WrittenHistory.{last_word, got_word, hand_word, cell_word, origin_word, act_words, event_words, events_lines, later_lines, written_history, named_of, EventFits}
 use Rattle.arc_check.proofs.HistoryBack.{history_back}
-use Rattle.arc_read_back.specs.ReadBack.{unlined, StampedFits, told_of}
+use Rattle.arc_read_back.specs.ReadBack.{HasHeading, unlined, StampedFits, told_of}
 
 got_same : (g : Got) → got_text g ≡ got_word g
 got_same (got.Hand k) = refl
@@ -138,19 +138,27 @@ later_is s events =
     ap (λ (l : List ℕ). codes "threads " ++ (decimal (length s.threads) ++ (codes "\nevents\n" ++ l))) (events_text s.classes s.globals events)
     ∙ threads_text (length s.threads) (text_of (events_lines s.classes s.globals (map unlined events)))
 
-pub history_is : (s : Script) (events : List Stamped) → history s events ≡ written_history s.shape s.classes s.globals (length s.threads) (map unlined events)
+-- the first line
+version_text : (version : ℕ) (later : List ℕ) → codes "history " ++ (decimal version ++ (codes "\n" ++ later)) ≡ line_text (numbers_line (codes "history") (version ∷ [])) ++ later
+version_text version later = ap (λ (l : List ℕ). codes "history " ++ l) (sym (
+    ap (λ (l : List ℕ). l ++ later) (ap (λ (l : List ℕ). l ++ 10 ∷ []) (append-nil (decimal version)))
+    ∙ append_assoc (decimal version) (10 ∷ []) later))
+
+pub history_is : (s : Script) (events : List Stamped) → history s events ≡ written_history s.version s.shape s.classes s.globals (length s.threads) (map unlined events)
 history_is s events =
-    ap (λ (l : List ℕ). codes "history 1\n" ++ (heading_text s.shape s.classes s.globals ++ l)) (later_is s events)
-    ∙ ap (λ (l : List ℕ). codes "history 1\n" ++ l) (sym (flat_map-append line_text (heading_lines s.shape s.classes s.globals) (later_lines s.classes s.globals (length s.threads) (map unlined events))))
+    ap (λ (l : List ℕ). codes "history " ++ (decimal s.version ++ (codes "\n" ++ (heading_text s.shape s.classes s.globals ++ l)))) (later_is s events)
+    ∙ (ap (λ (l : List ℕ). codes "history " ++ (decimal s.version ++ (codes "\n" ++ l))) (sym (flat_map-append line_text (heading_lines s.shape s.classes s.globals) (later_lines s.classes s.globals (length s.threads) (map unlined events))))
+    ∙ version_text s.version (text_of (heading_lines s.shape s.classes s.globals ++ later_lines s.classes s.globals (length s.threads) (map unlined events))))
 
 all_unlined : (s : Script) (events : List Stamped) (P : EventLine → Type 0) → AllByRecursion (λ (e : Stamped). P (unlined e)) events → AllByRecursion P (map unlined events)
 all_unlined s [] P h = tt
 all_unlined s (e ∷ events) P h = (h.0, all_unlined s events P h.1)
 
-pub read_alone : (s : Script) (events : List Stamped) → IsHeading s.shape s.classes s.globals → s.shape.caps.wide < 2 ^ 32 → length s.threads ≤ 64 → AllByRecursion (StampedFits s) events → history_of (history s events) ≡ Ok (told_of s events)
-read_alone s events h most few fit =
-    ap history_of (history_is s events) ∙ history_back s.shape s.classes s.globals h most (length s.threads) few (map unlined events) (all_unlined s events (EventFits (named_of s.shape s.classes s.globals (length s.threads))) fit)
+pub read_alone : (s : Script) (events : List Stamped) → HasHeading s → AllByRecursion (StampedFits s) events → history_of (history s events) ≡ Ok (told_of s events)
+read_alone s events has fit =
+    ap history_of (history_is s events)
+    ∙ history_back s.version has.version.0 has.version.1 s.shape s.classes s.globals has.classes_of_version has.heading has.wide_cap (length s.threads) has.few_threads (map unlined events)
+    (all_unlined s events (EventFits (named_of s.shape s.classes s.globals (length s.threads))) fit)
 
-pub read_behind : (s : Script) (events : List Stamped) (before : List ℕ) → IsHeading s.shape s.classes s.globals → s.shape.caps.wide < 2 ^ 32 → length s.threads ≤ 64 → AllByRecursion (StampedFits s) events → GoesBefore before
-    → history_of (before ++ history s events) ≡ Ok (told_of s events)
-read_behind s events before h most few fit goes = goes (history s events) ∙ read_alone s events h most few fit
+pub read_behind : (s : Script) (events : List Stamped) (before : List ℕ) → HasHeading s → AllByRecursion (StampedFits s) events → GoesBefore before → history_of (before ++ history s events) ≡ Ok (told_of s events)
+read_behind s events before has fit goes = goes (history s events) ∙ read_alone s events has fit

@@ -1,5 +1,5 @@
 -- A replay of many threads goes on, and its history is one.
-use Rattle.std.proofs.Common.{◌≡◌, ◌≢◌, ◌⊎◌, inl, inr, ⊎_elim, ℕ, zero, suc, ◌<◌, List, [], ◌∷◌, ◌++◌, length, set, get_or, Option, Some, None, refl, sym, ap, ◌∙◌, subst, arith, get_or-set_same, get_or-set_other}
+use Rattle.std.proofs.Common.{◌≡◌, ◌≢◌, ◌⊎◌, inl, inr, ⊎_elim, ℕ, zero, suc, ◌<◌, false, List, [], ◌∷◌, ◌++◌, length, set, get_or, Option, Some, None, refl, sym, ap, ◌∙◌, subst, arith, get_or-set_same, get_or-set_other}
 use Rattle.std.specs.Prelude.{slice_get, slice_set}
 use Rattle.std.proofs.lemmas.List.{length-set}
 use Rattle.std.proofs.lemmas.Option.{slice_get_within, get_or_from_slice_get, slice_get_read}
@@ -139,14 +139,16 @@ replays_begin_phases shape work threads after words log r known b = record {
 excepts_none : (w : Working) → w.owes ≡ None → w.access ≡ None → (pl : Place) → Excepts w pl → ⊥
 excepts_none w owes access places.Zero x = x
 excepts_none w owes access (places.Global g) x = None≢Some x.0 (sym access ∙ x.1)
-excepts_none w owes access (places.Count s) x = x
-excepts_none w owes access (places.Isa s) x = None≢Some s (sym owes ∙ x)
+excepts_none w owes access (places.Count s) x = None≢Some (record { slot = s; counted = false }) (sym owes ∙ x)
+excepts_none w owes access (places.Isa s) x = None≢Some x.0 (sym owes ∙ x.1)
 excepts_none w owes access (places.Next s) x = x
 excepts_none w owes access (places.Field s f) x = None≢Some x.0 (sym access ∙ x.1)
 excepts_none w owes access (places.Link e) x = x
 excepts_none w owes access (places.Strong e) x = x
 excepts_none w owes access (places.Unowned e) x = x
 excepts_none w owes access (places.Weak e) x = x
+excepts_none w owes access (places.SlotBits k) x = x
+excepts_none w owes access (places.EntryBits k) x = x
 
 no_thread : (ts : List Thread) (i : ℕ) → i < length ts → slice_get ts i ≡ None → ⊥
 no_thread [] i lt e = omega arith

@@ -10,7 +10,7 @@ use mathlib.Core.Option.{some}
 use native.Mathlib.Decide.{ℕ_discrete}
 use lib.ListN.{get_elem?}
 use Rattle.arc_model.specs.declared.event.Act.{Act}
-use Rattle.arc_model.specs.declared.shape.RefShape.{RefShape}
+use Rattle.arc_model.specs.Shapes.{ObjectClass}
 use Rattle.arc_model.specs.History.{History, heap_after, share, next_hand, brings}
 use Rattle.arc_model.specs.SpellingTies.Causes.{Judged}
 use Rattle.arc_model.proofs.Basics.{None≢Some, Some-inj}
@@ -50,13 +50,13 @@ use Rattle.arc_replays.proofs.Serves.{Serves, serves}
 
 -- ---- the script's shape
 
-no_fields_few : (classes : List (List RefShape)) → AllByRecursion (λ (fields : List RefShape). fields ≡ []) classes → AllByRecursion (λ (fields : List RefShape). length fields ≤ 8) classes
+no_fields_few : (classes : List ObjectClass) → AllByRecursion (λ (c : ObjectClass). c.fields ≡ []) classes → AllByRecursion (λ (c : ObjectClass). length c.fields ≤ 8) classes
 no_fields_few [] none = tt
-no_fields_few (fields ∷ classes) none = (let e : length fields ≡ 0 = ap length none.0 in omega arith, no_fields_few classes none.1)
+no_fields_few (c ∷ classes) none = (let e : length c.fields ≡ 0 = ap length none.0 in omega arith, no_fields_few classes none.1)
 
 pub is_sized : (script : Script) → IsScript script → IsServed script → IsSized script.shape
 is_sized script valid served =
-    let classes : length script.shape.classes ≡ length script.classes = ap length valid.heading.of_classes ∙ length-map script.classes (λ (c : ClassDecl). field_refs c.fields) in
+    let classes : length script.shape.classes ≡ length script.classes = ap length valid.heading.of_classes ∙ length-map script.classes (λ (c : ClassDecl). record { fields = field_refs c.fields; immortal = c.immortal }) in
     let names : length (map (λ (c : ClassDecl). c.name) script.classes) ≡ length script.classes = length-map script.classes (λ (c : ClassDecl). c.name) in
     let few = valid.heading.classes_named.names.few in
     let globals : length script.shape.globals ≡ length script.globals = ap length valid.heading.of_globals ∙ length-map script.globals (λ (v : VarDecl). record { kind = v.kind; class = v.class }) in
@@ -65,7 +65,7 @@ is_sized script valid served =
         slots_fit = valid.heading.slots;
         entries_fit = valid.heading.entries;
         classes_fit = omega arith;
-        fields_fit = All-from_recursion (λ (fields : List RefShape). length fields ≤ 8) script.shape.classes (no_fields_few script.shape.classes (recursion_from_All (λ (fields : List RefShape). fields ≡ []) script.shape.classes served.without_fields));
+        fields_fit = All-from_recursion (λ (c : ObjectClass). length c.fields ≤ 8) script.shape.classes (no_fields_few script.shape.classes (recursion_from_All (λ (c : ObjectClass). c.fields ≡ []) script.shape.classes served.without_fields));
         globals_fit = omega arith;
       };
       caps_fit = valid.heading.caps;
@@ -138,8 +138,8 @@ module _ (script : Script) (came : Hands) (valid : IsScript script) (served : Is
       abbrev its : (v : View) × (get_elem? h.replaying.views p ≡ some v) × Drives (work_of script p came) t v
       its = h.replaying.drives p t there
 
-      serves_it : Serves (work_of script p came) s.words h.replaying.views h.replaying.kept p its.0 (h.replaying.kept.fits p its.0 its.1) its.2.pass (came_in log) bare few_came t step intent asked step intent
-      serves_it = serves (work_of script p came) s.words h.replaying.views h.replaying.kept p its.0 (h.replaying.kept.fits p its.0 its.1) its.2.pass (came_in log) bare few_came t step intent asked (served-work script p came served) stepper its.2
+      serves_it : Serves (work_of script p came) s.words h.replaying.views h.replaying.kept p its.0 its.1 its.2.pass (came_in log) bare few_came t step intent asked step intent
+      serves_it = serves (work_of script p came) s.words h.replaying.views h.replaying.kept p its.0 its.1 its.2.pass (came_in log) bare few_came t step intent asked (served-work script p came served) stepper its.2
 
       abbrev may_turn : MayTurn script.shape (λ q. work_of script q came) s.threads s.words p t step intent
       may_turn = record { there = there; asked = asked; stepper = stepper; served = served-work script p came served; same_shape = refl; word = serves_it.word }

@@ -4,7 +4,7 @@ use Rattle.std.proofs.lemmas.Option.{slice_get_within}
 use Rattle.arc_rule.specs.Places.{extent_of, word_count}
 use Rattle.arc_rule.specs.Steps.{place_of}
 use Rattle.arc_rule.specs.declared.step.Step.{Step}
-use Rattle.arc_rule.specs.declared.step.Step.TheVariants.{Load, Exchange, Store}
+use Rattle.arc_rule.specs.declared.step.Step.TheVariants.{Load, Exchange, Store, Or, And}
 use Rattle.arc_script.specs.declared.script.Script.{Script}
 use Rattle.arc_script.specs.Valid.{IsScript}
 use Rattle.arc_ops.specs.Served.{IsServed}
@@ -47,6 +47,8 @@ steps_may_be_made script s p t step intent valid served r there stepper asked =
     by v (Load place) a whole = let b = number_below (extent_of script.shape) a.0.0 a.0.2 in let e = a.0.1 in omega arith
     by v (Exchange place old new) a whole = let b = number_below (extent_of script.shape) a.0.0 a.0.2 in let e = a.0.1 in omega arith
     by v (Store place new) a whole = let b = number_below (extent_of script.shape) a.0.0 a.0.2 in let e = a.0.1 in omega arith
+    by v (Or place bits) a whole = let b = number_below (extent_of script.shape) a.0.0 a.0.2 in let e = a.0.1 in omega arith
+    by v (And place bits) a whole = let b = number_below (extent_of script.shape) a.0.0 a.0.2 in let e = a.0.1 in omega arith
 
 pub phases_may_begin : PhasesMayBegin
 phases_may_begin script s p t valid served r there asked =

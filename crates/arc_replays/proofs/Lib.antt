@@ -9,4 +9,5 @@ pub mod Laws
 pub mod Turns
 pub mod Phases
 pub mod Promises
+pub mod Left
 pub mod Whole

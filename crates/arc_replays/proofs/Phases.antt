@@ -31,7 +31,7 @@ use Rattle.arc_ops.specs.declared.stepper.Move.TheVariants as moves
 use Rattle.arc_ops.specs.Thread.{Thread, stepper_of, turned}
 use Rattle.arc_spelled.specs.StepperStands.{Asks, variables}
 use Rattle.arc_spelled.specs.Spelled.{work_of, with_event_of}
-use Rattle.arc_spelled.proofs.SteppersSpell.{ready_steppers_have_done}
+use Rattle.arc_spelled.proofs.SteppersSpell.{one-list, ready_steppers_have_done}
 use Rattle.arc_replays.specs.Histories.{history_of}
 use Rattle.arc_replays.specs.Stages.{Stage, Reached, IsNone, first_stage, new_threads, begun_thread, begun_threads, has_step, is_step, is_phase_end, stepped}
 use Rattle.arc_replays.specs.Stages.Reached.{new, begins, makes, passes, by_number, last, last_step}
@@ -78,7 +78,7 @@ begun_there (first ∷ others) (suc i) u other at = in_map others i at
 
 ready_at_end : (d : Doing) → Asks d moves.PhaseEnd → d ≡ Ready
 ready_at_end Ready a = refl
-ready_at_end (Making to name slot plan) a = absurd a
+ready_at_end (Making to name plan) a = absurd a
 ready_at_end (Copying to held plan) a = absurd a
 ready_at_end (Dropping held plan) a = absurd a
 ready_at_end (Dying c) a = absurd a
@@ -141,7 +141,8 @@ module _ (script : Script) (came : Hands) (valid : IsScript script) (served : Is
           done_some
           (subst (λ (x : ℕ × List (List Op)). x.0 < length x.1) (λ j. (phase j, phases_are j)) below)
           n.2
-          (subst (λ (x : Option ThreadDecl × ℕ). OpsDone script.shape p (hands_in p log) (flat_map (λ ops. ops) (phases_in x.0)) (count_of_vars x.0) (ops_in_first x.1 (phases_in x.0)) (variables t.vars) n.0) (λ j. (declared j, phase j)) ops)
+          (subst (λ (x : List Op). OpsDone script.shape p (hands_in p log) x (length decl.vars) (ops_in_first k decl.phases) (variables t.vars) n.0) (sym (one-list script (p - 1) decl served there))
+          (subst (λ (x : Option ThreadDecl × ℕ). OpsDone script.shape p (hands_in p log) (flat_map (λ ops. ops) (phases_in x.0)) (count_of_vars x.0) (ops_in_first x.1 (phases_in x.0)) (variables t.vars) n.0) (λ j. (declared j, phase j)) ops))
       by t at (inr (asked, few)) =
           let le : p ≤ length script.threads = let lt = slice_get_within s.threads p t at in let long = h.as_many in omega arith in
           let x = ended_threads_spell script came (hands_in p log) s.threads s.words log p t valid served le h.replaying at asked in

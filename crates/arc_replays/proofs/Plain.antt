@@ -1,6 +1,6 @@
 -- A step of a plain replay: words and views alone, and the history that they show.
 use Rattle.std.proofs.Common.{◌≡◌, ℕ, eqb, Bool, true, false, cond, List, [], ◌++◌, set, refl, ◌∙◌, subst}
-use Rattle.std.specs.Prelude.{slice_index}
+use Rattle.std.specs.Prelude.{slice_index, bit_and, bit_or}
 use Rattle.std.proofs.lemmas.List.{set-get_or}
 use mathlib.Core.Option.{some}
 use lib.ListN.{get_elem?}
@@ -8,7 +8,7 @@ use prog.Atomic.{either}
 use Rattle.atomic_table.specs.Table.{State}
 use Rattle.arc_model.specs.Shapes.{HeapShape}
 use Rattle.arc_rule.specs.declared.step.Step.{Step}
-use Rattle.arc_rule.specs.declared.step.Step.TheVariants.{Load, Exchange, Store}
+use Rattle.arc_rule.specs.declared.step.Step.TheVariants.{Load, Exchange, Store, Or, And}
 use Rattle.arc_rule.specs.declared.step.Intent.{Intent}
 use Rattle.arc_rule.specs.Steps.{found_by, made_by}
 use Rattle.arc_view.specs.declared.view.Role.TheVariants.{Pass}
@@ -18,7 +18,7 @@ use Rattle.arc_view.specs.Kinds.{act_of, event_list}
 use Rattle.arc_view.specs.Admission.{Admits}
 use Rattle.arc_view.specs.Built.{IsBuilt}
 use Rattle.arc_view.specs.Steps.{Told}
-use Rattle.arc_view.proofs.Moves.{loads, exchanges, stores}
+use Rattle.arc_view.proofs.Moves.{loads, exchanges, stores, ors, ands}
 use Rattle.arc_view.specs.Built.{IsAllowed}
 use Rattle.arc_replays.specs.Replaying.{table, PlainStepsKeep}
 
@@ -62,6 +62,12 @@ module _ (shape : HeapShape) (words : List ℕ) (views : List View) (id : ℕ) (
   store_made : (place new : ℕ) (intent : Intent) → Admits shape v (Store place new) intent → IsBuilt shape v (Store place new) intent → Made (Store place new) intent (set words place new) 0
   store_made place new intent admits built = let r = stores shape id (v, []) intent place new pass admits built (table words views) k at in (r.view, bare shape _ r.kept, bare_log shape _ r.kept ∙ r.log_is, r.told)
 
+  or_made : (place bits : ℕ) (intent : Intent) → Admits shape v (Or place bits) intent → IsBuilt shape v (Or place bits) intent → Made (Or place bits) intent (set words place (bit_or (slice_index words place) bits)) (slice_index words place)
+  or_made place bits intent admits built = let r = ors shape id (v, []) intent place bits pass admits built (table words views) k at in (r.view, bare shape _ r.kept, bare_log shape _ r.kept ∙ r.log_is, r.told)
+
+  and_made : (place bits : ℕ) (intent : Intent) → Admits shape v (And place bits) intent → IsBuilt shape v (And place bits) intent → Made (And place bits) intent (set words place (bit_and (slice_index words place) bits)) (slice_index words place)
+  and_made place bits intent admits built = let r = ands shape id (v, []) intent place bits pass admits built (table words views) k at in (r.view, bare shape _ r.kept, bare_log shape _ r.kept ∙ r.log_is, r.told)
+
   of_words : (step : Step) (intent : Intent) (ws new : List ℕ) (found : ℕ) → ws ≡ new → Made step intent ws found → Made step intent new found
   of_words step intent ws new found same = subst (λ (l : List ℕ). Made step intent l found) same
 
@@ -75,6 +81,8 @@ module _ (shape : HeapShape) (words : List ℕ) (views : List View) (id : ℕ) (
       go true = refl
       go false = set-get_or words place 0
   plain (Store place new) intent (admits, built) = store_made place new intent admits built
+  plain (Or place bits) intent (admits, built) = or_made place bits intent admits built
+  plain (And place bits) intent (admits, built) = and_made place bits intent admits built
 
 pub plain_steps_keep : PlainStepsKeep
 plain_steps_keep shape words views id v step intent k at pass may =

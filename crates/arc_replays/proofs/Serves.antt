@@ -1,6 +1,6 @@
 -- The word that a step finds is served, and the event that it has is one of the operations that are served.
-use Rattle.std.proofs.Common.{◌≡◌, ℕ, ◌<◌, ◌-◌, ◌==◌, Bool, true, false, cond, List, [], ◌++◌, length, Option, Some, sym, ap, ◌∙◌, subst, arith}
-use Rattle.std.specs.Prelude.{slice_get}
+use Rattle.std.proofs.Common.{◌≡◌, inl, inr, ℕ, ◌<◌, ◌-◌, ◌/◌, ◌==◌, Bool, true, false, cond, List, [], ◌++◌, length, Option, Some, None, refl, sym, ap, ◌∙◌, subst, arith}
+use Rattle.std.specs.Prelude.{slice_get, bit_and}
 use Rattle.std.proofs.lemmas.Option.{slice_get_within, get_or_from_slice_get}
 use Rattle.arc_bits.specs.declared.packing.Inline.{Inline}
 use Rattle.arc_bits.specs.Words.{unpacked}
@@ -9,24 +9,25 @@ use Rattle.arc_model.specs.declared.event.Act.TheVariants as acts
 use Rattle.arc_model.specs.declared.event.ObjectName.{ObjectName}
 use Rattle.arc_model.specs.declared.event.Origin.TheVariants as origins
 use Rattle.arc_model.specs.declared.shape.Kind.TheVariants.{Strong}
-use Rattle.arc_model.specs.Shapes.{HeapShape}
+use Rattle.arc_model.specs.Shapes.{HeapShape, class_at}
 use Rattle.arc_model.specs.Heaps.{Hand, Duty, Deinit, Vacating, Object}
-use Rattle.arc_model.specs.History.{History, heap_after, share, IsLegal}
+use Rattle.arc_model.specs.History.{History, heap_after, next_hand, share, IsLegal}
 use Rattle.arc_model.specs.Lookup.{spot, duty_of}
 use Rattle.arc_model.proofs.Basics.{None≢Some}
 use Rattle.arc_model.proofs.Others.{others_leave}
 use Rattle.arc_rule.specs.Extents.{Extent}
 use Rattle.arc_rule.specs.Places.{extent_of, number, place_at}
-use Rattle.arc_rule.specs.Shown.{Says, ShowsCounts, IsHeader, word_at}
+use Rattle.arc_rule.specs.Shown.{Says, ShowsCounts, word_at}
 use Rattle.arc_rule.specs.Steps.{found_by}
 use Rattle.arc_rule.specs.declared.layout.Place.{Place}
-use Rattle.arc_rule.specs.declared.layout.Place.TheVariants.{Count, Isa, Next}
+use Rattle.arc_rule.specs.declared.layout.Place.TheVariants.{Count, Isa, Next, SlotBits}
 use Rattle.arc_rule.specs.declared.step.Step.{Step}
-use Rattle.arc_rule.specs.declared.step.Step.TheVariants.{Load, Exchange, Store}
+use Rattle.arc_rule.specs.declared.step.Step.TheVariants.{Load, Exchange, Store, And}
 use Rattle.arc_rule.specs.declared.step.Intent.{Intent}
 use Rattle.arc_rule.specs.declared.step.Intent.TheVariants as intents
 use Rattle.arc_rule.proofs.Places.{place_at-number}
-use Rattle.arc_plan.specs.Slots.{trial, naming}
+use Rattle.arc_plan.specs.Slots.{looking, taking, counting, naming}
+use Rattle.arc_rule.specs.Bits.{words_of, bit_of, but_bit_of}
 use Rattle.arc_plan.specs.declared.attempt.At.{At as AttemptAt}
 use Rattle.arc_plan.specs.declared.attempt.At.TheVariants as attempt
 use Rattle.arc_plan.specs.declared.slots.Making.{Making as Search}
@@ -44,25 +45,30 @@ use Rattle.arc_ops.specs.declared.stepper.Doing.{Doing}
 use Rattle.arc_ops.specs.declared.stepper.Doing.TheVariants as doings
 use Rattle.arc_ops.specs.declared.stepper.Move.{Move}
 use Rattle.arc_ops.specs.declared.stepper.Move.TheVariants as moves
-use Rattle.arc_ops.specs.Thread.{Thread, IsStepper, IsUpWord}
+use Rattle.arc_ops.specs.Thread.{Thread, IsStepper, IsMakingIn, IsUpWord}
 use Rattle.arc_spelled.specs.StepperStands.{Work, IsServedWork, MakesUpTo}
 use Rattle.arc_view.specs.declared.view.Role.TheVariants.{Pass}
 use Rattle.arc_view.specs.declared.view.View.{View}
+use Rattle.arc_view.specs.declared.view.Working.{Working}
+use Rattle.arc_view.specs.Admission.{KnowsSlot}
 use Rattle.arc_view.specs.Holding.{At}
-use Rattle.arc_view.specs.Kinds.{act_of, missed_act, loaded_act, stored_act, when}
+use Rattle.arc_view.proofs.Bridge.{unsettled}
+use mathlib.Core.Option.{some}
+use lib.ListN.{get_elem?}
+use Rattle.arc_view.specs.Kinds.{act_of, first_of, is_fruitless, loaded_act, or_act, and_act, stored_act, when}
 use Rattle.arc_view.specs.Rule.{InShape, IsKept, IsWithin, Fits}
-use Rattle.arc_view.proofs.Counting.{Counted, header_counts}
+use Rattle.arc_view.proofs.Counting.{Counted, inline_counts}
 use Rattle.arc_view.proofs.Held.{Held as HeldLater, held_stays, strong≢weak}
 use Rattle.arc_view.proofs.Lists.{others_came}
 use Rattle.arc_view.proofs.Owed.{OwedLater, owed_stays}
 use Rattle.arc_view.proofs.Strongs.{slot_found}
 use Rattle.arc_view.proofs.Within.{each_at}
 use Rattle.arc_view_laws.proofs.StrongWords.{ShowsStrong, shows_strong}
-use Rattle.arc_view_laws.proofs.StrongWords.ShowsStrong.{counts as strong_counts, slow as strong_slow}
+use Rattle.arc_view_laws.proofs.StrongWords.ShowsStrong.{counts as strong_counts, slow as strong_slow, forever as strong_forever}
 use Rattle.arc_view_laws.proofs.DyingWords.{ShowsDying, shows_dying}
 use Rattle.arc_view_laws.proofs.DyingWords.ShowsDying.{counts as dying_counts, slow as dying_slow}
 use Rattle.arc_ops_passes.specs.References.{is_ref, Leads}
-use Rattle.arc_ops_passes.specs.Drives.{SearchAsks, AttemptAsks, VacateAsks, CascadeAsks, OwesOne, DutyAt, Drives}
+use Rattle.arc_ops_passes.specs.Drives.{SearchAsks, AttemptAsks, VacateAsks, CascadeAsks, OwesOne, DutyAt, cascade_works, Drives}
 use Rattle.arc_ops_passes.specs.Laws.{IsServedWord}
 use Rattle.arc_ops_passes.proofs.Goes.{Facts, facts, asked_is}
 use Rattle.arc_ops_passes.proofs.Owned.{ref-itself}
@@ -77,8 +83,14 @@ when_full : (n : ℕ) (b : Bool) → EventFits n (when b acts.Full)
 when_full n true = tt
 when_full n false = tt
 
-full_fits : (n : ℕ) (w : Work) (v : View) (place new class : ℕ) → EventFits n (missed_act w.shape v place new (intents.New class))
-full_fits n w v place new class = when_full n _
+-- a word that tells of an immortal object, and one that doesn't
+told_first : (n : ℕ) (b : Bool) (a : Act) → EventFits n (Some a) → EventFits n (first_of b a None)
+told_first n true a fits = fits
+told_first n false a fits = tt
+
+told_when : (n : ℕ) (b : Bool) (a : Act) → EventFits n (Some a) → EventFits n (when b a)
+told_when n true a fits = fits
+told_when n false a fits = tt
 
 exchanged : (n : ℕ) (b : Bool) (hit missed : Option Act) → EventFits n hit → EventFits n missed → EventFits n (cond b hit missed)
 exchanged n true hit missed a b = a
@@ -86,7 +98,10 @@ exchanged n false hit missed a b = b
 
 -- ---- the words
 
-module _ (w : Work) (words : List ℕ) (views : List View) (k : IsKept w.shape (table words views)) (i : ℕ) (v : View) (fit : Fits w.shape k.log k.splits k.taken v) (pass : v.role ≡ Pass) (n : ℕ) (bare : IsBareHeap n (heap_after k.log)) (few : n < w.shape.caps.strong) where
+module _ (w : Work) (words : List ℕ) (views : List View) (k : IsKept w.shape (table words views)) (i : ℕ) (v : View) (there : get_elem? views i ≡ some v) (pass : v.role ≡ Pass) (n : ℕ) (bare : IsBareHeap n (heap_after k.log)) (few : n < w.shape.caps.strong) where
+  abbrev fit : Fits w.shape k.log k.splits k.taken v
+  fit = k.fits i v there
+
   abbrev rest : History
   rest = fit.begins.0
 
@@ -105,36 +120,42 @@ module _ (w : Work) (words : List ℕ) (views : List View) (k : IsKept w.shape (
   bare_now : IsBareHeap n (heap_after now)
   bare_now = subst (λ (h : History). IsBareHeap n (heap_after h)) fit.begins.1 bare
 
-  says : (s : ℕ) → s < w.shape.slots → Says w.shape (heap_after now) (Count s) (word_at w.shape words (Count s))
-  says s lt = subst (λ (h : History). Says w.shape (heap_after h) (Count s) (word_at w.shape words (Count s))) fit.begins.1 (k.words.says (Count s) lt (λ x. x.3))
+  -- the inline word of an object that the pass keeps
+  says : (s : ℕ) → s < w.shape.slots → v.working.owes ≡ None → KnowsSlot v s → Says w.shape (heap_after now) (Count s) (word_at w.shape words (Count s))
+  says s lt free known =
+      subst (λ (h : History). Says w.shape (heap_after h) (Count s) (word_at w.shape words (Count s))) fit.begins.1 (k.words.says (Count s) lt (λ x. unsettled w.shape (table words views) k i v there pass free (Count s) (inl known) x))
 
   -- of an object of which the pass has a strong hand
   record IsLed (s : ℕ) : Type 0 where
     up : IsUpWord w.shape.caps.strong (unpacked (word_at w.shape words (Count s)))
     inline : IsInline (unpacked (word_at w.shape words (Count s)))
 
-  led_word : (held : Held) → held.place < w.shape.slots → Leads v held → IsLed held.place
-  led_word held lt (j, o, hand, here, slot) =
+  led_word : (held : Held) → held.place < w.shape.slots → v.working.owes ≡ None → Leads v held → IsLed held.place
+  led_word held lt free (j, o, hand, here, slot) =
       let later : HeldLater Strong j o (heap_after now) = held_stays w.shape v.number held.hand j Strong o v.seen rest legal others hand here in
       let spot_now : spot (Hand v.number held.hand) (heap_after now) ≡ Some (record { place = j; kind = Strong }) = (others_leave w.shape v.number v.seen rest legal others).hands held.hand ∙ hand in
       let slot_now = later.slot strong≢weak ∙ slot in
-      by later.q later.here slot_now (shows_strong w.shape now v.number held.hand j held.place (word_at w.shape words (Count held.place)) later.q k.sized legal in_shape spot_now later.here slot_now (says held.place lt))
+      by later.q later.here slot_now (shows_strong w.shape now v.number held.hand j held.place (word_at w.shape words (Count held.place)) later.q k.sized legal in_shape spot_now later.here slot_now word_says)
     where
+      word_says : Says w.shape (heap_after now) (Count held.place) (word_at w.shape words (Count held.place))
+      word_says = says held.place lt free (j, o, here, slot, inl (held.hand, Strong, hand, strong≢weak))
+
       by : (q : Object) → At (heap_after now) j q → q.slot ≡ Some held.place → ShowsStrong w.shape q (word_at w.shape words (Count held.place)) → IsLed held.place
+      by q here_now slot_now (strong_forever one is immortal) = record { up = subst (IsUpWord w.shape.caps.strong) (sym is) tt; inline = subst IsInline (sym is) tt }
       by q here_now slot_now (strong_slow e is entry below) = absurd (None≢Some e (sym (bare_at n (heap_after now).objects j q bare_now.objects here_now).entry ∙ entry))
       by q here_now slot_now (strong_counts c is word lives most unowned none) =
-          let header : IsHeader w.shape q q.entry (word_at w.shape words (Count held.place)) = subst (λ m. ShowsCounts w.shape m (word_at w.shape words (Count held.place))) (slot_found w.shape now j held.place q legal here_now slot_now) (says held.place lt) in
-          let same : Counted w.shape q c = header_counts w.shape q c (word_at w.shape words (Count held.place)) k.sized header word in
+          let shown : ShowsCounts w.shape (Some q) (word_at w.shape words (Count held.place)) = subst (λ m. ShowsCounts w.shape m (word_at w.shape words (Count held.place))) (slot_found w.shape now j held.place q legal here_now slot_now) word_says in
+          let same : Counted w.shape q c = inline_counts w.shape q c (word_at w.shape words (Count held.place)) k.sized shown word in
           let extra : length q.strong - 1 ≡ c.strong_extra = ap (λ (x : Inline). x.strong_extra) same.counts in
           let some = (bare_at n (heap_after now).objects j q bare_now.objects here_now).strong in
           record { up = subst (IsUpWord w.shape.caps.strong) (sym is) (lives, omega arith); inline = subst IsInline (sym is) tt }
 
   -- of an object to which it owes the deinit
-  owed_word : (s : ℕ) → s < w.shape.slots → OwesOne v Deinit s → IsInline (unpacked (word_at w.shape words (Count s)))
-  owed_word s lt owes =
+  owed_word : (s : ℕ) → s < w.shape.slots → v.working.owes ≡ None → OwesOne v Deinit s → IsInline (unpacked (word_at w.shape words (Count s)))
+  owed_word s lt free owes =
       let later : OwedLater owes.place owes.object now = owed_stays w.shape v.number owes.place Deinit owes.object v.seen rest legal others owes.here owes.owes in
       let duty_now : duty_of v.number owes.place (heap_after now) ≡ Some Deinit = (others_leave w.shape v.number v.seen rest legal others).duties owes.place ∙ owes.owes in
-      by later.q later.here (shows_dying w.shape now v.number owes.place s (word_at w.shape words (Count s)) later.q k.sized legal in_shape later.here duty_now (later.slot ∙ owes.slot) (says s lt))
+      by later.q later.here (shows_dying w.shape now v.number owes.place s (word_at w.shape words (Count s)) later.q k.sized legal in_shape later.here duty_now (later.slot ∙ owes.slot) (says s lt free (owes.place, owes.object, owes.here, owes.slot, inr (inl (Deinit, owes.owes)))))
     where
       by : (q : Object) → At (heap_after now) owes.place q → ShowsDying w.shape q (word_at w.shape words (Count s)) → IsInline (unpacked (word_at w.shape words (Count s)))
       by q here_now (dying_slow e is entry below) = absurd (None≢Some e (sym (bare_at n (heap_after now).objects owes.place q bare_now.objects here_now).entry ∙ entry))
@@ -162,71 +183,96 @@ module _ (w : Work) (words : List ℕ) (views : List View) (k : IsKept w.shape (
         let fits : ClassFits (length t.shape.classes) (op.New to class) = subst (ClassFits (length t.shape.classes)) (get_or_from_slice_get t.program j (op.New to class) (op.New to class) at) (stepper.classes_fit j (op.New to class) (slice_get_within t.program j (op.New to class) at)) in
         subst (λ (x : HeapShape). class < length x.classes) shape fits.0
 
-    making : (to : ℕ) (name : ObjectName) (slot : ℕ) (a : Search) → SearchAsks w.shape t.asked name slot a → (a ≡ search.Trying slot → name.class < length w.shape.classes) → Serves step intent
-    making to name slot search.Start x fits = absurd x
-    making to name slot (search.Trying s) x fits = as_asked (trial (extent_of w.shape) s) (intents.New name.class) x.1 (record {
+    making : (name : ObjectName) (a : Search) → IsMakingIn (extent_of w.shape) a → SearchAsks w.shape t.asked name a → ((s seen : ℕ) → a ≡ search.Taking s seen → name.class < length w.shape.classes) → Serves step intent
+    making name search.Start inside x fits = absurd x
+    making name (search.Looking j) inside x fits = as_asked (looking (extent_of w.shape) j) (intents.New name.class) x (record {
       word = tt;
-      event = exchanged (length w.shape.classes) (found_by (trial (extent_of w.shape) s) words == 0) _ _ (fits (ap search.Trying x.0)) (full_fits (length w.shape.classes) w v (number (extent_of w.shape) (Count s)) 2 name.class);
+      event = subst (EventFits (length w.shape.classes)) (sym (ap (λ (q : Place). loaded_act w.shape v q (word_at w.shape words (SlotBits j)) (intents.New name.class)) (place_at-number (extent_of w.shape) (SlotBits j) inside)))
+          (when_full (length w.shape.classes) (is_fruitless (λ m. number (extent_of w.shape) (SlotBits m)) w.shape.slots v j (word_at w.shape words (SlotBits j))));
     })
-    making to name slot (search.Naming s) x fits = as_asked (naming (extent_of w.shape) name s) (intents.New name.class) x.1 (record { word = tt; event = tt })
-    making to name slot search.Ended x fits = absurd x
+    making name (search.Taking s seen) inside x fits =
+        let word_in : s / 64 < words_of w.shape.slots = let b = inside.below in omega arith in
+        as_asked (taking (extent_of w.shape) s) (intents.New name.class) x (record {
+          word = tt;
+          event = exchanged (length w.shape.classes) (bit_and (word_at w.shape words (SlotBits (s / 64))) (bit_of s) == 0) _ _
+              (subst (EventFits (length w.shape.classes)) (sym (ap (λ (q : Place). or_act v q (bit_of s) (intents.New name.class)) (place_at-number (extent_of w.shape) (SlotBits (s / 64)) word_in))) (fits s seen refl)) tt;
+        })
+    making name (search.Counting s) inside x fits = as_asked (counting (extent_of w.shape) (class_at w.shape name.class).immortal s) (intents.New name.class) x (record {
+      word = tt;
+      event = subst (EventFits (length w.shape.classes)) (sym (ap (λ (q : Place). stored_act v q (intents.New name.class)) (place_at-number (extent_of w.shape) (Count s) inside))) tt;
+    })
+    making name (search.Naming s) inside x fits = as_asked (naming (extent_of w.shape) name s) (intents.New name.class) x (record {
+      word = tt;
+      event = subst (EventFits (length w.shape.classes)) (sym (ap (λ (q : Place). stored_act v q (intents.New name.class)) (place_at-number (extent_of w.shape) (Isa s) inside))) tt;
+    })
+    making name search.Ended inside x fits = absurd x
 
-    copying : (held : Held) (a : AttemptAt) → held.place < w.shape.slots → Leads v held → AttemptAsks w.shape t.asked held.place (intents.Copy (origins.Hand held.hand)) a → Serves step intent
-    copying held attempt.Start lt leads x = absurd x
-    copying held attempt.Loading lt leads x = as_asked (Load (number (extent_of w.shape) (Count held.place))) (intents.Copy (origins.Hand held.hand)) x (record {
-      word = (led_word held lt leads).up;
-      event = subst (EventFits (length w.shape.classes)) (sym (ap (λ (q : Place). loaded_act w.shape v q (word_at w.shape words (Count held.place)) (intents.Copy (origins.Hand held.hand))) (place_at-number (extent_of w.shape) (Count held.place) lt))) tt;
+    copying : (held : Held) (a : AttemptAt) → held.place < w.shape.slots → v.working.owes ≡ None → Leads v held → AttemptAsks w.shape t.asked held.place (intents.Copy (origins.Hand held.hand)) a → Serves step intent
+    copying held attempt.Start lt free leads x = absurd x
+    copying held attempt.Loading lt free leads x = as_asked (Load (number (extent_of w.shape) (Count held.place))) (intents.Copy (origins.Hand held.hand)) x (record {
+      word = (led_word held lt free leads).up;
+      event = subst (EventFits (length w.shape.classes)) (sym (ap (λ (q : Place). loaded_act w.shape v q (word_at w.shape words (Count held.place)) (intents.Copy (origins.Hand held.hand))) (place_at-number (extent_of w.shape) (Count held.place) lt)))
+          (told_first (length w.shape.classes) _ (acts.Copy (origins.Hand held.hand) (next_hand v.number v.seen)) tt);
     })
-    copying held (attempt.Exchanging seen new) lt leads x = as_asked (Exchange (number (extent_of w.shape) (Count held.place)) seen new) (intents.Copy (origins.Hand held.hand)) x (record {
+    copying held (attempt.Exchanging seen new) lt free leads x = as_asked (Exchange (number (extent_of w.shape) (Count held.place)) seen new) (intents.Copy (origins.Hand held.hand)) x (record {
       word = tt;
       event = exchanged (length w.shape.classes) (word_at w.shape words (Count held.place) == seen) _ _ tt tt;
     })
-    copying held attempt.Ended lt leads x = absurd x
+    copying held attempt.Ended lt free leads x = absurd x
 
-    dropping : (held : Held) (a : AttemptAt) → held.place < w.shape.slots → Leads v held → AttemptAsks w.shape t.asked held.place (intents.Drop held.hand) a → Serves step intent
-    dropping held attempt.Start lt leads x = absurd x
-    dropping held attempt.Loading lt leads x = as_asked (Load (number (extent_of w.shape) (Count held.place))) (intents.Drop held.hand) x (record { word = (led_word held lt leads).inline; event = tt })
-    dropping held (attempt.Exchanging seen new) lt leads x = as_asked (Exchange (number (extent_of w.shape) (Count held.place)) seen new) (intents.Drop held.hand) x (record {
+    dropping : (held : Held) (a : AttemptAt) → held.place < w.shape.slots → v.working.owes ≡ None → Leads v held → AttemptAsks w.shape t.asked held.place (intents.Drop held.hand) a → Serves step intent
+    dropping held attempt.Start lt free leads x = absurd x
+    dropping held attempt.Loading lt free leads x = as_asked (Load (number (extent_of w.shape) (Count held.place))) (intents.Drop held.hand) x (record {
+      word = (led_word held lt free leads).inline;
+      event = subst (EventFits (length w.shape.classes)) (sym (ap (λ (q : Place). loaded_act w.shape v q (word_at w.shape words (Count held.place)) (intents.Drop held.hand)) (place_at-number (extent_of w.shape) (Count held.place) lt)))
+          (told_when (length w.shape.classes) _ (acts.Drop held.hand false) tt);
+    })
+    dropping held (attempt.Exchanging seen new) lt free leads x = as_asked (Exchange (number (extent_of w.shape) (Count held.place)) seen new) (intents.Drop held.hand) x (record {
       word = tt;
       event = exchanged (length w.shape.classes) (word_at w.shape words (Count held.place) == seen) _ _ tt tt;
     })
-    dropping held attempt.Ended lt leads x = absurd x
+    dropping held attempt.Ended lt free leads x = absurd x
 
     apart : (s : ℕ) (pl : Place) → place_at (extent_of w.shape) (number (extent_of w.shape) pl) ≡ pl → s < w.shape.slots → (pl ≡ Count s → ⊥) → number (extent_of w.shape) pl ≡ number (extent_of w.shape) (Count s) → ⊥
     apart s pl back lt ne e = ne (sym back ∙ (ap (place_at (extent_of w.shape)) e ∙ place_at-number (extent_of w.shape) (Count s) lt))
 
-    finishing : (s : ℕ) (a : AttemptAt) → s < w.shape.slots → OwesOne v Deinit s → AttemptAsks w.shape t.asked s (intents.Deinit s) a → Serves step intent
-    finishing s attempt.Start lt owes x = absurd x
-    finishing s attempt.Loading lt owes x = as_asked (Load (number (extent_of w.shape) (Count s))) (intents.Deinit s) x (record { word = λ _. owed_word s lt owes; event = tt })
-    finishing s (attempt.Exchanging seen new) lt owes x = as_asked (Exchange (number (extent_of w.shape) (Count s)) seen new) (intents.Deinit s) x (record {
+    finishing : (s : ℕ) (a : AttemptAt) → s < w.shape.slots → v.working.owes ≡ None → OwesOne v Deinit s → AttemptAsks w.shape t.asked s (intents.Deinit s) a → Serves step intent
+    finishing s attempt.Start lt free owes x = absurd x
+    finishing s attempt.Loading lt free owes x = as_asked (Load (number (extent_of w.shape) (Count s))) (intents.Deinit s) x (record { word = λ _. owed_word s lt free owes; event = tt })
+    finishing s (attempt.Exchanging seen new) lt free owes x = as_asked (Exchange (number (extent_of w.shape) (Count s)) seen new) (intents.Deinit s) x (record {
       word = tt;
       event = exchanged (length w.shape.classes) (word_at w.shape words (Count s) == seen) _ _ tt tt;
     })
-    finishing s attempt.Ended lt owes x = absurd x
+    finishing s attempt.Ended lt free owes x = absurd x
 
-    vacating : (s : ℕ) (a : Once) → VacateAsks w.shape t.asked s a → Serves step intent
-    vacating s once.Start x = absurd x
-    vacating s once.Asked x = as_asked (Store (number (extent_of w.shape) (Count s)) 0) intents.Vacate x (record { word = tt; event = tt })
-    vacating s once.Ended x = absurd x
+    vacating : (s : ℕ) (a : Once) → s < w.shape.slots → VacateAsks w.shape t.asked s a → Serves step intent
+    vacating s once.Start lt x = absurd x
+    vacating s once.Asked lt x =
+        let word_in : s / 64 < words_of w.shape.slots = omega (arith, lt) in
+        as_asked (And (number (extent_of w.shape) (SlotBits (s / 64))) (but_bit_of s)) intents.Vacate x (record {
+          word = tt;
+          event = subst (EventFits (length w.shape.classes)) (sym (ap (λ (q : Place). and_act q (but_bit_of s) intents.Vacate) (place_at-number (extent_of w.shape) (SlotBits (s / 64)) word_in))) tt;
+        })
+    vacating s once.Ended lt x = absurd x
 
-    dying : (s : ℕ) (a : CascadeAt) → s < w.shape.slots → DutyAt v s a → CascadeAsks w.shape t.asked s a → Serves step intent
-    dying s ats.Start lt duty x = absurd x
-    dying s ats.Entering lt duty x = as_asked (Store (number (extent_of w.shape) (Next s)) 0) (intents.Deinit s) x (record {
+    dying : (s : ℕ) (a : CascadeAt) → s < w.shape.slots → v.working ≡ cascade_works s a → DutyAt v s a → CascadeAsks w.shape t.asked s a → Serves step intent
+    dying s ats.Start lt works duty x = absurd x
+    dying s ats.Entering lt works duty x = as_asked (Store (number (extent_of w.shape) (Next s)) 0) (intents.Deinit s) x (record {
       word = tt;
       event = subst (EventFits (length w.shape.classes)) (sym (ap (λ (q : Place). stored_act v q (intents.Deinit s)) (place_at-number (extent_of w.shape) (Next s) lt))) tt;
     })
-    dying s ats.Naming lt duty x = as_asked (Load (number (extent_of w.shape) (Isa s))) (intents.Deinit s) x (record {
+    dying s ats.Naming lt works duty x = as_asked (Load (number (extent_of w.shape) (Isa s))) (intents.Deinit s) x (record {
       word = λ e. absurd (apart s (Isa s) (place_at-number (extent_of w.shape) (Isa s) lt) lt (λ u. cc) e);
       event = tt;
     })
-    dying s (ats.Named name) lt duty x = absurd x
-    dying s ats.Leaving lt duty x = as_asked (Load (number (extent_of w.shape) (Next s))) (intents.Deinit s) x (record {
+    dying s (ats.Named name) lt works duty x = absurd x
+    dying s ats.Leaving lt works duty x = as_asked (Load (number (extent_of w.shape) (Next s))) (intents.Deinit s) x (record {
       word = λ e. absurd (apart s (Next s) (place_at-number (extent_of w.shape) (Next s) lt) lt (λ u. cc) e);
       event = tt;
     })
-    dying s (ats.Finishing p) lt duty x = finishing s p.at lt duty x.1
-    dying s (ats.Vacating p) lt duty x = vacating s p.at x.1
-    dying s ats.Ended lt duty x = absurd x
+    dying s (ats.Finishing p) lt works duty x = finishing s p.at lt (ap (λ (y : Working). y.owes) works) duty x.1
+    dying s (ats.Vacating p) lt works duty x = vacating s p.at lt x.1
+    dying s ats.Ended lt works duty x = absurd x
 
     -- an object that the pass owes something is in a slot of the shape
     duty_within : (s : ℕ) (a : CascadeAt) → InShape w.shape v.seen → DutyAt v s a → s < w.shape.slots
@@ -247,18 +293,18 @@ module _ (w : Work) (words : List ℕ) (views : List View) (k : IsKept w.shape (
 
     serves_at : (d : Doing) → Facts w t v d → Serves step intent
     serves_at doings.Ready f = no_step moves.PhaseEnd f.asks (λ e. cc)
-    serves_at (doings.Making to name slot plan) f = making to name slot plan.at f.asks.1 (λ is.
-        let up : MakesUpTo w t.index to name slot t.vars f.notes (search.Trying slot) = subst (λ (a : Search). MakesUpTo w t.index to name slot t.vars f.notes a) is f.up_to in
-        class_fits f.stepper f.is_for.1 f.program to name.class t.index up.1.begun.there)
+    serves_at (doings.Making to name plan) f = making name plan.at (subst (λ (l : Extent). IsMakingIn l plan.at) f.is_for.0 f.fits.3) f.asks.1 (λ s seen is.
+        let up : MakesUpTo w t.index to name t.vars f.notes (search.Taking s seen) = subst (λ (a : Search). MakesUpTo w t.index to name t.vars f.notes a) is f.up_to in
+        class_fits f.stepper f.is_for.1 f.program to name.class t.index up.begun.there)
     serves_at (doings.Copying to held plan) f =
         let lt : held.place < w.shape.slots = subst (λ (e : Extent). held.place < e.slots) f.is_for.0 f.fits.1 in
         let leads : Leads v held = f.owns.leads held (let least = vars-least (is_ref held) t.vars f.up_to.from held f.up_to.source in let one = ref-itself held in omega arith) in
-        copying held plan.at lt leads f.asks.1
+        copying held plan.at lt (ap (λ (x : Working). x.owes) f.under_way.0.working) leads f.asks.1
     serves_at (doings.Dropping held plan) f =
         let lt : held.place < w.shape.slots = subst (λ (e : Extent). held.place < e.slots) f.is_for.0 f.fits in
         let leads : Leads v held = f.owns.leads held (let one = ref-itself held in omega arith) in
-        dropping held plan.at lt leads f.asks.1
-    serves_at (doings.Dying c) f = dying c.slot c.at (duty_within c.slot c.at f.in_shape f.under_way.duty) f.under_way.duty f.asks.1
+        dropping held plan.at lt (ap (λ (x : Working). x.owes) f.under_way.0.working) leads f.asks.1
+    serves_at (doings.Dying c) f = dying c.slot c.at (duty_within c.slot c.at f.in_shape f.under_way.duty) f.under_way.working f.under_way.duty f.asks.1
     serves_at doings.Ended f = no_step moves.Ended f.asks.0 (λ e. cc)
 
     pub serves : IsServedWork w → IsStepper t → Drives w t v → Serves step intent

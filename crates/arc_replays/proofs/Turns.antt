@@ -3,19 +3,19 @@ use Rattle.std.proofs.Common.{◌≡◌, ◌⊎◌, inl, inr, ℕ, ◌+◌, ◌�
 use Rattle.std.proofs.lemmas.Bool.{ltb-true, ltb-false}
 use Rattle.std.specs.Prelude.{position}
 use Rattle.arc_rule.specs.declared.step.Step.{Step}
-use Rattle.arc_rule.specs.declared.step.Step.TheVariants as steps
 use Rattle.arc_rule.specs.declared.step.Intent.{Intent}
+use Rattle.arc_rule.specs.declared.step.Intent.TheVariants as intents
 use Rattle.arc_rule.specs.declared.plan.Next.{Next}
 use Rattle.arc_rule.specs.declared.plan.Next.TheVariants as nexts
 use Rattle.arc_plan.specs.declared.slots.NewObjectAnswer.{NewObjectAnswer}
-use Rattle.arc_plan.specs.declared.slots.NewObjectAnswer.TheVariants.{Slot, NoSlot}
+use Rattle.arc_plan.specs.declared.slots.NewObjectAnswer.TheVariants.{Slot, NoSlot, Again}
 use Rattle.arc_plan.specs.declared.strong.StrongUpAnswer.{StrongUpAnswer}
 use Rattle.arc_plan.specs.declared.strong.StrongUpAnswer.TheVariants as ups
 use Rattle.arc_plan.specs.declared.strong.StrongDownAnswer.{StrongDownAnswer}
 use Rattle.arc_plan.specs.declared.strong.StrongDownAnswer.TheVariants as downs
 use Rattle.arc_plan.specs.Attempts.{Attempt, CappedAttempt}
 use Rattle.arc_plan.specs.Strong.{strong_up_turned, strong_up_answer, strong_down_turned, strong_down_answer}
-use Rattle.arc_plan.specs.Slots.{Creation, creation_turned, creation_answer}
+use Rattle.arc_plan.specs.Slots.{Creation, slot_taken, creation_turned, creation_answer}
 use Rattle.arc_cells.specs.declared.cascade.CascadeNext.{CascadeNext}
 use Rattle.arc_cells.specs.declared.cascade.CascadeNext.TheVariants as says
 use Rattle.arc_cells.specs.Cascades.{CascadeState, cascade_turned, cascade_answer}
@@ -30,7 +30,7 @@ use Rattle.arc_ops.specs.declared.stepper.Doing.{Doing}
 use Rattle.arc_ops.specs.declared.stepper.Doing.TheVariants.{Ready, Making, Copying, Dropping, Dying, Ended}
 use Rattle.arc_ops.specs.declared.stepper.Move.{Move}
 use Rattle.arc_ops.specs.declared.stepper.Move.TheVariants as moves
-use Rattle.arc_ops.specs.Thread.{Thread, value, set_var, put, drop_begun, make_begun, copy_begun, skipped, begun_nil, begun_copy, moved, begun_move, begun_drop, begun_op, scope_drop, scope_at, is_held, scope_begun, phase_end, phase_over, begun_at, begun, next_op, replaced_old, replaced, made_on, copied_on, dying_asks, dropped_on, dying_on, turned_at, turned}
+use Rattle.arc_ops.specs.Thread.{Thread, value, set_var, put, drop_begun, make_begun, make_begun_as, copy_begun, asking, came_to, skipped, begun_nil, begun_copy, moved, begun_move, begun_drop, begun_op, scope_drop, scope_at, is_held, scope_begun, phase_end, phase_over, begun_at, begun, next_op, replaced_old, replaced, made_on, copied_on, dying_asks, dropped_on, dying_on, turned_at, turned}
 
 -- Where a thread of so many phases is that was in phase n: it asks for a step in it, waits for the next one, or that was its last.
 abbrev pub IsBehind : (phases n : ℕ) → Move → Doing → (phase : ℕ) → Type 0
@@ -74,6 +74,9 @@ module _ (phases : List (List Op)) (n : ℕ) where
 
   make_after : (to class : ℕ) (t : Thread) → IsIdle phases n t → IsAfter phases n (make_begun to class t)
   make_after to class t i = (i.phases_are, i.phase_is)
+
+  make_as_after : (to : ℕ) (name : ObjectName) (t : Thread) → IsIdle phases n t → IsAfter phases n (make_begun_as to name t)
+  make_as_after to name t i = (i.phases_are, i.phase_is)
 
   copy_after : (to : ℕ) (held : Held) (t : Thread) → IsIdle phases n t → IsAfter phases n (copy_begun to held t)
   copy_after to held t i = (i.phases_are, i.phase_is)
@@ -136,6 +139,8 @@ module _ (phases : List (List Op)) (n : ℕ) where
       by (op.Load to of) = skips
       by (op.Get to cell) = skips
       by (op.Set cell from) = skips
+      by (op.IfNil v place) = skips
+      by (op.IfSome v place) = skips
 
   at_after : (ops : List Op) (t : Thread) → IsIdle phases n t → IsAfter phases n (begun_at ops t)
   at_after [] t i = over_after t i
@@ -159,12 +164,15 @@ module _ (phases : List (List Op)) (n : ℕ) where
       go None = next_after (set_var to (Some held) t) set
       go (Some old) = drop_after old (set_var to (Some held) t) set
 
-  made_after : (to : ℕ) (name : ObjectName) (slot : ℕ) (plan : Creation) (next : Next NewObjectAnswer) (t : Thread) → IsIdle phases n t → IsAfter phases n (made_on to name slot plan next t)
-  made_after to name slot plan (nexts.Step (steps.Load place)) t i = (i.phases_are, i.phase_is)
-  made_after to name slot plan (nexts.Step (steps.Exchange place old new)) t i = (i.phases_are, i.phase_is)
-  made_after to name slot plan (nexts.Step (steps.Store place new)) t i = (i.phases_are, i.phase_is)
-  made_after to name slot plan (nexts.Done (Slot place)) t i = replaced_after to (record { hand = t.hands; place = place }) (put (answers.New name) t) (record { phases_are = i.phases_are; phase_is = i.phase_is; idle = i.idle })
-  made_after to name slot plan (nexts.Done NoSlot) t i = next_after (put answers.Full (record t { event = Some acts.Full })) (record { phases_are = i.phases_are; phase_is = i.phase_is; idle = i.idle })
+  made_after : (to : ℕ) (name : ObjectName) (plan : Creation) (next : Next NewObjectAnswer) (t : Thread) → IsIdle phases n t → IsAfter phases n (made_on to name plan next t)
+  made_after to name plan (nexts.Step s) t i = go (slot_taken plan.at)
+    where
+      go : (m : Option ℕ) → IsAfter phases n (asking (Making to name plan) s (intents.New name.class) (came_to name m t))
+      go None = (i.phases_are, i.phase_is)
+      go (Some slot) = (i.phases_are, i.phase_is)
+  made_after to name plan (nexts.Done (Slot place)) t i = replaced_after to (record { hand = t.hands; place = place }) (put (answers.New name) t) (record { phases_are = i.phases_are; phase_is = i.phase_is; idle = i.idle })
+  made_after to name plan (nexts.Done NoSlot) t i = next_after (put answers.Full (record t { event = Some acts.Full })) (record { phases_are = i.phases_are; phase_is = i.phase_is; idle = i.idle })
+  made_after to name plan (nexts.Done (Again changed)) t i = make_as_after to name t i
 
   copied_after : (to : ℕ) (held : Held) (plan : CappedAttempt) (next : Next StrongUpAnswer) (t : Thread) → IsIdle phases n t → HasAsked t → IsAfter phases n (copied_on to held plan next t)
   copied_after to held plan (nexts.Step s) t i asked = (i.phases_are, i.phase_is)
@@ -208,7 +216,7 @@ turned_after t last may = at t.doing refl may
 
     at : (d : Doing) → t.doing ≡ d → HasAsked t ⊎ (t.doing ≡ Ready) → IsAfter t.phases t.phase (turned_at last d (quiet t))
     at Ready is m = begun_after t.phases t.phase (quiet t) idle
-    at (Making to name slot plan) is m = made_after t.phases t.phase to name slot (creation_turned plan last) (creation_answer plan last) (quiet t) idle
+    at (Making to name plan) is m = made_after t.phases t.phase to name (creation_turned plan last) (creation_answer plan last) (quiet t) idle
     at (Copying to held plan) is m = copied_after t.phases t.phase to held (strong_up_turned plan last) (strong_up_answer plan last) (quiet t) idle (no is (λ e. cc) m)
     at (Dropping held plan) is m = dropped_after t.phases t.phase held (strong_down_turned plan last) (strong_down_answer plan last) (quiet t) idle (no is (λ e. cc) m)
     at (Dying c) is m = dying_after t.phases t.phase (cascade_turned c last) (cascade_answer c last) (record (quiet t) { event = (cascade_turned c last).event }) (record { phases_are = refl; phase_is = refl; idle = refl }) (no is (λ e. cc) m)

@@ -1,6 +1,6 @@
--- A replay that has come to its end is one legal history, and leaves no object.
-use Rattle.std.proofs.Common.{◌≡◌, ◌⊎◌, inl, inr, ℕ, zero, suc, ◌+◌, ◌≤◌, ◌<◌, Bool, true, false, not, cond, List, [], ◌∷◌, ◌++◌, length, map, drop, Option, Some, None, refl, sym, ap, ◌∙◌, subst, arith}
-use Rattle.std.specs.Prelude.{All, find, filter, slice_get, slice_index, slice_index_or, sum_by, is_some, ◌||◌}
+-- A replay that has come to its end is one legal history, and leaves no object but immortal ones.
+use Rattle.std.proofs.Common.{◌≡◌, ◌⊎◌, inl, inr, ℕ, zero, suc, ◌+◌, ◌/◌, ◌≤◌, ◌<◌, Bool, true, false, not, cond, List, [], ◌∷◌, ◌++◌, length, map, drop, Option, Some, None, refl, sym, ap, ◌∙◌, subst, arith}
+use Rattle.std.specs.Prelude.{All, find, filter, slice_get, slice_index, sum_by, is_some, ◌||◌}
 use Rattle.std.specs.List.{AllByRecursion, list_any}
 use Rattle.std.proofs.lemmas.Bool.{cases_lt, eqb-true}
 use Rattle.std.proofs.lemmas.List.{length-map}
@@ -8,23 +8,22 @@ use Rattle.std.proofs.lemmas.List.Elements.{All-from_recursion, recursion_from_A
 use Rattle.std.proofs.lemmas.List.Sums.{sum_by-cons}
 use Rattle.std.proofs.lemmas.Option.{slice_get_within}
 use Rattle.arc_model.specs.declared.event.Event.{Event}
-use Rattle.arc_model.specs.declared.event.Life.TheVariants.{Live, Deiniting, Deinited, Freed, Dead}
-use Rattle.arc_model.specs.declared.shape.RefShape.{RefShape}
-use Rattle.arc_model.specs.Heaps.{Strongs, Unowneds, Object}
-use Rattle.arc_model.specs.Holders.{is_empty, is_in, in_slot, is_number, has_entry, at_slot, claims_it, is_entry_taken, is_live}
+use Rattle.arc_model.specs.declared.event.ObjectName.{ObjectName}
+use Rattle.arc_model.specs.Shapes.{ObjectClass, class_at}
+use Rattle.arc_model.specs.SpellingTies.{name_of}
+use Rattle.arc_model.specs.Heaps.{Object}
+use Rattle.arc_model.specs.Holders.{is_number, has_entry, at_slot, claims_it, is_slot_taken, is_entry_taken}
 use Rattle.arc_model.specs.History.{History, heap_after, is_of, share}
-use Rattle.arc_model.specs.Life.{life_of}
 use Rattle.arc_model.specs.Spelling.{Note, acts_of}
 use Rattle.arc_model.specs.SpellingTies.Causes.{Judged}
-use Rattle.arc_model.specs.WellFormed.{IsWhole, tally}
-use Rattle.arc_model.specs.WellFormed.IsWhole.{live, deiniting, deinited, vacating, going, freed, dead}
-use Rattle.arc_model.proofs.Basics.{None≢Some, Some-inj, in-not_empty}
-use Rattle.arc_model.proofs.Courses.{well_formed}
+use Rattle.arc_model.proofs.Basics.{None≢Some, Some-inj}
 use Rattle.arc_model.proofs.Others.{not-among}
-use Rattle.arc_model.proofs.Tally.{tally-in, clash}
 use Rattle.arc_rule.specs.Places.{extent_of, number}
-use Rattle.arc_rule.specs.Shown.{Shows, ShowsCounts}
-use Rattle.arc_rule.specs.declared.layout.Place.TheVariants.{Count, Link}
+use Rattle.arc_rule.specs.Bits.{words_of}
+use Rattle.arc_rule.proofs.Bits.{bit_shown}
+use Rattle.arc_rule.specs.Isa.{IsIsaWord, isa_word_of, isa_name_of}
+use Rattle.arc_rule.specs.Shown.{Shows, ShowsCounts, ShowsName, IsInline}
+use Rattle.arc_rule.specs.declared.layout.Place.TheVariants.{Count, Isa, SlotBits, EntryBits}
 use Rattle.arc_script.specs.declared.answer.Line.{Line}
 use Rattle.arc_script.specs.declared.script.VarDecl.{VarDecl}
 use Rattle.arc_script.specs.declared.script.Script.{Script}
@@ -34,9 +33,10 @@ use Rattle.arc_programs.specs.Programs.GlobalsCleared.{begins as cleared_none, n
 use Rattle.arc_programs.specs.ProgramsLines.{told}
 use Rattle.arc_programs.specs.ProgramsTied.{hands_in, HasProgram, Spells}
 use Rattle.arc_programs.specs.ProgramsTied.Spells.{thread as spells_thread, end as spells_end}
-use Rattle.arc_quiet.specs.OneWay.{StrongFieldsLeadOneWay, AllDead}
+use Rattle.arc_quiet.specs.OneWay.{NoClassIsImmortal, StrongFieldsLeadOneWay, AllDead}
+use Rattle.arc_quiet.specs.Quiet.{IsQuietHeap}
 use Rattle.arc_quiet.specs.Whole.{AllFinish, StandsLast}
-use Rattle.arc_quiet.proofs.Leaving.{leaves_nothing}
+use Rattle.arc_quiet.proofs.Leaving.{leaves_nothing, whole_is_quiet}
 use Rattle.arc_programs_laws.specs.Deinits.{deinit_lines, emptied}
 use Rattle.arc_programs_laws.specs.Phases.{PhaseEnds, PhasesFollow}
 use Rattle.arc_programs_laws.specs.Room.{room}
@@ -49,15 +49,18 @@ use Rattle.arc_ops.specs.Served.{IsServed}
 use Rattle.arc_ops.specs.Thread.{Thread}
 use Rattle.arc_spelled.specs.Spelled.{work_of}
 use Rattle.arc_view.specs.Rule.{InShape}
-use Rattle.arc_replays.specs.Empty.{AreEmpty}
+use Rattle.arc_view.proofs.Put.{is_number_some}
+use Rattle.arc_view_laws.proofs.Names.{is_name, name_back, is_isa}
 use Rattle.arc_replays.specs.Histories.{history_of, lines_from, first_lines, deinits_printed, IsHistory}
 use Rattle.arc_replays.specs.Laws.{ReplaysAreHistories, IsWholeReplay}
+use Rattle.arc_replays.specs.Left.{isa_of, IsImmortalSlot, OnlyImmortals}
 use Rattle.arc_replays.specs.Named.{LineFits, ActFits, EventsFit}
 use Rattle.arc_replays.specs.Replaying.{IsSpelledInLog, IsOneHistory}
 use Rattle.arc_replays.specs.Stages.{Stage, IsRun}
 use Rattle.arc_replays.proofs.Bare.{came_in, IsBareHeap, AreBare, bare_after}
 use Rattle.arc_replays.proofs.GoesOn.{replays_are_one_history, ended_threads_spell}
-use Rattle.arc_replays.proofs.Holds.{Holds, reached_holds}
+use Rattle.arc_replays.proofs.Holds.{Holds, is_sized, reached_holds}
+use Rattle.arc_replays.proofs.Left.{slotted_immortal, found_there}
 use Rattle.arc_replays.proofs.Phases.{IsPoint, IsPhased, reached_phased, point_of_all, there_is}
 use Rattle.arc_replays.proofs.Promises.{deinits_once, loads_come_before, slots_are_vacated, entries_are_given_back}
 
@@ -122,47 +125,11 @@ all_at : (P : ThreadLines → Type 0) (xs : List ThreadLines) → ((i : ℕ) (x 
 all_at P [] each = tt
 all_at P (x ∷ xs) each = (each zero x refl, all_at P xs (λ i y at. each (suc i) y at))
 
--- ---- dead objects
-
--- an object that is dead has no weak holder
-dead_weak : (o : Object) → life_of o ≡ Dead → is_empty o.weak ≡ true
-dead_weak o e = go (is_live o) (is_in Strongs o.unowned) (is_empty o.unowned) (is_empty o.weak) e
-  where
-    go : (a b c d : Bool) → cond a Live (cond b Deiniting (cond (not c) Deinited (cond (not d) Freed Dead))) ≡ Dead → d ≡ true
-    go true b c d e = absurd (cc)
-    go false true c d e = absurd (cc)
-    go false false false d e = absurd (cc)
-    go false false true false e = absurd (cc)
-    go false false true true e = refl
-
-dead_slot : (o : Object) → IsWhole o → is_empty o.weak ≡ true → o.slot ≡ None
-dead_slot o w none = go w
-  where
-    held : {A : Type 0} → tally Unowneds o.weak ≡ 1 → A
-    held one = clash (is_empty o.weak) none (in-not_empty Unowneds o.weak (tally-in Unowneds o.weak (omega (arith, one))))
-
-    go : IsWhole o → o.slot ≡ None
-    go (live s d l a b p) = held b
-    go (deiniting s d l a b p) = held b
-    go (deinited s d l a u b p) = held b
-    go (vacating s d l u b p) = held b
-    go (going s d l u b e) = held b
-    go (freed s d l u b w e) = l
-    go (dead s d l u w e) = l
-
-find_none : (test : Object → Bool) (os : List Object) → ((i : ℕ) (o : Object) → slice_get os i ≡ Some o → test o ≡ false) → find test os ≡ None
-find_none test [] each = refl
-find_none test (o ∷ os) each = ap (λ b. cond b (Some o) (find test os)) (each zero o refl) ∙ find_none test os (λ i q at. each (suc i) q at)
+-- ---- what is left
 
 no_entry : (n e : ℕ) (os : List Object) → AreBare n os → find (has_entry e) os ≡ None
 no_entry n e [] b = refl
 no_entry n e (o ∷ os) b = ap (λ (m : Option ℕ). cond (is_number m e) (Some o) (find (has_entry e) os)) b.0.entry ∙ no_entry n e os b.1
-
--- classes without fields have none that lead anywhere
-one_way : (classes : List (List RefShape)) (i f : ℕ) (r : RefShape) → AllByRecursion (λ (fields : List RefShape). fields ≡ []) classes → slice_get (slice_index_or classes i []) f ≡ Some r → ⊥
-one_way [] i f r none at = None≢Some r at
-one_way (fields ∷ classes) zero f r none at = None≢Some r (ap (λ (l : List RefShape). slice_get l f) (sym none.0) ∙ at)
-one_way (fields ∷ classes) (suc i) f r none at = one_way classes i f r none.1 at
 
 -- ---- events
 
@@ -262,34 +229,60 @@ module _ (script : Script) (s : Stage) (valid : IsScript script) (served : IsSer
   shows : Shows script.shape (heap_after log) s.words
   shows = one.shows run.ended
 
-  leads_one_way : StrongFieldsLeadOneWay script.shape
-  leads_one_way class field r at strong = absurd (one_way script.shape.classes class field r (recursion_from_All (λ (fields : List RefShape). fields ≡ []) script.shape.classes served.without_fields) at)
-
-  all_dead : StrongFieldsLeadOneWay script.shape → AllDead (heap_after log)
-  all_dead ways = leaves_nothing Judged script log valid ways one.legal finish stands_last holds.no_other
+  all_dead : NoClassIsImmortal script.shape → StrongFieldsLeadOneWay script.shape → AllDead script.shape (heap_after log)
+  all_dead mortal ways = leaves_nothing Judged script log valid mortal ways one.legal finish stands_last holds.no_other
 
   bare : IsBareHeap (came_in log) (heap_after log)
   bare = bare_after (length script.shape.classes) log holds.events_fit
 
-  no_slot : (k : ℕ) → at_slot k (heap_after log) ≡ None
-  no_slot k = find_none (in_slot k) (heap_after log).objects (λ i o at.
-      ap (λ (m : Option ℕ). is_number m k) (dead_slot o ((well_formed script.shape log one.legal).whole i o at) (dead_weak o (all_dead leads_one_way i o at))))
+  quiet : IsQuietHeap (heap_after log)
+  quiet = whole_is_quiet Judged script log valid one.legal finish stands_last holds.no_other
+
+  word_in : (s k : ℕ) → s < k → s / 64 < words_of k
+  word_in s k lt = omega (arith, lt)
+
+  within : InShape script.shape log
+  within = subst (InShape script.shape) holds.replaying.log_is holds.replaying.kept.in_shape
+
+  -- an object in a slot is immortal, as its words say
+  slot_is : (k : ℕ) → k < script.shape.slots → is_slot_taken k (heap_after log) ≡ true → IsImmortalSlot script.shape s.words k
+  slot_is k lt taken = go (at_slot k (heap_after log)) refl taken
+    where
+      go : (m : Option Object) → at_slot k (heap_after log) ≡ m → is_some m ≡ true → IsImmortalSlot script.shape s.words k
+      go None e none = absurd cc
+      go (Some o) e some =
+          let there = found_there k (heap_after log).objects o e in
+          let immortal = slotted_immortal script.shape log one.legal (recursion_from_All (λ (c : ObjectClass). c.fields ≡ []) script.shape.classes served.without_fields) quiet there.0 k o there.1 (is_number_some o.slot k there.2) in
+          let says : ShowsCounts script.shape (Some o) (slice_index s.words (number (extent_of script.shape) (Count k))) =
+          subst (λ (m : Option Object). ShowsCounts script.shape m (slice_index s.words (number (extent_of script.shape) (Count k)))) e (shows.says (Count k) lt (λ x. x)) in
+          let fits = is_name script.shape log there.0 o (is_sized script valid served) within there.1 in
+          let isa : isa_of script.shape s.words k ≡ isa_word_of (name_of o) = subst (λ (m : Option Object). ShowsName m (isa_of script.shape s.words k)) e (shows.says (Isa k) lt (λ x. x)) in
+          let same : isa_name_of (isa_of script.shape s.words k) ≡ name_of o = ap isa_name_of isa ∙ sym (name_back (name_of o) fits) in record {
+            count = subst (λ b. IsInline b script.shape o (slice_index s.words (number (extent_of script.shape) (Count k)))) immortal says;
+            named = subst IsIsaWord (sym isa) (is_isa (name_of o) fits);
+            class_there = subst (λ (n : ObjectName). n.class < length script.shape.classes) (sym same) (within.classes there.0 o there.1).0;
+            immortal = subst (λ (n : ObjectName). (class_at script.shape n.class).immortal ≡ true) (sym same) immortal;
+          }
 
   no_entry_taken : (e : ℕ) → is_entry_taken e (heap_after log) ≡ false
   no_entry_taken e =
       (λ j. list_any (claims_it e) (bare.claims j) || is_some (no_entry (came_in log) e (heap_after log).objects bare.objects j))
 
-  empty : AreEmpty (extent_of script.shape) s.words
-  empty = record {
+  left : OnlyImmortals script.shape s.words
+  left = record {
     whole = shows.whole;
-    counts = λ k lt. subst (λ (m : Option Object). ShowsCounts script.shape m (slice_index s.words (number (extent_of script.shape) (Count k)))) (no_slot k) (shows.says (Count k) lt (λ x. x));
-    links = λ e lt. (shows.says (Link e) lt (λ x. x)).free.1 (no_entry_taken e);
+    slots = λ k lt set.
+        let bits = shows.says (SlotBits (k / 64)) (word_in k script.shape.slots lt) (λ x. x) in
+        slot_is k lt (sym (bit_shown script.shape.slots (k / 64) (λ x. is_slot_taken x (heap_after log)) (slice_index s.words (number (extent_of script.shape) (SlotBits (k / 64)))) bits k refl lt) ∙ set);
+    entries = λ e lt.
+        let bits = shows.says (EntryBits (e / 64)) (word_in e script.shape.entries lt) (λ x. x) in
+        bit_shown script.shape.entries (e / 64) (λ x. is_entry_taken x (heap_after log)) (slice_index s.words (number (extent_of script.shape) (EntryBits (e / 64)))) bits e refl lt ∙ no_entry_taken e;
   }
 
   history : IsHistory script threads (first_lines s.threads) log s.words
   history = record {
     legal = one.legal;
-    in_shape = subst (InShape script.shape) holds.replaying.log_is holds.replaying.kept.in_shape;
+    in_shape = within;
     spelled = record { each = as_many; spelled = each_spelled };
     end_spelled = end_spelled;
     no_other = holds.no_other;
@@ -311,7 +304,7 @@ module _ (script : Script) (s : Stage) (valid : IsScript script) (served : IsSer
   pub whole : IsWholeReplay script s
   whole = record {
     history = history;
-    left = empty;
+    left = left;
     lines_fit = All-from_recursion (λ (x : ThreadLines). All (LineFits (length script.shape.classes)) x.lines) threads (all_at (λ (x : ThreadLines). All (LineFits (length script.shape.classes)) x.lines) threads (λ i x at. fit (i + 1) x.lines (each_spelled i x at).1));
     end_fits = fit 0 (first_lines s.threads) end_spelled;
     events_fit = All-from_recursion (λ (x : Stamped). ActFits (length script.shape.classes) x.event.act) s.events (stamped_fit (length script.shape.classes) s.events holds.events_fit);

@@ -2,7 +2,7 @@
 use Rattle.std.specs.Prelude.{ℕ, ◌≡◌, ◌+◌, List, [], ◌∷◌, length, map, Some, slice_get, sum_by}
 use Rattle.arc_model.specs.History.{History, heap_after, IsLegal}
 use Rattle.arc_programs.specs.ProgramsTied.{IsSpelledIn}
-use Rattle.arc_quiet.specs.OneWay.{StrongFieldsLeadOneWay, AllDead}
+use Rattle.arc_quiet.specs.OneWay.{NoClassIsImmortal, StrongFieldsLeadOneWay, AllDead}
 use Rattle.arc_quiet.specs.Whole.{NoOtherThread, StandsLast}
 use Rattle.arc_programs_laws.specs.Phases.{PhasesFollow}
 use Rattle.arc_programs_laws.specs.Deinits.{deinit_lines, emptied}
@@ -49,13 +49,13 @@ pub record IsHistory (script : Script) (threads : List ThreadLines) (end : List 
   pub phases : PhasesFollow script h
   pub last : StandsLast 0 h
   pub shows : Shows script.shape (heap_after h) words
-  -- each object is deinited once, and a load gives it only earlier; nothing is given again while a holder remains
-  pub once : DeinitsOnce h
-  pub loads : LoadsComeBefore h
-  pub slots : SlotsAreVacated h
+  -- each object whose strong list becomes empty is deinited once, and a load gives it only earlier; nothing is given again while a holder remains
+  pub once : DeinitsOnce script.shape h
+  pub loads : LoadsComeBefore script.shape h
+  pub slots : SlotsAreVacated script.shape h
   pub entries : EntriesAreGivenBack h
   -- a deinit line for each event that emptied a strong list, and no entry is claimed in the end
   pub deinits : deinits_printed threads end ≡ emptied h
   pub no_claim : NoEntryIsClaimed (heap_after h)
-  -- where strong fields lead one way, every object is dead
-  pub leaves : StrongFieldsLeadOneWay script.shape → AllDead (heap_after h)
+  -- where no class is immortal and strong fields lead one way, every object is dead
+  pub leaves : NoClassIsImmortal script.shape → StrongFieldsLeadOneWay script.shape → AllDead script.shape (heap_after h)

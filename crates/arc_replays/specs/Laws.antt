@@ -12,8 +12,8 @@ use Rattle.arc_ops.specs.Thread.{Thread, IsStepper, takes}
 use Rattle.arc_ops_passes.specs.Drives.{Asks}
 use Rattle.arc_ops.specs.declared.told.Stamped.{Stamped}
 use Rattle.arc_ops.specs.declared.told.ThreadLines.{ThreadLines}
-use Rattle.arc_replays.specs.Empty.{AreEmpty}
 use Rattle.arc_replays.specs.Histories.{history_of, lines_from, first_lines, IsHistory}
+use Rattle.arc_replays.specs.Left.{OnlyImmortals}
 use Rattle.arc_replays.specs.Named.{LineFits, ActFits}
 use Rattle.arc_replays.specs.Stages.{Stage, Reached, IsRun}
 
@@ -47,11 +47,11 @@ StepsMayBeMade = (script : Script) (s : Stage) (p : ℕ) (t : Thread) (step : St
 abbrev pub PhasesMayBegin : Type 0
 PhasesMayBegin = (script : Script) (s : Stage) (p : ℕ) (t : Thread) → IsScript script → IsServed script → Reached script s → slice_get s.threads p ≡ Some t → t.asked ≡ moves.PhaseEnd → takes t None
 
--- What a replay is that has come to its end: one legal history with the lines of its threads, and no object is left. Lines and events name classes of
+-- What a replay is that has come to its end: one legal history with the lines of its threads, and no object is left but immortal ones. Lines and events name classes of
 -- the script.
 pub record IsWholeReplay (script : Script) (s : Stage) : Type 0 where
   pub history : IsHistory script (lines_from 1 (drop 1 s.threads)) (first_lines s.threads) (history_of s.events) s.words
-  pub left : AreEmpty (extent_of script.shape) s.words
+  pub left : OnlyImmortals script.shape s.words
   pub lines_fit : All (λ (x : ThreadLines). All (LineFits (length script.shape.classes)) x.lines) (lines_from 1 (drop 1 s.threads))
   pub end_fits : All (LineFits (length script.shape.classes)) (first_lines s.threads)
   pub events_fit : All (λ (x : Stamped). ActFits (length script.shape.classes) x.event.act) s.events

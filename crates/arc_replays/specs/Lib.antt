@@ -1,6 +1,6 @@
-pub mod Empty
 pub mod Histories
 pub mod Laws
+pub mod Left
 pub mod Named
 pub mod Promises
 pub mod Replaying

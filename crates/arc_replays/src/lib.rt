@@ -3,7 +3,7 @@
 //!
 //! The stages that a replay comes to are a relation by data: a place of the schedule is followed, a phase begins, a thread makes a step. At each
 //! stage every thread drives a pass of one heap, whose words these are; so each step that a thread asks for may be made, and in the end there is
-//! one history: legal, with the program and the lines of each thread, its phases in their order, and no object left.
+//! one history: legal, with the program and the lines of each thread, its phases in their order, and no object left but immortal ones.
 #![tactic(auto)]
 
 ghost use Rattle.arc_replays.specs.Laws.{StagesAreWhole, ThreadsAreAtWork, StepsMayBeMade, PhasesMayBegin, ReplaysAreHistories};
@@ -34,7 +34,8 @@ pub fn stages_go_on()
     ensures phase { PhasesMayBegin }
 {}
 
-/// A replay that has come to its end is one legal history of the script, with the lines of its threads, and no object is left.
+/// A replay that has come to its end is one legal history of the script, with the lines of its threads, and no object is left but immortal
+/// ones.
 pub fn replays_are_histories()
     ensures { ReplaysAreHistories }
 {}

@@ -15,7 +15,7 @@ later_text script events =
     ++ (flat_map (event_text (class_names script.classes) (var_names script.globals)) events
     ++ codes "done\n")))
 
--- the heading is that of the script's canonical text
+-- The first line takes the script's version; the heading is that of the script's canonical text.
 abbrev pub history : Script → List Stamped → List ℕ
 history script events =
-    codes "history 1\n" ++ (heading_text script.shape script.classes script.globals ++ later_text script events)
+    codes "history " ++ (decimal script.version ++ (codes "\n" ++ (heading_text script.shape script.classes script.globals ++ later_text script events)))

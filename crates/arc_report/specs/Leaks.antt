@@ -1,14 +1,16 @@
 -- The lines of what is left at the end.
-use Rattle.std.specs.Prelude.{ℕ, Bool, true, false, ◌-◌, ◌^◌, ◌<◌, ◌≡◌, List, [], ◌++◌, map, codes, Option, Some, None, if◌then◌else◌}
+use Rattle.std.specs.Prelude.{ℕ, Bool, true, false, not, ◌-◌, ◌^◌, ◌<◌, ◌≡◌, List, [], ◌++◌, map, count_by, slice_index_or, codes, Option, Some, None, if◌then◌else◌}
 use Rattle.std.specs.Fmt.{decimal, digits, padded_integral, format_spec}
 use Rattle.std.specs.Ordering.{nat_cmp, ordering_then}
 use Rattle.std.specs.declared.cmp.Ordering.{Ordering}
 use Rattle.arc_bits.specs.declared.packing.Word.{Word}
-use Rattle.arc_bits.specs.declared.packing.Word.TheVariants.{Free, Counts, Slow}
+use Rattle.arc_bits.specs.declared.packing.Word.TheVariants.{Free, Counts, Slow, Immortal}
 use Rattle.arc_bits.specs.Words.{unpacked}
 use Rattle.arc_rule.specs.declared.layout.Place.TheVariants as place
 use Rattle.arc_rule.specs.Extents.{Extent}
 use Rattle.arc_rule.specs.Isa.{isa_name_of}
+use Rattle.arc_script.specs.declared.script.ClassDecl.{ClassDecl}
+use Rattle.arc_script.specs.Valid.{class_names, immortals_of}
 use Rattle.arc_report.specs.declared.leaks.Leak.{Leak}
 use Rattle.arc_report.specs.Names.{object_text}
 use Rattle.arc_report.specs.Order.{in_order}
@@ -46,6 +48,7 @@ side_text l words (Some (Slow entry)) =
     codes " side " ++ (decimal (word_at l words (place.Strong entry))
     ++ (codes " " ++ (decimal (word_at l words (place.Unowned entry))
     ++ (codes " " ++ decimal (word_at l words (place.Weak entry))))))
+side_text l words (Some Immortal) = []
 side_text l words None = []
 
 -- the state and the inline word of a slot, and the counts of its object's entry
@@ -56,9 +59,21 @@ counts_text l words word =
 abbrev pub leak_name : List (List ℕ) → Leak → List ℕ
 leak_name classes leak = object_text classes (record { class = leak.class; thread = leak.thread; number = leak.number })
 
-abbrev pub leak_text : List (List ℕ) → Extent → List ℕ → Leak → List ℕ
+abbrev pub is_immortal : List ClassDecl → Leak → Bool
+is_immortal classes leak = slice_index_or (immortals_of classes) leak.class false
+
+-- an object of an immortal class is no leak
+abbrev pub leak_text : List ClassDecl → Extent → List ℕ → Leak → List ℕ
 leak_text classes l words leak =
-    codes "leak " ++ (leak_name classes leak ++ (codes " " ++ (counts_text l words (word_at l words (place.Count leak.slot)) ++ codes "\n")))
+    if is_immortal classes leak then codes "immortal " ++ (leak_name (class_names classes) leak ++ codes "\n") else
+    codes "leak " ++ (leak_name (class_names classes) leak ++ (codes " " ++ (counts_text l words (word_at l words (place.Count leak.slot)) ++ codes "\n")))
+
+abbrev pub is_lost : List ClassDecl → Leak → Bool
+is_lost classes leak = not (is_immortal classes leak)
+
+-- how many of the objects that still have a slot are leaks
+abbrev pub leak_count : List ClassDecl → List Leak → ℕ
+leak_count classes leaks = count_by (is_lost classes) leaks
 
 -- the leak is of the object in its slot
 pub record IsLeak (l : Extent) (words : List ℕ) (leak : Leak) : Type 0 where

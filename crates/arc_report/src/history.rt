@@ -1,5 +1,8 @@
+//! The history text.
+
 ghost use Rattle.std.specs.Prelude.{◌≡◌, ◌++◌, length, codes, IfOk};
 ghost use Rattle.std.specs.String.{string_bytes};
+ghost use Rattle.std.specs.Fmt.{decimal};
 ghost use Rattle.std.specs.List.{AllByRecursion};
 ghost use Rattle.arc_script.specs.Valid.{IsHeading};
 ghost use Rattle.arc_report.specs.Events.{EventIsNamed};
@@ -29,16 +32,18 @@ fn later_lines(alloc: Global, script: &Script, events: &[Stamped]) -> Result<Str
     Ok(out)
 }
 
-fn joined(alloc: Global, heading: &[u8], later: &[u8]) -> Result<Vec<u8>, Memory>
-    ensures { IfOk result (λ v. v.items ≡ codes "history 1\n" ++ (heading.now ++ later.now)) }
+fn joined(alloc: Global, version: u32, heading: &[u8], later: &[u8]) -> Result<Vec<u8>, Memory>
+    ensures { IfOk result (λ v. v.items ≡ codes "history " ++ (decimal version ++ (codes "\n" ++ (heading.now ++ later.now)))) }
 {
-    let mut text = b"history 1\n".to_vec(alloc)?;
+    let mut first = String::new(alloc);
+    writeln!(first, "history {version}")?;
+    let mut text = first.into_bytes();
     text.extend_from_slice(heading)?;
     text.extend_from_slice(later)?;
     Ok(text)
 }
 
-/// The history text of a run of the script: the heading of the script, the number of threads and the events in order, each with
+/// The history text of a run of the script: the script's version and heading, the number of threads and the events in order, each with
 /// the number of its step and its thread. This project's own. Memory: no memory was found.
 pub fn history_text(alloc: Global, script: &Script, events: &[Stamped]) -> Result<Vec<u8>, Memory>
     requires heading { IsHeading script.now.shape script.now.classes script.now.globals }
@@ -49,5 +54,5 @@ pub fn history_text(alloc: Global, script: &Script, events: &[Stamped]) -> Resul
     let globals = script.globals.as_slice();
     let heading = write_heading(alloc, &script.shape, classes, globals)?;
     let later = later_lines(alloc, script, events)?;
-    joined(alloc, &heading, later.as_bytes())
+    joined(alloc, script.version, &heading, later.as_bytes())
 }

@@ -1,11 +1,14 @@
+//! Which objects and entries a heap's words show to be left.
+
 ghost use Rattle.std.specs.Prelude.{◌≡◌, ◌≤◌, ◌<◌, true, map, length, vec_len, All, IfOk, IsTrue};
 ghost use Rattle.std.specs.List.{AllByRecursion};
 ghost use Rattle.arc_rule.specs.Places.{word_count};
 ghost use Rattle.arc_report.specs.Order.{in_order};
 ghost use Rattle.arc_report.specs.Words.{is_taken, numbers_where, AreFinalWords};
-ghost use Rattle.arc_report.specs.Leaks.{leak_at, leak_cmp, leaks_of, IsLeak};
+ghost use Rattle.arc_report.specs.Leaks.{leak_at, leak_cmp, leaks_of, is_immortal, leak_count, IsLeak};
 
 use arc_rule::{Layout, isa_name};
+use arc_script::ClassDecl;
 use std::alloc::{AllocError, Global};
 
 /// An object that still has a slot.
@@ -17,12 +20,13 @@ pub(crate) struct Leak {
     pub slot: u32,
 }
 
-fn is_taken(layout: &Layout, words: &[u64], slot: u32) -> bool
+pub(crate) fn is_taken(layout: &Layout, words: &[u64], slot: u32) -> bool
     requires slot { slot < layout.now.slots }
     requires whole { length words.now ≡ word_count layout.now }
     ensures { result ≡ is_taken layout.now words.now slot }
 {
-    words[layout.count_of(slot) as usize] != 0
+    let bits = words[layout.slot_bits(slot) as usize];
+    (bits >> (slot % 64)) % 2 == 1
 }
 
 fn leak_at(layout: &Layout, words: &[u64], slot: u32) -> Leak
@@ -72,4 +76,24 @@ pub(crate) fn leaks_of(
     let mut leaks = taken_slots(alloc, layout, words)?;
     sort_leaks(&mut leaks);
     Ok(leaks)
+}
+
+/// Whether the object is of an immortal class.
+pub(crate) fn is_immortal(classes: &[ClassDecl], leak: &Leak) -> bool
+    ensures { result ≡ is_immortal classes.now leak.now }
+{
+    match classes.get(leak.class as usize) {
+        Some(class) => class.immortal,
+        None => false,
+    }
+}
+
+/// How many of these objects are leaks: all but those of immortal classes.
+pub(crate) fn leak_count(classes: &[ClassDecl], leaks: &[Leak]) -> usize
+    ensures { result ≡ leak_count classes.now leaks.now }
+{
+    leaks
+        .iter()
+        .filter(|leak| !is_immortal(classes, leak))
+        .count()
 }

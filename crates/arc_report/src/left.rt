@@ -1,13 +1,15 @@
+//! The lines of what is left.
+
 ghost use Rattle.std.specs.Prelude.{◌≡◌, ◌++◌, ◌<◌, length, OnOk, IfOk};
 ghost use Rattle.std.specs.String.{string_bytes};
 ghost use Rattle.std.specs.List.{flat_map, AllByRecursion};
 ghost use Rattle.arc_bits.specs.Words.{unpacked};
 ghost use Rattle.arc_rule.specs.Places.{word_count};
-ghost use Rattle.arc_script.specs.Valid.{class_names};
-ghost use Rattle.arc_report.specs.Words.{is_live, is_freed, AreFinalWords, EntryIsThere, ObjectsHaveClasses};
+ghost use Rattle.arc_report.specs.Words.{is_live, is_entry_taken, is_freed, AreFinalWords, EntryIsThere, ObjectsHaveClasses};
 ghost use Rattle.arc_report.specs.Leaks.{counts_text, leak_text, freed_of, freed_text, IsLeak};
+ghost use Rattle.arc_report.specs.Report.{left_text, left_total};
 
-use crate::leaks::Leak;
+use crate::leaks::{Leak, is_immortal, is_taken, leak_count, leaks_of};
 use crate::names::object_in;
 use arc_bits::{Word, pack, unpack};
 use arc_model::ObjectName;
@@ -23,6 +25,7 @@ fn is_live(layout: &Layout, words: &[u64], found: Option<Word>) -> bool
     match found {
         Some(Word::Counts(counts)) => !counts.deiniting,
         Some(Word::Slow(entry)) => words[layout.strong_of(entry) as usize] != 0,
+        Some(Word::Immortal) => true,
         Some(Word::Free) => false,
         None => false,
     }
@@ -59,7 +62,7 @@ fn put_leak(
     requires words { AreFinalWords layout.now words.now }
     requires classes { ObjectsHaveClasses (length classes.now) layout.now words.now }
     requires leak { IsLeak layout.now words.now leak }
-    ensures { OnOk result (string_bytes out.new ≡ string_bytes out.old ++ leak_text (class_names classes.now) layout.now words.now leak) }
+    ensures { OnOk result (string_bytes out.new ≡ string_bytes out.old ++ leak_text classes.now layout.now words.now leak) }
 {
     let name = ObjectName {
         class: leak.class,
@@ -67,6 +70,9 @@ fn put_leak(
         number: leak.number,
     };
     let object = object_in(classes, name);
+    if is_immortal(classes, &leak) {
+        return writeln!(out, "immortal {object}");
+    }
     write!(out, "leak {object} ")?;
     put_counts(
         out,
@@ -77,7 +83,7 @@ fn put_leak(
     writeln!(out)
 }
 
-pub(crate) fn put_leaks(
+fn put_leaks(
     out: &mut String,
     classes: &[ClassDecl],
     layout: &Layout,
@@ -87,7 +93,7 @@ pub(crate) fn put_leaks(
     requires words { AreFinalWords layout.now words.now }
     requires classes { ObjectsHaveClasses (length classes.now) layout.now words.now }
     requires leaks { AllByRecursion (IsLeak layout.now words.now) leaks.now }
-    ensures { OnOk result (string_bytes out.new ≡ string_bytes out.old ++ flat_map (leak_text (class_names classes.now) layout.now words.now) leaks.now) }
+    ensures { OnOk result (string_bytes out.new ≡ string_bytes out.old ++ flat_map (leak_text classes.now layout.now words.now) leaks.now) }
 {
     for leak in leaks {
         put_leak(out, classes, layout, words, *leak)?;
@@ -95,25 +101,30 @@ pub(crate) fn put_leaks(
     Ok(())
 }
 
+fn is_entry_taken(layout: &Layout, words: &[u64], entry: u32) -> bool
+    requires entry { entry < layout.now.entries }
+    requires whole { length words.now ≡ word_count layout.now }
+    ensures { result ≡ is_entry_taken layout.now words.now entry }
+{
+    let bits = words[layout.entry_bits(entry) as usize];
+    (bits >> (entry % 64)) % 2 == 1
+}
+
 fn is_freed(layout: &Layout, words: &[u64], entry: u32) -> bool
     requires entry { entry < layout.now.entries }
     requires words { AreFinalWords layout.now words.now }
     ensures { result ≡ is_freed layout.now words.now entry }
 {
-    let link = words[layout.link_of(entry) as usize];
-    if link == 0 {
+    if !is_entry_taken(layout, words, entry) {
         return false;
     }
-    let slot = (link - 1) as u32;
-    words[layout.count_of(slot) as usize] != pack(Word::Slow(entry))
+    let slot = (words[layout.link_of(entry) as usize] - 1) as u32;
+    !is_taken(layout, words, slot)
+        || words[layout.count_of(slot) as usize] != pack(Word::Slow(entry))
 }
 
 /// The entries whose object has no slot any more, by number.
-pub(crate) fn freed_of(
-    alloc: Global,
-    layout: &Layout,
-    words: &[u64],
-) -> Result<Vec<u32>, AllocError>
+fn freed_of(alloc: Global, layout: &Layout, words: &[u64]) -> Result<Vec<u32>, AllocError>
     requires { AreFinalWords layout.now words.now }
     ensures freed { IfOk result (λ v. v.items ≡ freed_of layout.now words.now) }
     ensures each { IfOk result (λ v. AllByRecursion (λ entry. entry < layout.now.entries) v.items) }
@@ -127,7 +138,7 @@ pub(crate) fn freed_of(
     Ok(freed)
 }
 
-pub(crate) fn put_freed(
+fn put_freed(
     out: &mut String,
     layout: &Layout,
     words: &[u64],
@@ -142,4 +153,24 @@ pub(crate) fn put_freed(
         writeln!(out, "freed {entry} {weak}")?;
     }
     Ok(())
+}
+
+/// The lines of what is left, and how many leaks that is.
+pub(crate) fn put_left(
+    out: &mut String,
+    alloc: Global,
+    classes: &[ClassDecl],
+    layout: &Layout,
+    words: &[u64],
+) -> Result<usize, AllocError>
+    requires words { AreFinalWords layout.now words.now }
+    requires classes { ObjectsHaveClasses (length classes.now) layout.now words.now }
+    ensures text { IfOk result (λ n. string_bytes out.new ≡ string_bytes out.old ++ left_text classes.now layout.now words.now) }
+    ensures total { IfOk result (λ n. n ≡ left_total classes.now layout.now words.now) }
+{
+    let leaks = leaks_of(alloc, layout, words)?;
+    let freed = freed_of(alloc, layout, words)?;
+    put_leaks(out, classes, layout, words, &leaks)?;
+    put_freed(out, layout, words, &freed)?;
+    Ok(leak_count(classes, &leaks) + freed.len())
 }

@@ -1,3 +1,5 @@
+//! How objects are named.
+
 ghost use Rattle.std.specs.Prelude.{◌≡◌, ◌<◌, length};
 ghost use Rattle.arc_script.specs.Valid.{name_at, class_names, var_names};
 ghost use Rattle.arc_report.specs.Names.{object_text, cell_text, origin_text};

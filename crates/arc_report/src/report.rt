@@ -1,3 +1,5 @@
+//! The report of a run.
+
 ghost use Rattle.std.specs.Prelude.{◌≡◌, length, IfOk};
 ghost use Rattle.arc_rule.specs.Places.{extent_of};
 ghost use Rattle.arc_script.specs.Valid.{IsHeading};
@@ -5,8 +7,7 @@ ghost use Rattle.arc_report.specs.Lines.{LinesHaveClasses, ThreadsHaveClasses};
 ghost use Rattle.arc_report.specs.Words.{AreFinalWords, ObjectsHaveClasses};
 ghost use Rattle.arc_report.specs.Report.{report};
 
-use crate::leaks::leaks_of;
-use crate::left::{freed_of, put_freed, put_leaks};
+use crate::left::put_left;
 use crate::lines::{put_end, put_threads};
 use crate::totals::{deinit_total, object_total, put_totals};
 use arc_model::Memory;
@@ -16,7 +17,7 @@ use arc_script::{Line, Script};
 use std::alloc::Global;
 
 /// The report of a run of the script: the lines of its threads in order, the deinit lines of the end section, the objects that
-/// still have a slot by thread and number, the entries whose object has none any more, and the totals. `words` are the words
+/// still have a slot by thread and number, leaks and those of immortal classes, the entries whose object has none any more, and the totals. `words` are the words
 /// of the heap when all have ended. This project's own. Memory: no memory was found.
 pub fn report_text(
     alloc: Global,
@@ -34,16 +35,13 @@ pub fn report_text(
 {
     let classes = script.classes.as_slice();
     let layout = Layout::of(&script.shape);
-    let leaks = leaks_of(alloc, &layout, words)?;
-    let freed = freed_of(alloc, &layout, words)?;
     let mut out = String::new(alloc);
     writeln!(out, "report 1")?;
     put_threads(&mut out, classes, threads)?;
     put_end(&mut out, classes, end)?;
     let objects = object_total(threads);
     let deinits = deinit_total(threads, end);
-    put_leaks(&mut out, classes, &layout, words, &leaks)?;
-    put_freed(&mut out, &layout, words, &freed)?;
-    put_totals(&mut out, objects, deinits, leaks.len() + freed.len())?;
+    let leaks = put_left(&mut out, alloc, classes, &layout, words)?;
+    put_totals(&mut out, objects, deinits, leaks)?;
     Ok(out.into_bytes())
 }

@@ -1,3 +1,5 @@
+//! What is shown of an answer.
+
 use arc_model::Got;
 use std::fmt;
 

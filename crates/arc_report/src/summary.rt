@@ -1,3 +1,5 @@
+//! The last line of a report.
+
 ghost use Rattle.std.specs.Prelude.{◌≡◌, ◌++◌, OnOk, IfOk};
 ghost use Rattle.std.specs.String.{string_bytes};
 ghost use Rattle.arc_report.specs.Summary.{figure_text, summary};

@@ -1,3 +1,5 @@
+//! How many objects, deinits and leaks there were.
+
 ghost use Rattle.std.specs.Prelude.{◌≡◌, ◌++◌, ◌<◌, ◌^◌, OnOk};
 ghost use Rattle.std.specs.String.{string_bytes};
 ghost use Rattle.arc_report.specs.Lines.{is_new, is_deinit, new_count, deinit_count, object_total, deinit_total};

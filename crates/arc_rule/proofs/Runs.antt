@@ -1,12 +1,13 @@
 -- A plan on words that nobody else changes: what it has read is still there.
+use Rattle.std.specs.Prelude.{bit_and, bit_or}
 use Rattle.std.proofs.Common.{◌≡◌, ◌≢◌, ◌⊎◌, inl, inr, ℕ, ◌<◌, List, length, get_or, set, Option, Some, None, true, false, Bool, cond, eqb, refl, sym, ap, subst, ◌∙◌, get_or-set_other}
 use Rattle.arc_rule.specs.declared.step.Step.{Step}
-use Rattle.arc_rule.specs.declared.step.Step.TheVariants.{Load, Exchange, Store}
+use Rattle.arc_rule.specs.declared.step.Step.TheVariants.{Load, Exchange, Store, Or, And}
 use Rattle.arc_rule.specs.declared.step.Changed.{Changed}
 use Rattle.arc_rule.specs.declared.plan.Next.{Next}
 use Rattle.arc_rule.specs.declared.plan.Next.TheVariants as nexts
 use Rattle.arc_rule.specs.Steps.{place_of, found_by, made_by}
-use Rattle.arc_rule.specs.Plans.{Reading, LeavesPlace, RestsOn, IsChange, RunsOn, RunsTo}
+use Rattle.arc_rule.specs.Plans.{Reading, LeavesPlace, RestsOn, Tries, IsChange, RunsOn, RunsTo}
 use Rattle.arc_rule.specs.Plans.RunsOn.{ends, steps_on}
 use Rattle.arc_rule.specs.Plans.RunsTo.{ended, stepped}
 
@@ -25,6 +26,8 @@ made_leaves (Exchange q old new) words place leaves = go (eqb (get_or words q 0)
     go true = get_or-set_other words q place new 0 (λ e. leaves (sym e))
     go false = refl
 made_leaves (Store q new) words place leaves = get_or-set_other words q place new 0 (λ e. leaves (sym e))
+made_leaves (Or q bits) words place leaves = get_or-set_other words q place (bit_or (get_or words q 0) bits) 0 (λ e. leaves (sym e))
+made_leaves (And q bits) words place leaves = get_or-set_other words q place (bit_and (get_or words q 0) bits) 0 (λ e. leaves (sym e))
 
 -- what a plan rests on lies in the words when its next step is made
 pub settles : (asked asked' : Option Step) (last : Option ℕ) (rests rests' : Option Reading) (words : List ℕ) (st : Step) →
@@ -50,18 +53,24 @@ pub none_changed : {A : Type 0} (changed : A → Option Changed) (asked : Option
     IsSettled asked last rests words → ((c : Changed) → changed a ≡ Some c → IsChange asked last rests c) → changed a ≡ None
 none_changed changed asked last rests words a settled holds = go (changed a) refl
   where
-    differs : (c : Changed) (h : IsChange asked last rests c) (s : Step) (before : List ℕ) → s ≡ Exchange h.place c.seen h.new → Some (found_by s before) ≡ Some c.found → get_or before h.place 0 ≡ c.seen → ⊥
-    differs c h s before is =
-        let P : Step → Type 0 = λ z. Some (found_by z before) ≡ Some c.found → get_or before h.place 0 ≡ c.seen → ⊥ in
-        subst P (sym is) (λ f lay. h.differ (cc))
+    -- what such a step finds is what lay there
+    tried : (s : Step) (before : List ℕ) (place seen : ℕ) → Tries (Some s) place seen → found_by s before ≡ get_or before place 0
+    tried (Load q) before place seen t = absurd t
+    tried (Exchange q old new) before place seen t = ap (λ n. get_or before n 0) t.0
+    tried (Store q new) before place seen t = absurd t
+    tried (Or q bits) before place seen t = ap (λ n. get_or before n 0) t
+    tried (And q bits) before place seen t = absurd t
+
+    differs : (c : Changed) (h : IsChange asked last rests c) (s : Step) (before : List ℕ) → Tries (Some s) h.place c.seen → Some (found_by s before) ≡ Some c.found → get_or before h.place 0 ≡ c.seen → ⊥
+    differs c h s before t f lay = let same = tried s before h.place c.seen t in h.differ (cc)
 
     no : (c : Changed) → IsChange asked last rests c → ⊥
     no c h = elim settled [
       | fresh none ↦ let found = h.found in cc
       | made s before asked_is last_is words_is lay ↦
-          let asks = h.asked_is in
           let found = h.found in
-          differs c h s before (cc) (cc) (lay (record { place = h.place; word = c.seen }) h.read)
+          let tries : Tries (Some s) h.place c.seen = subst (λ (o : Option Step). Tries o h.place c.seen) asked_is h.tries in
+          differs c h s before tries (cc) (lay (record { place = h.place; word = c.seen }) h.read)
     ]
 
     go : (o : Option Changed) → changed a ≡ o → changed a ≡ None

@@ -1,4 +1,5 @@
 pub mod Extents
+pub mod Bits
 pub mod Places
 pub mod Isa
 pub mod Steps

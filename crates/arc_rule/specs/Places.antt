@@ -2,8 +2,9 @@
 use Rattle.std.specs.Prelude.{ℕ, ◌==◌, nat_lt, ◌+◌, ◌-◌, ◌*◌, ◌/◌, ◌%◌, ◌<◌, if◌then◌else◌, length, ⊤}
 use Rattle.arc_model.specs.Shapes.{HeapShape}
 use Rattle.arc_rule.specs.Extents.{Extent, IsExtent}
+use Rattle.arc_rule.specs.Bits.{words_of}
 use Rattle.arc_rule.specs.declared.layout.Place.{Place}
-use Rattle.arc_rule.specs.declared.layout.Place.TheVariants.{Zero, Global, Count, Isa, Next, Field, Link, Strong, Unowned, Weak}
+use Rattle.arc_rule.specs.declared.layout.Place.TheVariants.{Zero, Global, Count, Isa, Next, Field, Link, Strong, Unowned, Weak, SlotBits, EntryBits}
 
 abbrev pub extent_of : HeapShape → Extent
 extent_of shape = record { globals = length shape.globals; slots = shape.slots; entries = shape.entries }
@@ -23,12 +24,18 @@ IsPlace l (Link e) = e < l.entries
 IsPlace l (Strong e) = e < l.entries
 IsPlace l (Unowned e) = e < l.entries
 IsPlace l (Weak e) = e < l.entries
+IsPlace l (SlotBits k) = k < words_of l.slots
+IsPlace l (EntryBits k) = k < words_of l.entries
 
 abbrev pub slot_start : Extent → ℕ → ℕ
 slot_start l s = 1 + l.globals + 11 * s
 
 abbrev pub entry_start : Extent → ℕ → ℕ
 entry_start l e = 1 + l.globals + 11 * l.slots + 4 * e
+
+-- behind the entries stand the bit words of the slots, and behind them those of the entries
+abbrev pub bits_start : Extent → ℕ
+bits_start l = entry_start l l.entries
 
 -- where the word is in the table
 abbrev pub number : Extent → Place → ℕ
@@ -42,9 +49,11 @@ number l (Link e) = entry_start l e
 number l (Strong e) = entry_start l e + 1
 number l (Unowned e) = entry_start l e + 2
 number l (Weak e) = entry_start l e + 3
+number l (SlotBits k) = bits_start l + k
+number l (EntryBits k) = bits_start l + words_of l.slots + k
 
 abbrev pub word_count : Extent → ℕ
-word_count l = entry_start l l.entries
+word_count l = bits_start l + words_of l.slots + words_of l.entries
 
 -- the word of a slot, and that of an entry, by its place among the slot's or the entry's words
 abbrev pub in_slot : ℕ → ℕ → Place
@@ -59,4 +68,6 @@ place_at l n =
     if n == 0 then Zero else
     if nat_lt n (slot_start l 0) then Global (n - 1) else
     if nat_lt n (entry_start l 0) then in_slot ((n - slot_start l 0) / 11) ((n - slot_start l 0) % 11) else
-    in_entry ((n - entry_start l 0) / 4) ((n - entry_start l 0) % 4)
+    if nat_lt n (bits_start l) then in_entry ((n - entry_start l 0) / 4) ((n - entry_start l 0) % 4) else
+    if nat_lt n (bits_start l + words_of l.slots) then SlotBits (n - bits_start l) else
+    EntryBits (n - (bits_start l + words_of l.slots))

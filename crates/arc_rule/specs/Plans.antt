@@ -28,17 +28,24 @@ LeavesPlace None place = ⊤
 LeavesPlace (Some (steps.Load q)) place = ⊤
 LeavesPlace (Some (steps.Exchange q old new)) place = q ≢ place
 LeavesPlace (Some (steps.Store q new)) place = q ≢ place
+LeavesPlace (Some (steps.Or q bits)) place = q ≢ place
+LeavesPlace (Some (steps.And q bits)) place = q ≢ place
 
 -- what the plan rests on is the word that its Load just gave, or what it rested on before, which it hasn't written
 abbrev pub RestsOn : Option Step → Option ℕ → Option Reading → Option Reading → Type 0
 RestsOn asked last old new = (r : Reading) → new ≡ Some r →
     ((asked ≡ Some (steps.Load r.place)) × (last ≡ Some r.word)) ⊎ ((last ≢ None) × (old ≡ Some r) × LeavesPlace asked r.place)
 
--- an Exchange found another word at the place than the plan had read there
+-- an Exchange that expects the word seen, or an Or
+abbrev pub Tries : Option Step → ℕ → ℕ → Type 0
+Tries (Some (steps.Exchange q old new)) place seen = (q ≡ place) × (old ≡ seen)
+Tries (Some (steps.Or q bits)) place seen = q ≡ place
+Tries asked place seen = ⊥
+
+-- an Exchange or an Or found another word at the place than the plan had read there
 pub record IsChange (asked : Option Step) (last : Option ℕ) (rests : Option Reading) (c : Changed) : Type 0 where
   pub place : ℕ
-  pub new : ℕ
-  pub asked_is : asked ≡ Some (steps.Exchange place c.seen new)
+  pub tries : Tries asked place c.seen
   pub read : rests ≡ Some (record { place = place; word = c.seen })
   pub found : last ≡ Some c.found
   pub differ : c.seen ≢ c.found

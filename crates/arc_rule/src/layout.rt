@@ -1,5 +1,6 @@
-ghost use Rattle.std.specs.Prelude.{◌≡◌, ◌≢◌, ◌≤◌, ◌<◌, length};
-ghost use Rattle.arc_rule.specs.declared.layout.Place.TheVariants.{Global, Count, Isa, Next, Field, Link, Strong, Unowned, Weak};
+ghost use Rattle.std.specs.Prelude.{◌≡◌, ◌≢◌, ◌≤◌, ◌<◌, ◌/◌, length};
+ghost use Rattle.arc_rule.specs.declared.layout.Place.TheVariants.{Global, Count, Isa, Next, Field, Link, Strong, Unowned, Weak, SlotBits, EntryBits};
+ghost use Rattle.arc_rule.specs.Bits.{words_of};
 ghost use Rattle.arc_rule.specs.Places.{ExtentFits, IsPlace, extent_of, number, word_count};
 
 use arc_model::Shape;
@@ -22,10 +23,15 @@ pub enum Place {
     Strong(u32),
     Unowned(u32),
     Weak(u32),
+    /// A word of the bits that say which slots are taken: bit s % 64 of word s / 64 is that of slot s.
+    SlotBits(u32),
+    /// The same for the entries.
+    EntryBits(u32),
 }
 
 /// Where each word of a heap lies: the word that is always 0, the globals, eleven words a slot (count, isa, next, field 0 to
-/// field 7), and four words an entry (link, strong, unowned, weak). This project's own.
+/// field 7), four words an entry (link, strong, unowned, weak), and the bits that say which slots and which entries are taken.
+/// This project's own.
 #[derive(Debug)]
 pub struct Layout {
     globals: u32,
@@ -57,6 +63,13 @@ impl Clone for Layout {
 
 impl Copy for Layout {}
 
+fn words_for(things: u32) -> u32
+    requires { things ≤ 4096 }
+    ensures { result ≡ words_of things }
+{
+    things.div_ceil(64)
+}
+
 impl Layout {
     /// The layout of a heap of this shape.
     pub fn of(shape: &Shape) -> Layout
@@ -70,13 +83,13 @@ impl Layout {
         }
     }
 
-    /// How many words there are, at most 61,505.
+    /// How many words there are, at most 61,633.
     pub fn words(&self) -> u32
         ensures words { result ≡ word_count self.now }
-        ensures at_most { result ≤ 61505 }
+        ensures at_most { result ≤ 61633 }
         ensures fits { ExtentFits self.now }
     {
-        self.entry(self.entries)
+        self.entry(self.entries) + words_for(self.slots) + words_for(self.entries)
     }
 
     /// The number of slots, 1 to 4,096.
@@ -173,6 +186,38 @@ impl Layout {
         ensures { result ≡ number self.now (Weak entry) }
     {
         self.entry(entry) + 3
+    }
+
+    /// How many words hold the bits of the slots.
+    pub fn slot_words(&self) -> u32
+        ensures words { result ≡ words_of self.now.slots }
+        ensures fits { ExtentFits self.now }
+    {
+        words_for(self.slots)
+    }
+
+    /// How many words hold the bits of the entries.
+    pub fn entry_words(&self) -> u32
+        ensures words { result ≡ words_of self.now.entries }
+        ensures fits { ExtentFits self.now }
+    {
+        words_for(self.entries)
+    }
+
+    /// The word that holds the bit of the slot.
+    pub fn slot_bits(&self, slot: u32) -> u32
+        requires { slot < self.now.slots }
+        ensures { result ≡ number self.now (SlotBits (slot / 64)) }
+    {
+        self.entry(self.entries) + slot / 64
+    }
+
+    /// The word that holds the bit of the entry.
+    pub fn entry_bits(&self, entry: u32) -> u32
+        requires { entry < self.now.entries }
+        ensures { result ≡ number self.now (EntryBits (entry / 64)) }
+    {
+        self.entry(self.entries) + words_for(self.slots) + entry / 64
     }
 
     /// The word of the global.

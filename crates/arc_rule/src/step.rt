@@ -1,13 +1,16 @@
 use arc_model::{CellName, Kind, Origin};
 
-/// One atomic step on one word. What it gives back is the word that was found by a Load or an Exchange, and 0, which means nothing, by a
-/// Store.
+/// One atomic step on one word. What it gives back is the word that was found, but by a Store, which gives back 0, and that means nothing.
 #[derive(Clone, Copy, Debug, PartialEq, Eq)]
 pub enum Step {
     Load { place: u32 },
     /// Writes `new` where the word found is `old`, and else nothing.
     Exchange { place: u32, old: u64, new: u64 },
     Store { place: u32, new: u64 },
+    /// Sets these bits.
+    Or { place: u32, bits: u64 },
+    /// Clears all bits but these.
+    And { place: u32, bits: u64 },
 }
 
 /// What a step is made for, with the hands and cells of the event that it may make.

@@ -48,7 +48,7 @@ idle k n t now st none = go t.doing st.up_to
   where
     go : (d : Doing) → UpTo k st.job st.at t.vars t.made t.hands t.asked now d → IsIdle d
     go Ready u = tt
-    go (Making to name slot plan) u = let e = u.waits.asked_is in absurd (cc)
+    go (Making to name plan) u = let e = u.waits.asked_is in absurd (cc)
     go (Copying to held plan) u = let e = u.waits.asked_is in absurd (cc)
     go (Dropping held plan) u = let e = u.waits.asked_is in absurd (cc)
     go (Dying c) u = dying c.at u.place
@@ -70,7 +70,7 @@ ended-stays k n m t now st ended = record { job = st.job; at = st.at; phases = s
   where
     go : (d : Doing) → IsIdle d → UpTo k st.job st.at t.vars t.made t.hands t.asked now d → IsIn m st.phases d
     go Ready i u = let e = u.0 in absurd (cc)
-    go (Making to name slot plan) i u = absurd i
+    go (Making to name plan) i u = absurd i
     go (Copying to held plan) i u = absurd i
     go (Dropping held plan) i u = absurd i
     go (Dying c) i u = absurd i
@@ -81,7 +81,7 @@ whole k n t now st ended = go t.doing (idle k n t now st (ap step_in ended)) st.
   where
     go : (d : Doing) → IsIdle d → UpTo k st.job st.at t.vars t.made t.hands t.asked now d → IsWhole k now
     go Ready i u = let e = u.0 in absurd (cc)
-    go (Making to name slot plan) i u = absurd i
+    go (Making to name plan) i u = absurd i
     go (Copying to held plan) i u = absurd i
     go (Dropping held plan) i u = absurd i
     go (Dying c) i u = absurd i
@@ -93,7 +93,7 @@ in-phase k n t step now st asked = st.works.begun_is ∙ go t.doing st.phased st
   where
     go : (d : Doing) → IsIn n st.phases d → UpTo k st.job st.at t.vars t.made t.hands t.asked now d → st.phases ≡ n
     go Ready p u = let e = ap step_in u.0 in absurd (cc)
-    go (Making to name slot plan) p u = p
+    go (Making to name plan) p u = p
     go (Copying to held plan) p u = p
     go (Dropping held plan) p u = p
     go (Dying c) p u = p

@@ -11,7 +11,7 @@ use Rattle.std.specs.Prelude.{slice_get, position, All}
 use Rattle.std.specs.List.{prefix_len, AllByRecursion}
 use Rattle.arc_model.specs.declared.answer.Answer.TheVariants as answers
 use Rattle.arc_model.specs.declared.event.ObjectName.{ObjectName}
-use Rattle.arc_model.specs.Shapes.{HeapShape}
+use Rattle.arc_model.specs.Shapes.{HeapShape, class_at}
 use Rattle.arc_rule.specs.Extents.{Extent}
 use Rattle.arc_rule.specs.Places.{extent_of}
 use Rattle.arc_plan.specs.declared.attempt.At.TheVariants as attempt
@@ -23,7 +23,7 @@ use Rattle.arc_ops.specs.declared.stepper.Doing.TheVariants.{Ready, Ended}
 use Rattle.arc_ops.specs.declared.stepper.Move.TheVariants as moves
 use Rattle.arc_ops.specs.Programs.{ops_in_first}
 use Rattle.arc_ops.specs.Served.{IsServedOp}
-use Rattle.arc_ops.specs.Thread.{Thread, HeldFits, value, is_held, put, set_var, skipped, moved, drop_from, copy_from, drop_begun, begun_nil, begun_copy, begun_move, begun_drop, phase_over, begun_at, begun, scope_drop, scope_at, scope_begun, next_op, replaced_old, replaced}
+use Rattle.arc_ops.specs.Thread.{Thread, HeldFits, value, is_held, put, set_var, skipped, moved, drop_from, creation_from, copy_from, drop_begun, begun_nil, begun_copy, begun_move, begun_drop, phase_over, begun_at, begun, scope_drop, scope_at, scope_begun, next_op, replaced_old, replaced}
 use Rattle.arc_schedule.specs.Made.{Point, Made}
 use Rattle.arc_schedule.specs.Plans.{Starts, new_object, strong_up, strong_down}
 use Rattle.arc_schedule.specs.Plans.Starts.{first as starts_first}
@@ -329,8 +329,7 @@ begins {n = n} k j served [] i t now works vars r d =
     phase-ends k j i t now works vars (omega arith) d
 begins {n = n} k j served (op.New to class ∷ rest) i t now works vars r d =
     let name : ObjectName = record { class = class; thread = t.thread; number = t.made + 1 } in
-    let same : record { layout = extent_of k.shape; name = name; at = search.Start } ≡ record { layout = t.layout; name = name; at = search.Start } =
-    ap (λ (l : Extent). record { layout = l; name = name; at = search.Start }) (sym works.layout_is) in
+    let same : record { layout = extent_of k.shape; name = name; immortal = (class_at k.shape class).immortal; at = search.Start } ≡ creation_from t name = rw (works.layout_is, works.shape_is) refl in
     record {
       job = j;
       at = i;
@@ -345,10 +344,9 @@ begins {n = n} k j served (op.New to class ∷ rest) i t now works vars r d =
         done = d;
         there = (get-drop j.ops rest i (op.New to class) r).0;
         named = rw works.thread_is refl;
-        waits = waits (new_object (extent_of k.shape) name (t.hands + 1)) (here k j i) now now _ _
-            (begun-from (new_object (extent_of k.shape) name (t.hands + 1)) (here k j i) now now (record { layout = t.layout; name = name; at = search.Start }) starts_first same);
-        count = (refl, refl, refl);
-        within = k.some_slot;
+        waits = waits (new_object (extent_of k.shape) (class_at k.shape class).immortal name (t.hands + 1)) (here k j i) now now _ _
+            (begun-from (new_object (extent_of k.shape) (class_at k.shape class).immortal name (t.hands + 1)) (here k j i) now now (creation_from t name) starts_first same);
+        count = (refl, refl);
       };
     }
 begins {n = n} k j served (op.Copy to from ∷ rest) i t now works vars r d = copying (value t.vars from) refl (λ e.
@@ -461,6 +459,8 @@ begins {n = n} k j served (op.Weak to of ∷ rest) i t now works vars r d = absu
 begins {n = n} k j served (op.Load to of ∷ rest) i t now works vars r d = absurd (all-there IsServedOp j.ops i (op.Load to of) served (get-drop j.ops rest i (op.Load to of) r).0)
 begins {n = n} k j served (op.Get to cell ∷ rest) i t now works vars r d = absurd (all-there IsServedOp j.ops i (op.Get to cell) served (get-drop j.ops rest i (op.Get to cell) r).0)
 begins {n = n} k j served (op.Set cell from ∷ rest) i t now works vars r d = absurd (all-there IsServedOp j.ops i (op.Set cell from) served (get-drop j.ops rest i (op.Set cell from) r).0)
+begins {n = n} k j served (op.IfNil v past ∷ rest) i t now works vars r d = absurd (all-there IsServedOp j.ops i (op.IfNil v past) served (get-drop j.ops rest i (op.IfNil v past) r).0)
+begins {n = n} k j served (op.IfSome v past ∷ rest) i t now works vars r d = absurd (all-there IsServedOp j.ops i (op.IfSome v past) served (get-drop j.ops rest i (op.IfSome v past) r).0)
 
 -- ---- what was under way is over
 

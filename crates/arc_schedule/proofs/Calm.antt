@@ -1,8 +1,8 @@
 -- No step that a stepper asks for so far begins an access to a cell.
 use Rattle.std.proofs.Common.{◌≡◌, ℕ, ◌+◌, ◌<◌, Bool, true, false, cond, eqb, ltb, List, [], ◌∷◌, Option, Some, None, refl, sym, ap, subst, ◌∙◌}
-use Rattle.std.proofs.lemmas.Bool.{ltb-true}
 use Rattle.std.proofs.lemmas.Option.{same_Some}
 use Rattle.std.specs.Option.{unwrap_or}
+use Rattle.std.specs.Prelude.{bit_and}
 use Rattle.std.specs.List.{AllByRecursion}
 use Rattle.arc_bits.specs.Words.{unpacked}
 use Rattle.arc_model.specs.declared.event.ObjectName.{ObjectName}
@@ -21,14 +21,16 @@ use Rattle.arc_plan.specs.declared.attempt.Choice.{Choice}
 use Rattle.arc_plan.specs.declared.attempt.Choice.TheVariants.{Tell, Write}
 use Rattle.arc_plan.specs.declared.slots.Making.{Making as Search}
 use Rattle.arc_plan.specs.declared.slots.Making.TheVariants as search
-use Rattle.arc_plan.specs.declared.slots.NewObjectAnswer.TheVariants.{NoSlot}
+use Rattle.arc_plan.specs.declared.slots.NewObjectAnswer.TheVariants.{NoSlot, Again}
 use Rattle.arc_plan.specs.declared.slots.Once.{Once}
 use Rattle.arc_plan.specs.declared.slots.Once.TheVariants as onces
 use Rattle.arc_plan.specs.declared.strong.StrongUpAnswer.TheVariants as ups
 use Rattle.arc_plan.specs.declared.strong.StrongDownAnswer.TheVariants as downs
 use Rattle.arc_plan.specs.declared.unowned.UnownedDownAnswer.TheVariants as unowneds
 use Rattle.arc_plan.specs.Attempts.{Attempt, CappedAttempt, chosen, answer_at as attempt_answer}
-use Rattle.arc_plan.specs.Slots.{Creation, OneStep, making_answer, naming, trial, once_answer, vacating}
+use Rattle.arc_plan.specs.Slots.{Creation, OneStep, free_slot, new_word, looked_answer, making_answer, looking, taking, counting, naming, once_answer, vacating}
+use Rattle.arc_rule.specs.Bits.{words_of, bit_of}
+use Rattle.arc_model.specs.Shapes.{class_at}
 use Rattle.arc_plan.specs.Strong.{strong_up_row, strong_down_row, strong_down_end}
 use Rattle.arc_plan.specs.Unowned.{unowned_down_row, unowned_down_end}
 use Rattle.arc_cells.specs.declared.cascade.At.{At as CascadeAt}
@@ -41,7 +43,6 @@ use Rattle.arc_schedule.specs.Plans.{Reaches, new_object, strong_up, strong_down
 use Rattle.arc_schedule.specs.Plans.Reaches.{starts as reaches_start, makes as reaches_next}
 use Rattle.arc_schedule.specs.Orders.{is_cell, enters, in_access}
 use Rattle.arc_schedule.proofs.Stands.{Waits, Task, here, CascadeUpTo, step_in, UpTo, Stands}
-use Rattle.arc_schedule.proofs.Keeps.{creation-layout}
 
 -- a thread that is in no access is in none behind the step
 abbrev pub IsCalm : Extent → Step → Type 0
@@ -105,29 +106,34 @@ finish-calm l slot within w =
     let e : attempt_answer (λ v. unowned_down_row (unpacked v)) (λ seen. unowned_down_end (unpacked seen)) unowneds.Again (number g.before.layout (Count g.before.slot)) g.before.at (unwrap_or g.last 0) ≡ nexts.Step w.step = g.answers in
     attempted l (λ v. unowned_down_row (unpacked v)) (λ seen. unowned_down_end (unpacked seen)) unowneds.Again slot g.before.at (unwrap_or g.last 0) w.step within (rw (h.0, h.1) at e)
 
-searched : (l : Extent) (name : ObjectName) (a : Search) (w : ℕ) (s : Step) → 0 < l.slots → making_answer l name a w ≡ nexts.Step s → IsCalm l s
-searched l name search.Start w s some e = let same : trial l 0 ≡ s = cc in subst (IsCalm l) same (counted l 0 0 2 some)
-searched l name (search.Trying x) w s some e = go (eqb w 0) (ltb (x + 1) l.slots) refl e
+searched : (l : Extent) (p : Creation) (a : Search) (w : ℕ) (s : Step) → making_answer p a w ≡ nexts.Step s → IsCalm l s
+searched l p search.Start w s e = let same : looking p.layout 0 ≡ s = cc in subst (IsCalm l) same (λ found. refl)
+searched l p (search.Looking x) w s e = go (free_slot p.layout.slots x w) e
   where
-    go : (b c : Bool) → ltb (x + 1) l.slots ≡ c → cond b (nexts.Step (naming l name x)) (cond c (nexts.Step (trial l (x + 1))) (nexts.Done NoSlot)) ≡ nexts.Step s → IsCalm l s
-    go true c f e = let same : naming l name x ≡ s = cc in subst (IsCalm l) same (stored l (number l (Isa x)) (isa_word_of name))
-    go false true f e = let same : trial l (x + 1) ≡ s = cc in subst (IsCalm l) same (counted l (x + 1) 0 2 (ltb-true (x + 1) l.slots f))
-    go false false f e = absurd (cc)
-searched l name (search.Naming x) w s some e = absurd (cc)
-searched l name search.Ended w s some e = absurd (cc)
+    none : (c : Bool) → cond c (nexts.Step (looking p.layout (x + 1))) (nexts.Done NoSlot) ≡ nexts.Step s → IsCalm l s
+    none true e = let same : looking p.layout (x + 1) ≡ s = cc in subst (IsCalm l) same (λ found. refl)
+    none false e = absurd (cc)
 
-making-calm : (l : Extent) (name : ObjectName) (hand : ℕ) {point : Point} {b now : List Made} {p : Creation} {asked : Option Step} → 0 < l.slots → (w : Waits (new_object l name hand) point b now p asked) → IsCalm l w.step
-making-calm l name hand some w =
-    let g = w.gave in
-    let h : g.before.layout ≡ l = creation-layout l name hand g.reaches in
-    let e : making_answer g.before.layout g.before.name g.before.at (unwrap_or g.last 0) ≡ nexts.Step w.step = g.answers in
-    searched l g.before.name g.before.at (unwrap_or g.last 0) w.step some (rw h at e)
+    go : (o : Option ℕ) → looked_answer p.layout x o ≡ nexts.Step s → IsCalm l s
+    go (Some t) e = let same : taking p.layout t ≡ s = cc in subst (IsCalm l) same (λ found. refl)
+    go None e = none (ltb (x + 1) (words_of p.layout.slots)) e
+searched l p (search.Taking x seen) w s e = go (eqb (bit_and w (bit_of x)) 0) e
+  where
+    go : (b : Bool) → cond b (nexts.Step (counting p.layout p.immortal x)) (nexts.Done (Again (record { seen = seen; found = w }))) ≡ nexts.Step s → IsCalm l s
+    go true e = let same : counting p.layout p.immortal x ≡ s = cc in subst (IsCalm l) same (stored l (number p.layout (Count x)) (new_word p.immortal))
+    go false e = absurd (cc)
+searched l p (search.Counting x) w s e = let same : naming p.layout p.name x ≡ s = cc in subst (IsCalm l) same (stored l (number p.layout (Isa x)) (isa_word_of p.name))
+searched l p (search.Naming x) w s e = absurd (cc)
+searched l p search.Ended w s e = absurd (cc)
+
+making-calm : (l : Extent) (immortal : Bool) (name : ObjectName) (hand : ℕ) {point : Point} {b now : List Made} {p : Creation} {asked : Option Step} → (w : Waits (new_object l immortal name hand) point b now p asked) → IsCalm l w.step
+making-calm l immortal name hand w = searched l w.gave.before w.gave.before.at (unwrap_or w.gave.last 0) w.step w.gave.answers
 
 vacate-calm : (l : Extent) (slot : ℕ) {point : Point} {b now : List Made} {p : OneStep} {asked : Option Step} → (w : Waits (vacate l slot) point b now p asked) → IsCalm l w.step
 vacate-calm l slot w = go w.gave.before.at w.gave.answers
   where
     go : (a : Once) → once_answer {A = Unit {0}} (vacating w.gave.before) tt a ≡ nexts.Step w.step → IsCalm l w.step
-    go onces.Start e = let same : vacating w.gave.before ≡ w.step = cc in subst (IsCalm l) same (stored l (number w.gave.before.layout (Count w.gave.before.slot)) 0)
+    go onces.Start e = let same : vacating w.gave.before ≡ w.step = cc in subst (IsCalm l) same (λ found. refl)
     go onces.Asked e = absurd (cc)
     go onces.Ended e = absurd (cc)
 
@@ -144,7 +150,7 @@ calm k n t s now st asked = go t.doing st.up_to
 
     go : (d : Doing) → UpTo k st.job st.at t.vars t.made t.hands t.asked now d → Calm s
     go Ready u = let e : step_in t.asked ≡ None = ap step_in u.0 in absurd (cc)
-    go (Making to name slot plan) u = is u.waits.step u.waits.asked_is (making-calm (extent_of k.shape) name (u.held + 1) k.some_slot u.waits)
+    go (Making to name plan) u = is u.waits.step u.waits.asked_is (making-calm (extent_of k.shape) (class_at k.shape name.class).immortal name (u.held + 1) u.waits)
     go (Copying to held plan) u = is u.waits.step u.waits.asked_is (up-calm (extent_of k.shape) held.place k.shape.caps.strong held.hand (t.hands + 1) u.within u.waits)
     go (Dropping held plan) u = is u.waits.step u.waits.asked_is (down-calm (extent_of k.shape) held.place held.hand u.within u.waits)
     go (Dying c) u = dying c.at u.place

@@ -3,10 +3,10 @@ use Rattle.std.proofs.Common.{◌≡◌, ℕ, zero, suc, ◌+◌, ◌<◌, Bool,
 use Rattle.std.proofs.lemmas.Bool.{eqb-true, ltb-true}
 use Rattle.std.proofs.lemmas.Option.{same_Some, slice_get_within}
 use Rattle.std.proofs.lemmas.List.Elements.{recursion_from_All}
-use Rattle.std.specs.Prelude.{All}
+use Rattle.std.specs.Prelude.{All, bit_and}
 use Rattle.std.specs.List.{AllByRecursion}
 use Rattle.arc_bits.specs.declared.packing.Word.{Word}
-use Rattle.arc_bits.specs.declared.packing.Word.TheVariants.{Free, Counts, Slow}
+use Rattle.arc_bits.specs.declared.packing.Word.TheVariants.{Free, Counts, Slow, Immortal}
 use Rattle.arc_bits.specs.Words.{unpacked, packed}
 use Rattle.arc_bits.specs.Moves.{strong_more}
 use Rattle.arc_model.specs.declared.answer.Answer.TheVariants as answers
@@ -14,8 +14,7 @@ use Rattle.arc_model.specs.declared.event.ObjectName.{ObjectName}
 use Rattle.arc_model.specs.declared.event.Origin.TheVariants.{Hand}
 use Rattle.arc_model.specs.declared.event.Act.{Act}
 use Rattle.arc_model.specs.declared.event.Act.TheVariants as acts
-use Rattle.arc_model.specs.declared.shape.RefShape.{RefShape}
-use Rattle.arc_model.specs.Shapes.{HeapShape}
+use Rattle.arc_model.specs.Shapes.{HeapShape, ObjectClass, class_at}
 use Rattle.arc_rule.specs.Extents.{Extent}
 use Rattle.arc_rule.specs.Isa.{isa_name_of}
 use Rattle.arc_rule.specs.Places.{number, extent_of}
@@ -23,13 +22,14 @@ use Rattle.arc_rule.specs.declared.layout.Place.TheVariants.{Count, Next as Next
 use Rattle.arc_rule.specs.declared.plan.Next.{Next}
 use Rattle.arc_rule.specs.declared.plan.Next.TheVariants as nexts
 use Rattle.arc_rule.specs.declared.step.Step.{Step}
+use Rattle.arc_rule.specs.declared.step.Intent.TheVariants as intents
 use Rattle.arc_plan.specs.declared.attempt.At.{At}
 use Rattle.arc_plan.specs.declared.attempt.At.TheVariants as attempt
 use Rattle.arc_plan.specs.declared.attempt.Choice.TheVariants.{Tell, Write}
 use Rattle.arc_plan.specs.declared.slots.Making.{Making as Search}
 use Rattle.arc_plan.specs.declared.slots.Making.TheVariants as search
 use Rattle.arc_plan.specs.declared.slots.NewObjectAnswer.{NewObjectAnswer}
-use Rattle.arc_plan.specs.declared.slots.NewObjectAnswer.TheVariants.{Slot, NoSlot}
+use Rattle.arc_plan.specs.declared.slots.NewObjectAnswer.TheVariants.{Slot, NoSlot, Again}
 use Rattle.arc_plan.specs.declared.strong.StrongUpAnswer.{StrongUpAnswer}
 use Rattle.arc_plan.specs.declared.strong.StrongUpAnswer.TheVariants as ups
 use Rattle.arc_plan.specs.declared.strong.StrongDownAnswer.{StrongDownAnswer}
@@ -39,7 +39,9 @@ use Rattle.arc_plan.specs.declared.unowned.UnownedDownAnswer.TheVariants as unow
 use Rattle.arc_plan.specs.Attempts.{Attempt, CappedAttempt, chosen, takes_at as attempt_takes, answer_at as attempt_answer}
 use Rattle.arc_plan.specs.Strong.{StrongUpWord, strong_up_row, strong_up_turned, strong_up_answer, strong_up_takes, strong_down_row, strong_down_end, strong_down_turned, strong_down_answer}
 use Rattle.arc_plan.specs.Unowned.{unowned_down_row, unowned_down_end, unowned_down_turned, unowned_down_answer}
-use Rattle.arc_plan.specs.Slots.{Creation, OneStep, creation_turned, creation_answer, making_turned, making_answer, naming, trial, one_turned, vacate_answer}
+use Rattle.arc_plan.specs.Slots.{Creation, OneStep, free_slot, looked, looked_answer, creation_turned, creation_answer, making_turned, making_answer, looking, taking, counting, naming, one_turned, vacate_answer}
+use Rattle.arc_plan.proofs.Bits.{free_is_clear}
+use Rattle.arc_rule.specs.Bits.{words_of, bit_of}
 use Rattle.arc_cells.specs.declared.cascade.At.{At as CascadeAt}
 use Rattle.arc_cells.specs.declared.cascade.At.TheVariants as at
 use Rattle.arc_cells.specs.declared.cascade.CascadeNext.{CascadeNext}
@@ -50,9 +52,9 @@ use Rattle.arc_ops.specs.declared.stepper.Doing.{Doing}
 use Rattle.arc_ops.specs.declared.stepper.Doing.TheVariants.{Ready, Making, Copying, Dropping, Dying, Ended}
 use Rattle.arc_ops.specs.declared.stepper.Move.TheVariants as moves
 use Rattle.arc_ops.specs.Served.{IsServedOp}
-use Rattle.arc_ops.specs.Thread.{Thread, put, made_on, copied_on, copy_from, dropped_on, dying_on, phase_end, IsUpWord, IsUpWordAt, IsUpAnswer, IsDownAnswer, turned_at, turned, takes_at, takes}
+use Rattle.arc_ops.specs.Thread.{Thread, put, made_on, creation_from, copied_on, copy_from, dropped_on, dying_on, phase_end, IsUpWord, IsUpWordAt, IsUpAnswer, IsDownAnswer, turned_at, turned, takes_at, takes}
 use Rattle.arc_schedule.specs.Made.{Point, Made, made_at}
-use Rattle.arc_schedule.specs.Plans.{Plan, Reaches, Gives, new_object, strong_up, strong_down, finish, vacate, making_tells, told_by, up_told, down_told, finish_told, vacate_told}
+use Rattle.arc_schedule.specs.Plans.{Plan, Reaches, Gives, new_object, strong_up, strong_down, finish, vacate, making_told, told_by, up_told, down_told, finish_told, vacate_told}
 use Rattle.arc_schedule.specs.Plans.Reaches.{starts as reaches_start, makes as reaches_next}
 use Rattle.arc_schedule.specs.Plans.Starts.{first as starts_first}
 use Rattle.arc_schedule.specs.Operations.{Variables, next_name, loads, FieldsDone}
@@ -73,6 +75,7 @@ up-answer p w takes fits = go p.at takes fits
     loaded None fits = absurd fits
     loaded (Some Free) fits = absurd fits
     loaded (Some (Slow e)) fits = absurd fits
+    loaded (Some Immortal) fits = tt
     loaded (Some (Counts c)) fits = two c.deiniting (eqb c.strong_extra p.cap) refl refl
       where
         two : (dead full : Bool) → c.deiniting ≡ dead → eqb c.strong_extra p.cap ≡ full →
@@ -99,6 +102,7 @@ down-answer p w fits = go p.at fits
     loaded None fits = tt
     loaded (Some Free) fits = tt
     loaded (Some (Slow e)) fits = absurd fits
+    loaded (Some Immortal) fits = tt
     loaded (Some (Counts c)) fits = tt
 
     ended : (b : Bool) → IsDownAnswer (nexts.Done (cond b downs.Last downs.More))
@@ -109,6 +113,7 @@ down-answer p w fits = go p.at fits
     found seen true None = tt
     found seen true (Some Free) = tt
     found seen true (Some (Slow e)) = tt
+    found seen true (Some Immortal) = tt
     found seen true (Some (Counts c)) = ended (eqb c.strong_extra 0)
     found seen false o = tt
 
@@ -125,6 +130,7 @@ less-answer p w fits = go p.at fits
     loaded None fits = tt
     loaded (Some Free) fits = tt
     loaded (Some (Slow e)) fits = absurd fits
+    loaded (Some Immortal) fits = tt
     loaded (Some (Counts c)) fits = tt
 
     ended : (b : Bool) → IsInlineAnswer (nexts.Done (cond b unowneds.Last unowneds.More))
@@ -135,6 +141,7 @@ less-answer p w fits = go p.at fits
     found seen true None = tt
     found seen true (Some Free) = tt
     found seen true (Some (Slow e)) = tt
+    found seen true (Some Immortal) = tt
     found seen true (Some (Counts c)) = ended (eqb c.unowned 1)
     found seen false o = tt
 
@@ -146,43 +153,44 @@ less-answer p w fits = go p.at fits
 
 -- ---- an object is made
 
-pub creation-layout : (l : Extent) (name : ObjectName) (hand : ℕ) {point : Point} {b ns : List Made} {p : Creation} {last : Option ℕ} → Reaches (new_object l name hand) point b p last ns → p.layout ≡ l
-creation-layout l name hand reaches_start = refl
-creation-layout l name hand (reaches_next r e) = creation-layout l name hand r
+creation-layout : (l : Extent) (immortal : Bool) (name : ObjectName) (hand : ℕ) {point : Point} {b ns : List Made} {p : Creation} {last : Option ℕ} → Reaches (new_object l immortal name hand) point b p last ns → p.layout ≡ l
+creation-layout l immortal name hand reaches_start = refl
+creation-layout l immortal name hand (reaches_next r e) = creation-layout l immortal name hand r
 
-making-layout : (l : Extent) (name : ObjectName) (hand : ℕ) {point : Point} {b ns : List Made} {p : Creation} {asked : Option Step} → Waits (new_object l name hand) point b ns p asked → p.layout ≡ l
-making-layout l name hand w = sym (ap (λ (q : Creation). q.layout) w.gave.turned) ∙ creation-layout l name hand w.gave.reaches
+making-layout : (l : Extent) (immortal : Bool) (name : ObjectName) (hand : ℕ) {point : Point} {b ns : List Made} {p : Creation} {asked : Option Step} → Waits (new_object l immortal name hand) point b ns p asked → p.layout ≡ l
+making-layout l immortal name hand w = sym (ap (λ (q : Creation). q.layout) w.gave.turned) ∙ creation-layout l immortal name hand w.gave.reaches
 
 makes : {n : ℕ} (k : Task) (j : Job k) → All IsServedOp j.ops → (i : ℕ) (t : Thread) (s : Step) (w : ℕ) (now : List Made) → WorksAt k j i n t → AreIn k.shape t.vars →
-    (to : ℕ) (name : ObjectName) (slot : ℕ) (plan : Creation) (u : IsMaking k j i to name slot plan t.vars t.made t.hands (Some s) now) →
-    Stands k n (made_on to name slot (creation_turned plan (Some w)) (creation_answer plan (Some w)) (idle t)) (made_at (here k j i) s w (making_tells k.shape.slots (u.held + 1) name.class plan.at w) ∷ now)
-makes {n = n} k j served i t s w now works vars to name slot plan u =
-    go plan.at u.count (given (new_object (extent_of k.shape) name (u.held + 1)) (here k j i) u.base now plan s w u.waits)
+    (to : ℕ) (name : ObjectName) (plan : Creation) (u : IsMaking k j i to name plan t.vars t.made t.hands (Some s) now) →
+    Stands k n (made_on to name (creation_turned plan (Some w)) (creation_answer plan (Some w)) (idle t)) (made_at (here k j i) s w (making_told (u.held + 1) name.class plan.at (creation_answer plan (Some w))) ∷ now)
+makes {n = n} k j served i t s w now works vars to name plan u = go plan.at u.count (given new (here k j i) u.base now plan s w u.waits)
   where
+    new : Plan Creation NewObjectAnswer
+    new = new_object (extent_of k.shape) (class_at k.shape name.class).immortal name (u.held + 1)
+
     after : List Made
-    after = made_at (here k j i) s w (making_tells k.shape.slots (u.held + 1) name.class plan.at w) ∷ now
+    after = made_at (here k j i) s w (making_told (u.held + 1) name.class plan.at (creation_answer plan (Some w))) ∷ now
 
     within : i < length j.ops
     within = slice_get_within j.ops i (op.New to name.class) u.there
 
     slots_are : plan.layout.slots ≡ k.shape.slots
-    slots_are = ap (λ (l : Extent). l.slots) (making-layout (extent_of k.shape) name (u.held + 1) u.waits)
+    slots_are = ap (λ (l : Extent). l.slots) (making-layout (extent_of k.shape) (class_at k.shape name.class).immortal name (u.held + 1) u.waits)
 
     -- the plan as it is then
     GaveAt : Search → Next NewObjectAnswer → Type 0
-    GaveAt a n = Gave (new_object (extent_of k.shape) name (u.held + 1)) (here k j i) u.base after n (record plan { at = a })
+    GaveAt a n = Gave new (here k j i) u.base after n (record plan { at = a })
 
-    named : {a : NewObjectAnswer} → Gives (new_object (extent_of k.shape) name (u.held + 1)) (here k j i) u.base a after →
-        Gives (new_object (extent_of k.shape) (next_name (here k j i) (state_of t.vars u.before u.held) name.class) (u.held + 1)) (here k j i) u.base a after
+    named : {a : NewObjectAnswer} → Gives new (here k j i) u.base a after →
+        Gives (new_object (extent_of k.shape) (class_at k.shape name.class).immortal (next_name (here k j i) (state_of t.vars u.before u.held) name.class) (u.held + 1)) (here k j i) u.base a after
     named {a} g =
-        let Q : ObjectName → Type 0 = λ (n : ObjectName). Gives (new_object (extent_of k.shape) n (u.held + 1)) (here k j i) u.base a after in
+        let Q : ObjectName → Type 0 = λ (n : ObjectName). Gives (new_object (extent_of k.shape) (class_at k.shape name.class).immortal n (u.held + 1)) (here k j i) u.base a after in
         subst Q u.named g
 
-    tried : (x : ℕ) (b c : Bool) → ltb (x + 1) plan.layout.slots ≡ c → t.made ≡ u.before → t.hands ≡ u.held → x ≡ slot → GaveAt (cond b (search.Naming x) (cond c (search.Trying (x + 1)) search.Ended))
-        (cond b (nexts.Step (naming plan.layout plan.name x)) (cond c (nexts.Step (trial plan.layout (x + 1))) (nexts.Done NoSlot))) →
-        Stands k n (made_on to name slot (record plan { at = cond b (search.Naming x) (cond c (search.Trying (x + 1)) search.Ended) })
-        (cond b (nexts.Step (naming plan.layout plan.name x)) (cond c (nexts.Step (trial plan.layout (x + 1))) (nexts.Done NoSlot))) (idle t)) after
-    tried x true c more count hands here_is g = record {
+    -- it asks for its next step
+    asks : (made hands : ℕ) (event : Option Act) (p : Creation) (step : Step) → MadeUpTo k.shape.slots u.before u.held made hands p.at → Gave new (here k j i) u.base after (nexts.Step step) p →
+        Stands k n (record (idle t) { doing = Making to name p; asked = moves.Step step (intents.New name.class); made = made; hands = hands; event = event }) after
+    asks made hands event p step count g = record {
       job = j;
       at = i;
       phases = n;
@@ -196,45 +204,48 @@ makes {n = n} k j served i t s w now works vars to name slot plan u =
         done = u.done;
         there = u.there;
         named = u.named;
-        waits = waits (new_object (extent_of k.shape) name (u.held + 1)) (here k j i) u.base after _ _ g;
-        count = (ap (λ (n : ℕ). n + 1) count, ap (λ (n : ℕ). n + 1) hands, here_is);
-        within = u.within;
+        waits = waits new (here k j i) u.base after p step g;
+        count = count;
       };
     }
-    tried x false true more count hands here_is g = record {
-      job = j;
-      at = i;
-      phases = n;
-      phased = refl;
-      works = works;
-      vars_in = vars;
-      up_to = record {
-        base = u.base;
-        before = u.before;
-        held = u.held;
-        done = u.done;
-        there = u.there;
-        named = u.named;
-        waits = waits (new_object (extent_of k.shape) name (u.held + 1)) (here k j i) u.base after _ _ g;
-        count = (count, hands, ap (λ (n : ℕ). n + 1) here_is);
-        within = let below = ltb-true (x + 1) plan.layout.slots more in let many = slots_are in omega arith;
-      };
-    }
-    tried x false false more count hands here_is g =
-        goes-on k j served i (put answers.Full (record (idle t) { event = Some acts.Full })) after works vars
-        (over-done k j i t.vars t.made t.hands after within
-        (op-done k j i (op.New to name.class) (state_of t.vars u.before u.held) (state_of t.vars t.made t.hands) u.base after u.done u.there
-        (does_full (named (gives (new_object (extent_of k.shape) name (u.held + 1)) (here k j i) u.base after _ NoSlot refl g)) (rw (count, hands) refl))))
 
-    go : (a : Search) → MadeUpTo u.before u.held t.made t.hands slot a → GaveAt (making_turned plan.layout.slots a w) (making_answer plan.layout plan.name a w) →
-        Stands k n (made_on to name slot (record plan { at = making_turned plan.layout.slots a w }) (making_answer plan.layout plan.name a w) (idle t)) after
+    looked_on : (x : ℕ) → (t.made ≡ u.before) × (t.hands ≡ u.held) → (o : Option ℕ) → free_slot plan.layout.slots x w ≡ o → GaveAt (looked plan.layout.slots x w o) (looked_answer plan.layout x o) →
+        Stands k n (made_on to name (record plan { at = looked plan.layout.slots x w o }) (looked_answer plan.layout x o) (idle t)) after
+    looked_on x count (Some s) e g =
+        let below : s < k.shape.slots = let a = (free_is_clear plan.layout.slots x w s e).0.below in let b = slots_are in omega (arith, a, b) in
+        asks t.made t.hands None (record plan { at = search.Taking s w }) (taking plan.layout s) (count.0, count.1, below) g
+    looked_on x count None e g = more (ltb (x + 1) (words_of plan.layout.slots)) g
+      where
+        more : (c : Bool) → GaveAt (cond c (search.Looking (x + 1)) search.Ended) (cond c (nexts.Step (looking plan.layout (x + 1))) (nexts.Done NoSlot)) →
+            Stands k n (made_on to name (record plan { at = cond c (search.Looking (x + 1)) search.Ended }) (cond c (nexts.Step (looking plan.layout (x + 1))) (nexts.Done NoSlot)) (idle t)) after
+        more true g = asks t.made t.hands None (record plan { at = search.Looking (x + 1) }) (looking plan.layout (x + 1)) count g
+        more false g =
+            goes-on k j served i (put answers.Full (record (idle t) { event = Some acts.Full })) after works vars
+            (over-done k j i t.vars t.made t.hands after within
+            (op-done k j i (op.New to name.class) (state_of t.vars u.before u.held) (state_of t.vars t.made t.hands) u.base after u.done u.there
+            (does_full (named (gives new (here k j i) u.base after _ NoSlot refl g)) (let m = count.0 in let h = count.1 in rw (m, h) refl))))
+
+    took : (x seen : ℕ) → (t.made ≡ u.before) × (t.hands ≡ u.held) × (x < k.shape.slots) → (b : Bool) →
+        GaveAt (cond b (search.Counting x) search.Ended) (cond b (nexts.Step (counting plan.layout plan.immortal x)) (nexts.Done (Again (record { seen = seen; found = w })))) →
+        Stands k n (made_on to name (record plan { at = cond b (search.Counting x) search.Ended }) (cond b (nexts.Step (counting plan.layout plan.immortal x)) (nexts.Done (Again (record { seen = seen; found = w })))) (idle t)) after
+    took x seen count true g =
+        asks (t.made + 1) (t.hands + 1) (Some (acts.New (t.hands + 1) name.class x)) (record plan { at = search.Counting x }) (counting plan.layout plan.immortal x)
+        (ap (λ (n : ℕ). n + 1) count.0, ap (λ (n : ℕ). n + 1) count.1, count.2) g
+    took x seen count false g =
+        let same : new.start ≡ creation_from t name = rw (works.layout_is, works.shape_is) refl in
+        asks t.made t.hands None _ _ (count.0, count.1)
+        (begun-from new (here k j i) u.base after (creation_from t name) (starts-again new (here k j i) u.base after _ (Again (record { seen = seen; found = w })) (record { seen = seen; found = w }) refl g) same)
+
+    go : (a : Search) → MadeUpTo k.shape.slots u.before u.held t.made t.hands a → GaveAt (making_turned plan.layout.slots a w) (making_answer plan a w) →
+        Stands k n (made_on to name (record plan { at = making_turned plan.layout.slots a w }) (making_answer plan a w) (idle t)) after
     go search.Start count g = absurd count
-    go (search.Trying x) count g = tried x (eqb w 0) (ltb (x + 1) plan.layout.slots) refl count.0 count.1 count.2 g
+    go (search.Looking x) count g = looked_on x count (free_slot plan.layout.slots x w) refl g
+    go (search.Taking x seen) count g = took x seen count (eqb (bit_and w (bit_of x)) 0) g
+    go (search.Counting x) count g = asks t.made t.hands None (record plan { at = search.Naming x }) (naming plan.layout plan.name x) count g
     go (search.Naming x) count g =
-        let inside : x < k.shape.slots = let a = u.within in let b = count.2 in omega arith in
-        replaces k j served i (put (answers.New name) (idle t)) to (record { hand = t.hands; place = x }) after works vars inside within
+        replaces k j served i (put (answers.New name) (idle t)) to (record { hand = t.hands; place = x }) after works vars count.2 within
         (λ end x'. op-done k j i (op.New to name.class) (state_of t.vars u.before u.held) (state_of (set t.vars to (Some (record { hand = t.hands; place = x }))) t.made t.hands) u.base end u.done u.there
-        (does_make inside (named (gives (new_object (extent_of k.shape) name (u.held + 1)) (here k j i) u.base after _ (Slot x) refl g)) x'
+        (does_make count.2 (named (gives new (here k j i) u.base after _ (Slot x) refl g)) x'
         (let v = put-ref t.vars to (Some (record { hand = t.hands; place = x })) in let n = count.0 in let m = count.1 in rw (v, n, m) refl)))
     go search.Ended count g = absurd count
 
@@ -324,15 +335,15 @@ drops {n = n} k j served i t s w now works vars held plan u fits =
 
 -- ---- an object dies
 
-no_fields : (classes : List (List RefShape)) (i : ℕ) → AllByRecursion (λ (fields : List RefShape). fields ≡ []) classes → length (get_or classes i []) ≡ 0
+no_fields : (classes : List ObjectClass) (i : ℕ) → AllByRecursion (λ (c : ObjectClass). c.fields ≡ []) classes → length (get_or classes i (record { fields = []; immortal = false })).fields ≡ 0
 no_fields [] i bare = refl
-no_fields (fields ∷ classes) zero bare = ap length bare.0
-no_fields (fields ∷ classes) (suc i) bare = no_fields classes i bare.1
+no_fields (c ∷ classes) zero bare = ap length bare.0
+no_fields (c ∷ classes) (suc i) bare = no_fields classes i bare.1
 
 -- an object without fields has all of them done at once
 all-done : (shape : HeapShape) (point : Point) (slot isa : ℕ) (base now : List Made) → HasNoFields shape → FieldsDone shape point slot isa base 0 now → AllDone shape point slot base now
 all-done shape point slot isa base now bare d =
-    let none : length (get_or shape.classes (isa_name_of isa).class []) ≡ 0 = no_fields shape.classes (isa_name_of isa).class (recursion_from_All (λ (fields : List RefShape). fields ≡ []) shape.classes bare) in
+    let none : length (class_at shape (isa_name_of isa).class).fields ≡ 0 = no_fields shape.classes (isa_name_of isa).class (recursion_from_All (λ (c : ObjectClass). c.fields ≡ []) shape.classes bare) in
     record { isa = isa; done = rw none d }
 
 dies-on : {n : ℕ} (k : Task) (j : Job k) → All IsServedOp j.ops → HasNoFields k.shape → (i : ℕ) (t : Thread) (s : Step) (w : ℕ) (now : List Made) → WorksAt k j i n t → AreIn k.shape t.vars →
@@ -497,12 +508,10 @@ keeps k n t s w now st served bare asked takes = go t.doing st.phased st.up_to t
 
     go : (d : Doing) → IsIn n st.phases d → UpTo k j i t.vars t.made t.hands t.asked now d → takes_at (Some w) d → Left (turned_at (Some w) d (idle t)) (turned_at (Some w) d (idle t)).event
     go Ready phased u takes = absurd (cc)
-    go (Making to name slot plan) phased u takes =
-        let a : IsMaking k j i to name slot plan t.vars t.made t.hands (Some s) now = rw asked at u in
-        let slots : plan.layout.slots ≡ k.shape.slots = ap (λ (l : Extent). l.slots) (making-layout (extent_of k.shape) name (a.held + 1) a.waits) in
-        let tells : (made_on to name slot (creation_turned plan (Some w)) (creation_answer plan (Some w)) (idle t)).event ≡ making_tells k.shape.slots (a.held + 1) name.class plan.at w =
-        makes-tells t w to name slot plan plan.at a.before a.held a.count ∙ ap (λ (n : ℕ). making_tells n (a.held + 1) name.class plan.at w) slots in
-        subst (λ (e : Option Act). Left (made_on to name slot (creation_turned plan (Some w)) (creation_answer plan (Some w)) (idle t)) e) (sym tells) (makes k j served i t s w now (works-in phased) st.vars_in to name slot plan a)
+    go (Making to name plan) phased u takes =
+        let a : IsMaking k j i to name plan t.vars t.made t.hands (Some s) now = rw asked at u in
+        subst (λ (e : Option Act). Left (made_on to name (creation_turned plan (Some w)) (creation_answer plan (Some w)) (idle t)) e)
+        (sym (makes-tells t w to name plan plan.at k.shape.slots a.before a.held a.count)) (makes k j served i t s w now (works-in phased) st.vars_in to name plan a)
     go (Copying to held plan) phased u takes =
         subst (λ (e : Option Act). Left (copied_on to held (strong_up_turned plan (Some w)) (strong_up_answer plan (Some w)) (idle t)) e)
         (sym (copies-tells t to held (strong_up_turned plan (Some w)) (strong_up_answer plan (Some w))))
@@ -525,7 +534,7 @@ begins-phase k n t now st served takes asked = go t.doing st.phased st.up_to tak
     go Ready phased u takes =
         begins k st.job served (drop t.index (take (phase_end t) t.program)) st.at (idle t) now (subst (λ (m : ℕ). WorksAt k st.job st.at m t) phased st.works) st.vars_in
         (rest-is k st.job st.at t.phases t.program t.phase t.index st.works.phases_is st.works.program_is st.works.phase_is st.works.index_is) u.1
-    go (Making to name slot plan) phased u takes = let e = u.waits.asked_is in let n = none in absurd (cc)
+    go (Making to name plan) phased u takes = let e = u.waits.asked_is in let n = none in absurd (cc)
     go (Copying to held plan) phased u takes = let e = u.waits.asked_is in let n = none in absurd (cc)
     go (Dropping held plan) phased u takes = let e = u.waits.asked_is in let n = none in absurd (cc)
     go (Dying c) phased u takes = dying c.at u.place

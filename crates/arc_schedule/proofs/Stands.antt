@@ -3,7 +3,7 @@ use Rattle.std.proofs.Common.{◌≡◌, ℕ, ◌+◌, ◌<◌, ◌≤◌, Bool,
 use Rattle.std.proofs.lemmas.Option.{same_Some}
 use Rattle.std.specs.Prelude.{slice_get, flat_map, All, ⊤}
 use Rattle.arc_model.specs.declared.event.ObjectName.{ObjectName}
-use Rattle.arc_model.specs.Shapes.{HeapShape}
+use Rattle.arc_model.specs.Shapes.{HeapShape, class_at}
 use Rattle.arc_model.specs.Spelling.{field_count}
 use Rattle.arc_rule.specs.Extents.{Extent}
 use Rattle.arc_rule.specs.Isa.{isa_name_of}
@@ -138,22 +138,23 @@ IsOverIf false k j i vars made hands now = IsInScope k j vars now
 abbrev pub IsOver : (k : Task) → Job k → ℕ → List (Option Held) → (made hands : ℕ) → List Made → Type 0
 IsOver k j i vars made hands now = IsOverIf (ltb i (length j.ops)) k j i vars made hands now
 
--- so many objects were made, and so many references came into hands, before the one that is being made, in this slot
-abbrev pub MadeUpTo : (before held made hands slot : ℕ) → Search → Type 0
-MadeUpTo before held made hands slot (search.Trying s) = (made ≡ before) × (hands ≡ held) × (s ≡ slot)
-MadeUpTo before held made hands slot (search.Naming s) = (made ≡ before + 1) × (hands ≡ held + 1) × (s ≡ slot)
-MadeUpTo before held made hands slot _ = ⊥
+-- so many objects were made, and so many references came into hands, before the one that is being made, in a slot of the heap
+abbrev pub MadeUpTo : (slots before held made hands : ℕ) → Search → Type 0
+MadeUpTo slots before held made hands (search.Looking word) = (made ≡ before) × (hands ≡ held)
+MadeUpTo slots before held made hands (search.Taking s seen) = (made ≡ before) × (hands ≡ held) × (s < slots)
+MadeUpTo slots before held made hands (search.Counting s) = (made ≡ before + 1) × (hands ≡ held + 1) × (s < slots)
+MadeUpTo slots before held made hands (search.Naming s) = (made ≡ before + 1) × (hands ≡ held + 1) × (s < slots)
+MadeUpTo slots before held made hands _ = ⊥
 
-pub record IsMaking (k : Task) (j : Job k) (i to : ℕ) (name : ObjectName) (slot : ℕ) (plan : Creation) (vars : List (Option Held)) (made hands : ℕ) (asked : Option Step) (now : List Made) : Type 0 where
+pub record IsMaking (k : Task) (j : Job k) (i to : ℕ) (name : ObjectName) (plan : Creation) (vars : List (Option Held)) (made hands : ℕ) (asked : Option Step) (now : List Made) : Type 0 where
   pub base : List Made
   pub before : ℕ
   pub held : ℕ
   pub done : AreDone k j i (state_of vars before held) base
   pub there : slice_get j.ops i ≡ Some (op.New to name.class)
   pub named : name ≡ next_name (here k j i) (state_of vars before held) name.class
-  pub waits : Waits (new_object (extent_of k.shape) name (held + 1)) (here k j i) base now plan asked
-  pub count : MadeUpTo before held made hands slot plan.at
-  pub within : slot < k.shape.slots
+  pub waits : Waits (new_object (extent_of k.shape) (class_at k.shape name.class).immortal name (held + 1)) (here k j i) base now plan asked
+  pub count : MadeUpTo k.shape.slots before held made hands plan.at
 
 pub record IsCopying (k : Task) (j : Job k) (i to : ℕ) (held : Held) (plan : CappedAttempt) (vars : List (Option Held)) (made hands : ℕ) (asked : Option Step) (now : List Made) : Type 0 where
   pub base : List Made
@@ -224,7 +225,7 @@ step_in _ = None
 
 abbrev pub UpTo : (k : Task) → Job k → ℕ → List (Option Held) → (made hands : ℕ) → Move → List Made → Doing → Type 0
 UpTo k j i vars made hands asked now Ready = (asked ≡ moves.PhaseEnd) × AreDone k j i (state_of vars made hands) now
-UpTo k j i vars made hands asked now (Making to name slot plan) = IsMaking k j i to name slot plan vars made hands (step_in asked) now
+UpTo k j i vars made hands asked now (Making to name plan) = IsMaking k j i to name plan vars made hands (step_in asked) now
 UpTo k j i vars made hands asked now (Copying to held plan) = IsCopying k j i to held plan vars made hands (step_in asked) now
 UpTo k j i vars made hands asked now (Dropping held plan) = IsDropping k j i held plan vars made hands (step_in asked) now
 UpTo k j i vars made hands asked now (Dying c) = IsDying k j i c vars made hands (step_in asked) now

@@ -1,6 +1,6 @@
 -- The event that a stepper tells is that of the plan under way and of the word that its step found.
 use Rattle.std.proofs.Common.{◌≡◌, ℕ, ◌+◌, Bool, true, false, cond, eqb, ltb, List, [], ◌∷◌, take, drop, length, Option, Some, None, refl}
-use Rattle.std.specs.Prelude.{position}
+use Rattle.std.specs.Prelude.{position, bit_and}
 use Rattle.arc_model.specs.declared.answer.Answer.TheVariants as answers
 use Rattle.arc_model.specs.declared.event.ObjectName.{ObjectName}
 use Rattle.arc_model.specs.declared.event.Origin.TheVariants.{Hand}
@@ -9,7 +9,7 @@ use Rattle.arc_rule.specs.declared.plan.Next.{Next}
 use Rattle.arc_rule.specs.declared.plan.Next.TheVariants as nexts
 use Rattle.arc_plan.specs.declared.slots.Making.{Making as Search}
 use Rattle.arc_plan.specs.declared.slots.Making.TheVariants as search
-use Rattle.arc_plan.specs.declared.slots.NewObjectAnswer.TheVariants.{NoSlot}
+use Rattle.arc_plan.specs.declared.slots.NewObjectAnswer.TheVariants.{NoSlot, Again}
 use Rattle.arc_plan.specs.declared.strong.StrongUpAnswer.{StrongUpAnswer}
 use Rattle.arc_plan.specs.declared.strong.StrongUpAnswer.TheVariants as ups
 use Rattle.arc_plan.specs.declared.strong.StrongDownAnswer.{StrongDownAnswer}
@@ -17,7 +17,8 @@ use Rattle.arc_plan.specs.declared.strong.StrongDownAnswer.TheVariants as downs
 use Rattle.arc_plan.specs.declared.unowned.UnownedDownAnswer.{UnownedDownAnswer}
 use Rattle.arc_plan.specs.declared.unowned.UnownedDownAnswer.TheVariants as unowneds
 use Rattle.arc_plan.specs.Attempts.{Attempt, CappedAttempt}
-use Rattle.arc_plan.specs.Slots.{Creation, OneStep, making_turned, making_answer, naming, trial}
+use Rattle.arc_plan.specs.Slots.{Creation, OneStep, free_slot, looked, looked_answer, making_turned, making_answer, looking, counting}
+use Rattle.arc_rule.specs.Bits.{words_of, bit_of}
 use Rattle.arc_cells.specs.declared.cascade.At.TheVariants as at
 use Rattle.arc_cells.specs.Cascades.{CascadeState, finish_turned, finish_says, vacated, vacate_says}
 use Rattle.arc_script.specs.declared.script.Op.{Op}
@@ -26,7 +27,7 @@ use Rattle.arc_ops.specs.declared.stepper.Held.{Held}
 use Rattle.arc_ops.specs.declared.stepper.Doing.TheVariants.{Ready, Ended}
 use Rattle.arc_ops.specs.declared.stepper.Move.TheVariants as moves
 use Rattle.arc_ops.specs.Thread.{Thread, value, is_held, put, set_var, skipped, moved, made_on, copied_on, dropped_on, dying_on, begun_nil, begun_copy, begun_move, begun_drop, phase_end, phase_over, begun_at, scope_drop, scope_at, scope_begun, next_op, replaced_old, replaced}
-use Rattle.arc_schedule.specs.Plans.{told_by, making_tells, up_told, down_told, finish_told, vacate_told}
+use Rattle.arc_schedule.specs.Plans.{told_by, making_told, up_told, down_told, finish_told, vacate_told}
 use Rattle.arc_schedule.proofs.Stands.{MadeUpTo}
 
 abbrev pub idle : Thread → Thread
@@ -81,6 +82,8 @@ begun-event (op.Weak to of ∷ rest) t = begun-event rest (skipped answers.Nil t
 begun-event (op.Load to of ∷ rest) t = begun-event rest (skipped answers.Nil t)
 begun-event (op.Get to cell ∷ rest) t = begun-event rest (skipped answers.Nil t)
 begun-event (op.Set cell from ∷ rest) t = begun-event rest (skipped answers.Nil t)
+begun-event (op.IfNil v past ∷ rest) t = begun-event rest (skipped answers.Nil t)
+begun-event (op.IfSome v past ∷ rest) t = begun-event rest (skipped answers.Nil t)
 
 next-event : (t : Thread) → (next_op t).event ≡ t.event
 next-event t =
@@ -95,19 +98,28 @@ replaced-event to held t = go (value t.vars to)
 
 -- ---- the event of each plan
 
-pub makes-tells : (t : Thread) (w to : ℕ) (name : ObjectName) (slot : ℕ) (plan : Creation) (a : Search) (before held : ℕ) → MadeUpTo before held t.made t.hands slot a →
-    (made_on to name slot (record plan { at = making_turned plan.layout.slots a w }) (making_answer plan.layout plan.name a w) (idle t)).event ≡ making_tells plan.layout.slots (held + 1) name.class a w
-makes-tells t w to name slot plan search.Start before held count = absurd count
-makes-tells t w to name slot plan (search.Trying x) before held count = go (eqb w 0) (ltb (x + 1) plan.layout.slots)
+pub makes-tells : (t : Thread) (w to : ℕ) (name : ObjectName) (plan : Creation) (a : Search) (slots before held : ℕ) → MadeUpTo slots before held t.made t.hands a →
+    (made_on to name (record plan { at = making_turned plan.layout.slots a w }) (making_answer plan a w) (idle t)).event ≡ making_told (held + 1) name.class a (making_answer plan a w)
+makes-tells t w to name plan search.Start slots before held count = absurd count
+makes-tells t w to name plan (search.Looking x) slots before held count = go (free_slot plan.layout.slots x w)
   where
-    go : (b c : Bool) → (made_on to name slot (record plan { at = cond b (search.Naming x) (cond c (search.Trying (x + 1)) search.Ended) })
-        (cond b (nexts.Step (naming plan.layout plan.name x)) (cond c (nexts.Step (trial plan.layout (x + 1))) (nexts.Done NoSlot))) (idle t)).event ≡
-        cond b (Some (acts.New (held + 1) name.class x)) (cond c None (Some acts.Full))
-    go true c = let hands = count.1 in let slots = count.2 in rw (hands, slots) refl
-    go false true = refl
-    go false false = next-event (put answers.Full (record (idle t) { event = Some acts.Full }))
-makes-tells t w to name slot plan (search.Naming x) before held count = replaced-event to (record { hand = t.hands; place = x }) (put (answers.New name) (idle t))
-makes-tells t w to name slot plan search.Ended before held count = absurd count
+    none : (c : Bool) → (made_on to name (record plan { at = cond c (search.Looking (x + 1)) search.Ended }) (cond c (nexts.Step (looking plan.layout (x + 1))) (nexts.Done NoSlot)) (idle t)).event ≡
+        making_told (held + 1) name.class (search.Looking x) (cond c (nexts.Step (looking plan.layout (x + 1))) (nexts.Done NoSlot))
+    none true = refl
+    none false = next-event (put answers.Full (record (idle t) { event = Some acts.Full }))
+
+    go : (o : Option ℕ) → (made_on to name (record plan { at = looked plan.layout.slots x w o }) (looked_answer plan.layout x o) (idle t)).event ≡ making_told (held + 1) name.class (search.Looking x) (looked_answer plan.layout x o)
+    go (Some s) = refl
+    go None = none (ltb (x + 1) (words_of plan.layout.slots))
+makes-tells t w to name plan (search.Taking x seen) slots before held count = go (eqb (bit_and w (bit_of x)) 0)
+  where
+    go : (b : Bool) → (made_on to name (record plan { at = cond b (search.Counting x) search.Ended }) (cond b (nexts.Step (counting plan.layout plan.immortal x)) (nexts.Done (Again (record { seen = seen; found = w })))) (idle t)).event ≡
+        making_told (held + 1) name.class (search.Taking x seen) (cond b (nexts.Step (counting plan.layout plan.immortal x)) (nexts.Done (Again (record { seen = seen; found = w }))))
+    go true = let hands = count.1 in rw hands refl
+    go false = refl
+makes-tells t w to name plan (search.Counting x) slots before held count = refl
+makes-tells t w to name plan (search.Naming x) slots before held count = replaced-event to (record { hand = t.hands; place = x }) (put (answers.New name) (idle t))
+makes-tells t w to name plan search.Ended slots before held count = absurd count
 
 pub copies-tells : (t : Thread) (to : ℕ) (held : Held) (next : CappedAttempt) (n : Next StrongUpAnswer) → (copied_on to held next n (idle t)).event ≡ told_by (up_told held.hand (t.hands + 1)) n
 copies-tells t to held next (nexts.Step s) = refl

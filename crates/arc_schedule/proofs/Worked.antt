@@ -1,15 +1,22 @@
 -- Two threads of one phase, in the order of their schedule; and an operation whose event no step tells alone.
-use Rattle.std.proofs.Common.{◌≡◌, true, [], ◌∷◌, Some, refl, arith}
+use Rattle.std.proofs.Common.{◌≡◌, ℕ, zero, suc, Bool, true, false, [], ◌∷◌, Some, None, refl, sym, subst, arith}
+use Rattle.arc_model.specs.declared.event.Act.TheVariants as acts
+use Rattle.arc_model.specs.Shapes.{class_at}
+use Rattle.arc_rule.specs.Isa.{isa_word_of}
+use Rattle.arc_plan.specs.declared.slots.NewObjectAnswer.TheVariants.{Slot}
+use Rattle.arc_schedule.specs.Made.{made_at}
+use Rattle.arc_schedule.specs.Plans.{Gives, new_object}
+use Rattle.arc_schedule.specs.Operations.{next_name}
 use Rattle.std.proofs.lemmas.List.Elements.{All-nil, All-from_recursion}
-use Rattle.arc_rule.specs.Places.{place_at}
-use Rattle.arc_rule.specs.declared.step.Step.TheVariants.{Load, Exchange, Store}
+use Rattle.arc_rule.specs.Places.{extent_of, place_at}
+use Rattle.arc_rule.specs.declared.step.Step.TheVariants.{Load, Exchange, Store, Or}
 use Rattle.arc_schedule.specs.Orders.{is_in}
 use Rattle.arc_schedule.specs.Orders.InOrder.{makes, runs_out, ends}
 use Rattle.arc_schedule.specs.Plans.Reaches.{starts as reaches_start, makes as reaches_next}
 use Rattle.arc_schedule.specs.Plans.Starts.{first as starts_first}
 use Rattle.arc_schedule.specs.Operations.Does.{makes as does_make}
 use Rattle.arc_schedule.specs.Operations.Drops.{nothing as drops_nothing}
-use Rattle.arc_schedule.specs.Worked.{by, look, PlacesComeFirst, AccessesEndFirst, OperationsTell}
+use Rattle.arc_schedule.specs.Worked.{by, look, one_slot, nothing_yet, first_of, PlacesComeFirst, AccessesEndFirst, OperationsTell}
 
 pub places_come_first : PlacesComeFirst
 places_come_first =
@@ -24,5 +31,20 @@ accesses_end_first =
 
 pub operations_tell : OperationsTell
 operations_tell class =
-    does_make (omega arith) (record { started = []; starts = starts_first; answers = record { at = _; last = Some 0; reaches = reaches_next {found = 0} (reaches_next {found = 0} reaches_start refl) refl; answers = refl }; unchanged = refl })
+    does_make (omega arith) (subst Makes (sym (never_immortal class)) (record {
+      started = [];
+      starts = starts_first;
+      answers = record { at = _; last = Some 0; reaches = reaches_next {found = 0} (reaches_next {found = 0} (reaches_next {found = 0} (reaches_next {found = 0} reaches_start refl) refl) refl) refl; answers = refl };
+      unchanged = refl;
+    }))
     drops_nothing refl
+  where
+    never_immortal : (class : ℕ) → (class_at one_slot class).immortal ≡ false
+    never_immortal zero = refl
+    never_immortal (suc zero) = refl
+    never_immortal (suc (suc n)) = refl
+
+    Makes : Bool → Type 0
+    Makes immortal = Gives (new_object (extent_of one_slot) immortal (next_name (first_of 1) nothing_yet class) 1) (first_of 1) [] (Slot 0)
+        (made_at (first_of 1) (Store 2 (isa_word_of (next_name (first_of 1) nothing_yet class))) 0 None ∷ made_at (first_of 1) (Store 1 2) 0 None
+        ∷ made_at (first_of 1) (Or 16 1) 0 (Some (acts.New 1 class 0)) ∷ made_at (first_of 1) (Load 16) 0 None ∷ [])

@@ -4,7 +4,7 @@ use Rattle.std.specs.Prelude.{ℕ, ◌≡◌, ◌<◌, ◌+◌, List, ◌∷◌,
 use Rattle.arc_model.specs.declared.event.ObjectName.{ObjectName}
 use Rattle.arc_model.specs.declared.shape.Kind.{Kind}
 use Rattle.arc_model.specs.declared.shape.Kind.TheVariants.{Strong}
-use Rattle.arc_model.specs.Shapes.{HeapShape}
+use Rattle.arc_model.specs.Shapes.{HeapShape, class_at}
 use Rattle.arc_model.specs.Spelling.{field_count}
 use Rattle.arc_rule.specs.Isa.{isa_name_of}
 use Rattle.arc_rule.specs.Places.{number, extent_of}
@@ -82,11 +82,11 @@ next_name point state class = record { class = class; thread = point.thread; num
 -- An operation, from the state and the steps before it to those after it. What its variable held before is dropped last.
 pub data Does (shape : HeapShape) (point : Point) : Op → (state : State) (b : List Made) (new : State) (after : List Made) → Type 0 where
   makes : {to class slot : ℕ} {state new : State} {b mid after : List Made} → slot < shape.slots →
-      Gives (new_object (extent_of shape) (next_name point state class) (state.hands + 1)) point b (Slot slot) mid → Drops shape point (value state.vars to) mid after →
+      Gives (new_object (extent_of shape) (class_at shape class).immortal (next_name point state class) (state.hands + 1)) point b (Slot slot) mid → Drops shape point (value state.vars to) mid after →
       new ≡ record { vars = put state.vars to (strong_to (state.hands + 1) slot); made = state.made + 1; hands = state.hands + 1 } →
       Does shape point (op.New to class) state b new after
   full : {to class : ℕ} {state new : State} {b after : List Made} →
-      Gives (new_object (extent_of shape) (next_name point state class) (state.hands + 1)) point b NoSlot after → new ≡ state → Does shape point (op.New to class) state b new after
+      Gives (new_object (extent_of shape) (class_at shape class).immortal (next_name point state class) (state.hands + 1)) point b NoSlot after → new ≡ state → Does shape point (op.New to class) state b new after
   copies : {to from slot hand : ℕ} {state new : State} {b mid after : List Made} → value state.vars from ≡ strong_to hand slot → slot < shape.slots →
       Gives (strong_up (extent_of shape) slot shape.caps.strong hand (state.hands + 1)) point b ups.Up mid → Drops shape point (value state.vars to) mid after →
       new ≡ record state { vars = put state.vars to (strong_to (state.hands + 1) slot); hands = state.hands + 1 } → Does shape point (op.Copy to from) state b new after

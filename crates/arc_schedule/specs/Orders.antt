@@ -5,7 +5,7 @@ use Rattle.arc_rule.specs.Places.{extent_of, place_at, word_count}
 use Rattle.arc_rule.specs.declared.layout.Place.{Place}
 use Rattle.arc_rule.specs.declared.layout.Place.TheVariants as places
 use Rattle.arc_rule.specs.declared.step.Step.{Step}
-use Rattle.arc_rule.specs.declared.step.Step.TheVariants.{Load, Exchange, Store}
+use Rattle.arc_rule.specs.declared.step.Step.TheVariants.{Load, Exchange, Store, Or, And}
 use Rattle.arc_script.specs.declared.script.ThreadDecl.{ThreadDecl}
 use Rattle.arc_script.specs.declared.script.Script.{Script}
 use Rattle.arc_schedule.specs.Made.{Point, Made, Go, own}
@@ -23,6 +23,8 @@ abbrev pub enters : Extent → Step → ℕ → Bool → Bool
 enters l (Load place) found before = before
 enters l (Exchange place old new) found before = if is_cell (place_at l place) && new == 1 && found == old then true else before
 enters l (Store place new) found before = if is_cell (place_at l place) then false else before
+enters l (Or place bits) found before = before
+enters l (And place bits) found before = before
 
 -- the thread whose own steps these are is inside an access behind them
 abbrev pub in_access : Extent → List Made → Bool

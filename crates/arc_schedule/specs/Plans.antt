@@ -1,5 +1,5 @@
 -- Which steps a plan makes, and which events they have. Each relation goes from the steps made before to those made after, the newest first.
-use Rattle.std.specs.Prelude.{ℕ, ◌≡◌, ◌==◌, ◌+◌, nat_lt, if◌then◌else◌, true, false, List, ◌∷◌, Option, Some, None}
+use Rattle.std.specs.Prelude.{ℕ, ◌≡◌, Bool, true, false, List, ◌∷◌, Option, Some, None}
 use Rattle.arc_model.specs.declared.event.Act.{Act}
 use Rattle.arc_model.specs.declared.event.Act.TheVariants as acts
 use Rattle.arc_model.specs.declared.event.ObjectName.{ObjectName}
@@ -21,7 +21,7 @@ use Rattle.arc_plan.specs.declared.strong.StrongDownAnswer.TheVariants as downs
 use Rattle.arc_plan.specs.declared.unowned.UnownedDownAnswer.{UnownedDownAnswer}
 use Rattle.arc_plan.specs.declared.unowned.UnownedDownAnswer.TheVariants as unowneds
 use Rattle.arc_plan.specs.Attempts.{Attempt, CappedAttempt}
-use Rattle.arc_plan.specs.Slots.{Creation, OneStep, creation_turned, creation_answer, one_turned, vacate_answer, no_change}
+use Rattle.arc_plan.specs.Slots.{Creation, OneStep, creation_turned, creation_answer, creation_change, one_turned, vacate_answer, no_change}
 use Rattle.arc_plan.specs.Strong.{strong_up_turned, strong_up_answer, strong_up_change, strong_down_turned, strong_down_answer, strong_down_change}
 use Rattle.arc_plan.specs.Unowned.{unowned_down_turned, unowned_down_answer, unowned_down_change}
 use Rattle.arc_schedule.specs.Made.{Point, Made, made_at}
@@ -68,21 +68,20 @@ abbrev pub told_by : {A : Type 0} → (A → Option Act) → Next A → Option A
 told_by told (nexts.Step s) = None
 told_by told (nexts.Done a) = told a
 
--- the exchange that takes a free slot makes the object, and that which finds the last slot taken tells that none is free
-abbrev pub making_tells : (slots hand class : ℕ) → Making → (found : ℕ) → Option Act
-making_tells slots hand class (makings.Trying slot) found =
-    if found == 0 then Some (acts.New hand class slot) else
-    if nat_lt (slot + 1) slots then None else Some acts.Full
-making_tells slots hand class _ found = None
+-- the Or that finds the slot's bit clear makes the object, and the load that finds the last word full tells that no slot is free
+abbrev pub making_told : (hand class : ℕ) → Making → Next NewObjectAnswer → Option Act
+making_told hand class (makings.Taking slot seen) (nexts.Step s) = Some (acts.New hand class slot)
+making_told hand class (makings.Looking word) (nexts.Done a) = Some acts.Full
+making_told hand class _ _ = None
 
 -- the object comes into the hand
-abbrev pub new_object : Extent → ObjectName → (hand : ℕ) → Plan Creation NewObjectAnswer
-new_object l name hand = record {
-  start = record { layout = l; name = name; at = makings.Start };
+abbrev pub new_object : Extent → (immortal : Bool) → ObjectName → (hand : ℕ) → Plan Creation NewObjectAnswer
+new_object l immortal name hand = record {
+  start = record { layout = l; name = name; immortal = immortal; at = makings.Start };
   turned = creation_turned;
   answer = creation_answer;
-  changed = no_change;
-  tells = λ p found. making_tells l.slots hand name.class p.at found;
+  changed = creation_change;
+  tells = λ p found. making_told hand name.class p.at (creation_answer p (Some found));
 }
 
 abbrev pub up_told : (from hand : ℕ) → StrongUpAnswer → Option Act

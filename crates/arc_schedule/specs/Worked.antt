@@ -1,10 +1,10 @@
 -- Two threads of one phase, in the order of their schedule; and an operation whose event no step tells alone.
-use Rattle.std.specs.Prelude.{ℕ, [], ◌∷◌, Some, None}
+use Rattle.std.specs.Prelude.{ℕ, false, [], ◌∷◌, Some, None}
 use Rattle.arc_model.specs.declared.event.Act.TheVariants as acts
-use Rattle.arc_model.specs.Shapes.{HeapShape}
+use Rattle.arc_model.specs.Shapes.{HeapShape, ObjectClass}
 use Rattle.arc_rule.specs.Extents.{Extent}
 use Rattle.arc_rule.specs.declared.step.Step.{Step}
-use Rattle.arc_rule.specs.declared.step.Step.TheVariants.{Load, Exchange, Store}
+use Rattle.arc_rule.specs.declared.step.Step.TheVariants.{Load, Exchange, Store, Or}
 use Rattle.arc_rule.specs.Isa.{isa_word_of}
 use Rattle.arc_script.specs.declared.script.Op.TheVariants as op
 use Rattle.arc_schedule.specs.Made.{Point, Made, made_at}
@@ -32,9 +32,12 @@ PlacesComeFirst = InOrder small 2 0 (2 ∷ 1 ∷ []) [] (look 2 ∷ look 1 ∷ l
 abbrev pub AccessesEndFirst : Type 0
 AccessesEndFirst = InOrder small 2 0 (2 ∷ []) [] (by 2 1 (Exchange 1 2 1) 2 ∷ by 2 1 (Store 1 2) 0 ∷ look 1 ∷ by 2 2 (Load 2) 0 ∷ [])
 
--- one slot, whose count is at place 1 and whose isa word is at place 2
+-- one slot, whose count is at place 1 and whose isa word is at place 2, and an entry; behind them, at place 16, the slot's bit
+abbrev pub plain : ObjectClass
+plain = record { fields = []; immortal = false }
+
 abbrev pub one_slot : HeapShape
-one_slot = record { slots = 1; entries = 1; caps = record { strong = 1; unowned = 1; wide = 1 }; classes = [] ∷ [] ∷ []; globals = [] }
+one_slot = record { slots = 1; entries = 1; caps = record { strong = 1; unowned = 1; wide = 1 }; classes = plain ∷ plain ∷ []; globals = [] }
 
 abbrev pub nothing_yet : State
 nothing_yet = record { vars = None ∷ []; made = 0; hands = 0 }
@@ -42,8 +45,9 @@ nothing_yet = record { vars = None ∷ []; made = 0; hands = 0 }
 abbrev pub first_of : (thread : ℕ) → Point
 first_of thread = point_of thread 0 1
 
--- The first operation of a thread makes an object of a class: the step that takes the slot, and the 0 that it finds, are the same for each class,
--- and its event has the class.
+-- The first operation of a thread makes an object of a class: the step that sets the slot's bit, and the 0 that it finds, are the same for each
+-- class, and its event has the class.
 abbrev pub OperationsTell : Type 0
 OperationsTell = (class : ℕ) → Does one_slot (first_of 1) (op.New 0 class) nothing_yet [] (record { vars = strong_to 1 0 ∷ []; made = 1; hands = 1 })
-    (made_at (first_of 1) (Store 2 (isa_word_of (next_name (first_of 1) nothing_yet class))) 0 None ∷ made_at (first_of 1) (Exchange 1 0 2) 0 (Some (acts.New 1 class 0)) ∷ [])
+    (made_at (first_of 1) (Store 2 (isa_word_of (next_name (first_of 1) nothing_yet class))) 0 None ∷ made_at (first_of 1) (Store 1 2) 0 None
+    ∷ made_at (first_of 1) (Or 16 1) 0 (Some (acts.New 1 class 0)) ∷ made_at (first_of 1) (Load 16) 0 None ∷ [])

@@ -15,9 +15,11 @@ use Rattle.arc_text.proofs.Numbers.{own}
 use Rattle.arc_model.specs.declared.shape.Kind.{Kind}
 use Rattle.arc_model.specs.declared.shape.Kind.TheVariants as kind
 use Rattle.arc_script.specs.declared.keyword.PairWord.TheVariants as pair
+use Rattle.arc_script.specs.declared.keyword.BlockWord.TheVariants as block
 use Rattle.arc_script.specs.declared.keyword.Keyword.{Keyword}
 use Rattle.arc_script.specs.declared.keyword.Keyword.TheVariants as word
-use Rattle.arc_script.specs.Keywords.{keyword_of}
+use Rattle.arc_script.specs.declared.keyword.Place.{Place}
+use Rattle.arc_script.specs.Keywords.{keyword_of, is_later, comes, stands}
 use Rattle.arc_script.specs.Valid.{name_at, place_of}
 use Rattle.arc_script.specs.Lookups.{kind_of, same_kind}
 use Rattle.arc_script.specs.Canonical.{kind_word}
@@ -99,6 +101,7 @@ text_of_keyword word.Slots = codes "slots"
 text_of_keyword word.Entries = codes "entries"
 text_of_keyword word.Caps = codes "caps"
 text_of_keyword word.Class = codes "class"
+text_of_keyword word.Immortal = codes "immortal"
 text_of_keyword word.Global = codes "global"
 text_of_keyword word.Thread = codes "thread"
 text_of_keyword word.Var = codes "var"
@@ -111,9 +114,38 @@ text_of_keyword (word.Pair pair.Weak) = codes "weak"
 text_of_keyword (word.Pair pair.Load) = codes "load"
 text_of_keyword word.Get = codes "get"
 text_of_keyword word.Set = codes "set"
+text_of_keyword (word.Block block.IfNil) = codes "ifnil"
+text_of_keyword (word.Block block.IfSome) = codes "ifsome"
+text_of_keyword word.End = codes "end"
 text_of_keyword word.Phase = codes "phase"
 text_of_keyword word.Schedule = codes "schedule"
 text_of_keyword word.Done = codes "done"
+
+pub keyword_back : (k : Keyword) → keyword_of (text_of_keyword k) ≡ Some k
+keyword_back word.Arc = refl
+keyword_back word.Slots = refl
+keyword_back word.Entries = refl
+keyword_back word.Caps = refl
+keyword_back word.Class = refl
+keyword_back word.Immortal = refl
+keyword_back word.Global = refl
+keyword_back word.Thread = refl
+keyword_back word.Var = refl
+keyword_back word.New = refl
+keyword_back word.Drop = refl
+keyword_back (word.Pair pair.Copy) = refl
+keyword_back (word.Pair pair.Move) = refl
+keyword_back (word.Pair pair.Unown) = refl
+keyword_back (word.Pair pair.Weak) = refl
+keyword_back (word.Pair pair.Load) = refl
+keyword_back word.Get = refl
+keyword_back word.Set = refl
+keyword_back (word.Block block.IfNil) = refl
+keyword_back (word.Block block.IfSome) = refl
+keyword_back word.End = refl
+keyword_back word.Phase = refl
+keyword_back word.Schedule = refl
+keyword_back word.Done = refl
 
 -- one word more that is tried
 try : {K : Type 0} (text : K → List ℕ) (b : Bool) (w : List ℕ) (k : K) (rest : Option K) (found : K) → (b ≡ true → w ≡ text k) → (rest ≡ Some found → w ≡ text found) → cond b (Some k) rest ≡ Some found → w ≡ text found
@@ -127,6 +159,7 @@ keyword_text w k =
     try text_of_keyword _ w word.Entries _ k (same_text w (codes "entries")) (
     try text_of_keyword _ w word.Caps _ k (same_text w (codes "caps")) (
     try text_of_keyword _ w word.Class _ k (same_text w (codes "class")) (
+    try text_of_keyword _ w word.Immortal _ k (same_text w (codes "immortal")) (
     try text_of_keyword _ w word.Global _ k (same_text w (codes "global")) (
     try text_of_keyword _ w word.Thread _ k (same_text w (codes "thread")) (
     try text_of_keyword _ w word.Var _ k (same_text w (codes "var")) (
@@ -139,9 +172,25 @@ keyword_text w k =
     try text_of_keyword _ w (word.Pair pair.Load) _ k (same_text w (codes "load")) (
     try text_of_keyword _ w word.Get _ k (same_text w (codes "get")) (
     try text_of_keyword _ w word.Set _ k (same_text w (codes "set")) (
+    try text_of_keyword _ w (word.Block block.IfNil) _ k (same_text w (codes "ifnil")) (
+    try text_of_keyword _ w (word.Block block.IfSome) _ k (same_text w (codes "ifsome")) (
+    try text_of_keyword _ w word.End _ k (same_text w (codes "end")) (
     try text_of_keyword _ w word.Phase _ k (same_text w (codes "phase")) (
     try text_of_keyword _ w word.Schedule _ k (same_text w (codes "schedule")) (
-    try text_of_keyword _ w word.Done None k (same_text w (codes "done")) (λ e. absurd cc))))))))))))))))))))
+    try text_of_keyword _ w word.Done None k (same_text w (codes "done")) (λ e. absurd cc))))))))))))))))))))))))
+
+-- ---- where a keyword stands
+
+pub comes_of : (version : ℕ) (p : Place) (k : Keyword) → stands version p k ≡ true → comes p k ≡ true
+comes_of version p k h = (both (not (is_later k && not (eqb version 2))) (comes p k) h).1
+
+later_or : (b c : Bool) → not (b && not c) ≡ true → b ≡ true → c ≡ true
+later_or true true h e = refl
+later_or true false h e = absurd cc
+later_or false c h e = absurd cc
+
+pub second_of : (version : ℕ) (p : Place) (k : Keyword) → stands version p k ≡ true → is_later k ≡ true → version ≡ 2
+second_of version p k h e = eqb-true _ _ (later_or (is_later k) (eqb version 2) (both (not (is_later k && not (eqb version 2))) (comes p k) h).0 e)
 
 pub kind_is : (w : List ℕ) (k : Kind) → kind_of w ≡ Some k → w ≡ kind_word k
 kind_is w k =

@@ -1,8 +1,10 @@
 pub mod Places
 pub mod WordCounts
 pub mod Inverted
+pub mod Blocks
 pub mod SaysOps
 pub mod Names
 pub mod SaysLines
 pub mod ReadValid
 pub mod Told
+pub mod OneList

@@ -1,6 +1,6 @@
 -- What a line that was accepted says.
-use Rattle.std.proofs.Common.{◌≡◌, ℕ, ◌+◌, ◌<◌, ◌≤◌, Bool, true, false, cond, eqb, leb, ltb, ◌||◌, List, [], ◌∷◌, ◌++◌, length, map, Option, Some, None, Result, Ok, Err, refl, sym, ap, subst, ◌∙◌, arith, rules, tests, count_by}
-use Rattle.std.specs.Prelude.{not, codes, is_some, unwrap_or}
+use Rattle.std.proofs.Common.{◌≡◌, ℕ, ◌+◌, ◌<◌, ◌≤◌, Bool, true, false, cond, eqb, leb, ltb, ◌&&◌, ◌||◌, List, [], ◌∷◌, ◌++◌, length, map, Option, Some, None, Result, Ok, Err, refl, sym, ap, subst, ◌∙◌, arith, rules, tests, count_by}
+use Rattle.std.specs.Prelude.{not, codes, is_some, unwrap_or, slice_get}
 use Rattle.std.specs.List.{AllByRecursion, list_all, list_any, before_first, after_first}
 use Rattle.std.specs.Option.{option_map_or}
 use Rattle.std.specs.Fmt.{decimal}
@@ -21,19 +21,19 @@ use Rattle.arc_script.specs.declared.keyword.Keyword.{Keyword}
 use Rattle.arc_script.specs.declared.keyword.Keyword.TheVariants as word
 use Rattle.arc_script.specs.declared.keyword.Place.TheVariants as behind
 use Rattle.arc_script.specs.declared.keyword.Place.{Place}
-use Rattle.arc_script.specs.Keywords.{keyword_of, stands, is_class, is_open}
-use Rattle.arc_script.specs.Valid.{name_at, place_of, field_names, class_names, AreNames, AreFields}
-use Rattle.arc_script.specs.Said.{HeadSaid, BodySaid}
+use Rattle.arc_script.specs.Keywords.{keyword_of, is_later, stands, is_class, is_open}
+use Rattle.arc_script.specs.Valid.{name_at, place_of, field_names, class_names, immortals_of, is_weak_immortal, begins_block, OfSecond, OpOfVersion, AreNames, AreFields}
+use Rattle.arc_script.specs.Said.{Grouped, HeadSaid, BodySaid}
 use Rattle.arc_script.specs.Lookups.{kind_of, has_repeat, class_place, var_place}
-use Rattle.arc_script.specs.HeadLines.{Spelled, is_colon, is_field_word, spelled_of, is_misspelled, lacks_class, lacks_kind, declared_of, class_line, decl_of, slots_line, entries_line, caps_line, global_line, with_global}
-use Rattle.arc_script.specs.BodyLines.{thread_line, var_line, with_var, with_op, op_line, phase_line, is_place, place_in, schedule_line}
-use Rattle.arc_script.specs.Group.{run_names}
-use Rattle.arc_script.specs.Grammar.{Front, with_head, with_body, grouped, settled, form_line, said_line}
-use Rattle.arc_script.specs.Canonical.{kind_word}
-use Rattle.arc_script.specs.Accepted.{field_word, IsDecl, run_head, head_after, body_after, Says, version, slots, entries, caps, class, global, thread, var, operation, phase, schedule, done}
-use Rattle.arc_script.proofs.Inverted.{passed, found, ok_is, no_not, neither_not, neither, both, none_of, some_of, spelled, text_of_keyword, keyword_text, kind_is, place_found, cut, left}
+use Rattle.arc_script.specs.HeadLines.{Spelled, is_colon, is_field_word, spelled_of, is_misspelled, lacks_class, lacks_kind, declared_of, is_weak_field, class_line, decl_of, slots_line, entries_line, caps_line, global_line, with_global}
+use Rattle.arc_script.specs.BodyLines.{thread_line, var_line, with_var, with_op, op_line, has_block, opened_by, ended_by, end_of, end_line, phase_line, is_place, place_in, schedule_line, done_line}
+use Rattle.arc_script.specs.Group.{run_group, group_names}
+use Rattle.arc_script.specs.Grammar.{Front, with_head, with_body, class_form, settled, arc_line, form_line, said_line}
+use Rattle.arc_script.specs.Canonical.{kind_word, class_word}
+use Rattle.arc_script.specs.Accepted.{field_word, IsDecl, run_head, head_after, body_after, Says, version, slots, entries, caps, class, global, thread, var, operation, end, phase, schedule, done}
+use Rattle.arc_script.proofs.Inverted.{passed, found, ok_is, no_not, neither_not, neither, both, none_of, some_of, spelled, text_of_keyword, keyword_text, comes_of, second_of, kind_is, place_found, cut, left}
 use Rattle.arc_script.proofs.Names.{all_at, apart_of}
-use Rattle.arc_script.proofs.SaysOps.{op_is, class_found}
+use Rattle.arc_script.proofs.SaysOps.{op_is, begins_later, class_found}
 
 -- ---- fields
 
@@ -94,9 +94,17 @@ fields_are group fs good once known few =
       of_classes = known_classes group fs known;
     }
 
+none_any : {X : Type 0} (p : X → Bool) (xs : List X) → list_any p xs ≡ false → AllByRecursion (λ x. p x ≡ false) xs
+none_any p [] h = tt
+none_any p (x ∷ xs) h = let n = neither (p x) (list_any p xs) h in (n.0, none_any p xs n.1)
+
+outside : (opened : List ℕ) → has_block opened ≡ false → opened ≡ []
+outside [] h = refl
+outside (at ∷ opened) h = absurd cc
+
 -- ---- lines of the heading
 
-same_classes : (b : Bool) (h : HeadSaid) (g : List (List ℕ)) → (let k : HeadSaid = cond b h (record h { group = g }) in k.classes) ≡ h.classes
+same_classes : (b : Bool) (h : HeadSaid) (g : List Grouped) → (let k : HeadSaid = cond b h (record h { group = g }) in k.classes) ≡ h.classes
 same_classes true h g = refl
 same_classes false h g = refl
 
@@ -109,7 +117,7 @@ bodied front next place (Ok b) e = (b, refl, ok_is _ next e)
 bodied front next place (Err why) e = absurd cc
 
 decl_is : (limit : ℕ) (vars : List VarDecl) (classes : List ClassDecl) (name of_kind class_word : List ℕ) (v : VarDecl) → decl_of limit vars classes name of_kind class_word ≡ Ok v
-    → IsDecl limit vars (length classes) v × (name ≡ v.name) × (of_kind ≡ kind_word v.kind) × (class_word ≡ name_at (class_names classes) v.class)
+    → IsDecl limit vars classes v × (name ≡ v.name) × (of_kind ≡ kind_word v.kind) × (class_word ≡ name_at (class_names classes) v.class)
 decl_is limit vars classes name of_kind class_word v e =
     let a = passed (not (is_name name) || not (is_name class_word)) _ _ v e in
     let f = passed (is_some (var_place vars name)) _ _ v a.1 in
@@ -117,9 +125,10 @@ decl_is limit vars classes name of_kind class_word v e =
     let k = found (kind_of of_kind) _ _ v c.2 in
     let r = passed (leb limit (length vars)) _ _ v k.2 in
     let room : length vars < limit = (let h = r.0 in search (rules, tests)) in
+    let w = passed (is_weak_immortal (immortals_of classes) k.0 c.0) _ _ v r.1 in
     let d = class_found classes class_word c.0 c.1 in
-    subst (λ (w : VarDecl). IsDecl limit vars (length classes) w × (name ≡ w.name) × (of_kind ≡ kind_word w.kind) × (class_word ≡ name_at (class_names classes) w.class)) (sym (ok_is _ v r.1))
-    (record { spelled = (neither_not (is_name name) (is_name class_word) a.0).0; fresh = none_of _ f.0; of_class = d.0; room = room }, refl, kind_is of_kind k.0 k.1, d.1)
+    subst (λ (w : VarDecl). IsDecl limit vars classes w × (name ≡ w.name) × (of_kind ≡ kind_word w.kind) × (class_word ≡ name_at (class_names classes) w.class)) (sym (ok_is _ v w.1))
+    (record { spelled = (neither_not (is_name name) (is_name class_word) a.0).0; fresh = none_of _ f.0; of_class = d.0; room = room; allowed = w.0 }, refl, kind_is of_kind k.0 k.1, d.1)
 
 four : (k a b c x y z : List ℕ) → a ≡ x → b ≡ y → c ≡ z → k ∷ a ∷ b ∷ c ∷ [] ≡ k ∷ x ∷ y ∷ z ∷ []
 four k a b c x y z p q r = ap (λ (w : List ℕ). k ∷ w ∷ b ∷ c ∷ []) p ∙ (ap (λ (w : List ℕ). k ∷ x ∷ w ∷ c ∷ []) q ∙ ap (λ (w : List ℕ). k ∷ x ∷ y ∷ w ∷ []) r)
@@ -134,7 +143,7 @@ caps_are s u w few some less h =
     let b : u ≤ w = (let t = n.1 in search (rules, tests)) in
     record { strong_fits = few; unowned_fits = (some, less); wide_fits = (a, b) }
 
-caps_says : (front next : Front) (lines : List (List ℕ)) (strong unowned wide : List ℕ) → stands front.place word.Caps ≡ true → with_head front behind.Caps (caps_line front.head strong unowned wide) ≡ Ok next
+caps_says : (front next : Front) (lines : List (List ℕ)) (strong unowned wide : List ℕ) → stands front.head.version front.place word.Caps ≡ true → with_head front behind.Caps (caps_line front.head strong unowned wide) ≡ Ok next
     → Says front (codes "caps" ∷ strong ∷ unowned ∷ wide ∷ []) lines next
 caps_says front next lines strong unowned wide st e =
     let h = headed front next behind.Caps _ e in
@@ -148,39 +157,44 @@ caps_says front next lines strong unowned wide st e =
     caps (record { strong = s.0; unowned = u.0; wide = w.0 }) (four (codes "caps") strong unowned wide _ _ _ a.0 b.0 d.0) st (caps_are s.0 u.0 w.0 a.2 b.1 b.2 c.0) (let most = d.2 in omega arith)
     (h.2 ∙ ap (head_after front behind.Caps) (ok_is _ h.0 c.1))
 
-class_says : (front next : Front) (lines : List (List ℕ)) (name : List ℕ) (words : List (List ℕ)) → stands front.place word.Class ≡ true
-    → with_head front behind.Class (class_line (grouped front (name ∷ words) lines) (name ∷ words)) ≡ Ok next → Says front (codes "class" ∷ name ∷ words) lines next
-class_says front next lines name words st e =
-    let head = run_head front name lines in
-    let same : head.classes ≡ front.head.classes = same_classes (is_class front.place) front.head (name ∷ run_names lines) in
+class_says : (front next : Front) (lines : List (List ℕ)) (immortal : Bool) (name : List ℕ) (words : List (List ℕ)) → stands front.head.version front.place word.Class ≡ true → OfSecond front.head.version immortal
+    → class_form front immortal (name ∷ words) lines ≡ Ok next → Says front (class_word immortal ∷ name ∷ words) lines next
+class_says front next lines immortal name words st of e =
+    let head = run_head front immortal name lines in
+    let names = group_names head.group in
+    let same : head.classes ≡ front.head.classes = same_classes (is_class front.place) front.head (record { name = name; immortal = immortal } ∷ run_group front.head.version lines) in
+    let long : length names ≡ length head.group = length-map head.group (λ (g : Grouped). g.name) in
     let fs = map spelled_of words in
     let h = headed front next behind.Class _ e in
     let p = passed (not (list_all is_field_word words)) _ _ h.0 h.1 in
     let a = passed (not (is_name name) || list_any is_misspelled fs) _ _ h.0 p.1 in
     let b = passed (is_some (class_place head.classes name) || has_repeat (map (λ (f : Spelled). f.name) fs)) _ _ h.0 a.1 in
-    let c = passed (list_any (lacks_class head.group) fs) _ _ h.0 b.1 in
+    let c = passed (list_any (lacks_class names) fs) _ _ h.0 b.1 in
     let k = passed (list_any lacks_kind fs) _ _ h.0 c.1 in
     let r = passed (leb 64 (length head.classes) || ltb 8 (length fs)) _ _ h.0 k.1 in
+    let w = passed (list_any (is_weak_field head.group) (map (declared_of names) fs)) _ _ h.0 r.1 in
     let good = neither (not (is_name name)) (list_any is_misspelled fs) a.0 in
     let once = neither (is_some (class_place head.classes name)) (has_repeat (map (λ (f : Spelled). f.name) fs)) b.0 in
     let rooms = neither (leb 64 (length head.classes)) (ltb 8 (length fs)) r.0 in
     let room : length head.classes < 64 = (let t = rooms.0 in search (rules, tests)) in
     let few : length fs ≤ 8 = (let t = rooms.1 in search (rules, tests)) in
-    let decl : ClassDecl = record { name = name; fields = map (declared_of head.group) fs } in
-    class decl (ap (λ (ws : List (List ℕ)). codes "class" ∷ name ∷ ws) (fields_back head.group words (no_not _ p.0) c.0 k.0)) st
+    let decl : ClassDecl = record { name = name; immortal = immortal; fields = map (declared_of names) fs } in
+    class decl (ap (λ (ws : List (List ℕ)). class_word immortal ∷ name ∷ ws) (fields_back names words (no_not _ p.0) c.0 k.0)) st
     (record {
       spelled = no_not _ good.0;
       fresh = subst (λ (cs : List ClassDecl). place_of (class_names cs) name ≡ None) same (none_of _ once.0);
-      fields = fields_are head.group fs good.1 once.1 c.0 few;
+      fields = subst (λ (n : ℕ). AreFields n (map (declared_of names) fs)) long (fields_are names fs good.1 once.1 c.0 few);
+      allowed = none_any (is_weak_field head.group) (map (declared_of names) fs) w.0;
       room = subst (λ (cs : List ClassDecl). length cs < 64) same room;
+      of_version = of;
     })
-    (h.2 ∙ ap (head_after front behind.Class) (ok_is _ h.0 r.1 ∙ ap (λ (cs : List ClassDecl). let k : HeadSaid = record head { classes = cs ++ decl ∷ [] } in k) same))
+    (h.2 ∙ ap (head_after front behind.Class) (ok_is _ h.0 w.1 ∙ ap (λ (cs : List ClassDecl). let k : HeadSaid = record head { classes = cs ++ decl ∷ [] } in k) same))
 
 declared : (head h : HeadSaid) (r : Result VarDecl Reason) → with_global head r ≡ Ok h → (v : VarDecl) × (r ≡ Ok v) × (h ≡ record head { globals = head.globals ++ v ∷ [] })
 declared head h (Ok v) e = (v, refl, ok_is _ h e)
 declared head h (Err why) e = absurd cc
 
-global_says : (front next : Front) (lines : List (List ℕ)) (name of_kind class_word : List ℕ) → stands front.place word.Global ≡ true
+global_says : (front next : Front) (lines : List (List ℕ)) (name of_kind class_word : List ℕ) → stands front.head.version front.place word.Global ≡ true
     → with_head front behind.Global (global_line front.head name of_kind class_word) ≡ Ok next → Says front (codes "global" ∷ name ∷ of_kind ∷ class_word ∷ []) lines next
 global_says front next lines name of_kind class_word st e =
     let h = headed front next behind.Global _ e in
@@ -190,7 +204,7 @@ global_says front next lines name of_kind class_word st e =
 
 -- ---- lines of threads
 
-thread_says : (front next : Front) (lines : List (List ℕ)) (number : List ℕ) → stands front.place word.Thread ≡ true → with_body front behind.Thread (thread_line (settled front) number) ≡ Ok next
+thread_says : (front next : Front) (lines : List (List ℕ)) (number : List ℕ) → stands front.head.version front.place word.Thread ≡ true → with_body front behind.Thread (thread_line (settled front) number) ≡ Ok next
     → Says front (codes "thread" ∷ number ∷ []) lines next
 thread_says front next lines number st e =
     let b = bodied front next behind.Thread _ e in
@@ -198,14 +212,15 @@ thread_says front next lines number st e =
     let m = passed (not (eqb n.0 (length (settled front).threads + 1))) _ _ b.0 n.2 in
     let r = passed (leb 64 (length (settled front).threads)) _ _ b.0 m.1 in
     let room : length (settled front).threads < 64 = (let t = r.0 in search (rules, tests)) in
+    let out = passed (has_block (settled front).opened) _ _ b.0 r.1 in
     let s = spelled 1 4294967295 number n.0 (omega arith) n.1 in
-    thread (two (codes "thread") number _ (s.0 ∙ ap decimal (eqb-true _ _ (no_not _ m.0)))) st room (b.2 ∙ ap (body_after front behind.Thread) (ok_is _ b.0 r.1))
+    thread (two (codes "thread") number _ (s.0 ∙ ap decimal (eqb-true _ _ (no_not _ m.0)))) st room (outside _ out.0) (b.2 ∙ ap (body_after front behind.Thread) (ok_is _ b.0 out.1))
 
 added : (body b : BodySaid) (r : Result VarDecl Reason) → with_var body r ≡ Ok b → (v : VarDecl) × (r ≡ Ok v) × (b ≡ record body { vars = body.vars ++ v ∷ [] })
 added body b (Ok v) e = (v, refl, ok_is _ b e)
 added body b (Err why) e = absurd cc
 
-var_says : (front next : Front) (lines : List (List ℕ)) (name of_kind class_word : List ℕ) → stands front.place word.Var ≡ true
+var_says : (front next : Front) (lines : List (List ℕ)) (name of_kind class_word : List ℕ) → stands front.head.version front.place word.Var ≡ true
     → with_body front behind.Thread (var_line front.head front.body name of_kind class_word) ≡ Ok next → Says front (codes "var" ∷ name ∷ of_kind ∷ class_word ∷ []) lines next
 var_says front next lines name of_kind class_word st e =
     let b = bodied front next behind.Thread _ e in
@@ -213,20 +228,48 @@ var_says front next lines name of_kind class_word st e =
     let is = decl_is 256 front.body.vars front.head.classes name of_kind class_word d.0 d.1 in
     var d.0 (four (codes "var") name of_kind class_word _ _ _ is.1 is.2 is.3) st is.0 (b.2 ∙ ap (body_after front behind.Thread) d.2)
 
-operated : (body b : BodySaid) (r : Result Op Reason) → with_op body r ≡ Ok b → (o : Op) × (r ≡ Ok o) × (body.count < 100000) × (b ≡ record body { ops = body.ops ++ o ∷ []; count = body.count + 1 })
+record Operated (body b : BodySaid) (r : Result Op Reason) : Type 0 where
+  o : Op
+  is : r ≡ Ok o
+  room : body.count < 100000
+  depth : begins_block o ≡ true → length body.opened < 8
+  made : b ≡ record body { ops = body.ops ++ o ∷ []; opened = opened_by body o; count = body.count + 1 }
+
+not_deep : (b : Bool) (n : ℕ) → (b && leb 8 n) ≡ false → b ≡ true → n < 8
+not_deep true n h e = search (rules, tests)
+not_deep false n h e = absurd cc
+
+operated : (body b : BodySaid) (r : Result Op Reason) → with_op body r ≡ Ok b → Operated body b r
 operated body b (Ok o) e =
-    let r = passed (leb 100000 body.count) _ _ b e in
-    let room : body.count < 100000 = (let t = r.0 in search (rules, tests)) in
-    (o, refl, room, ok_is _ b r.1)
+    let r = passed (leb 100000 body.count || (begins_block o && leb 8 (length body.opened))) _ _ b e in
+    let n = neither (leb 100000 body.count) (begins_block o && leb 8 (length body.opened)) r.0 in
+    record { o = o; is = refl; room = (let t = n.0 in search (rules, tests)); depth = not_deep (begins_block o) (length body.opened) n.1; made = ok_is _ b r.1 }
 operated body b (Err why) e = absurd cc
 
-op_says : (front next : Front) (lines : List (List ℕ)) (k : Keyword) (words : List (List ℕ)) → is_open front.place ≡ true → with_body front behind.Operation (op_line front.head front.body k words) ≡ Ok next
+op_says : (front next : Front) (lines : List (List ℕ)) (k : Keyword) (words : List (List ℕ)) → is_open front.place ≡ true → (is_later k ≡ true → front.head.version ≡ 2) → with_body front behind.Operation (op_line front.head front.body k words) ≡ Ok next
     → Says front (text_of_keyword k ∷ words) lines next
-op_says front next lines k words st e =
+op_says front next lines k words st of e =
     let b = bodied front next behind.Operation _ e in
     let o = operated front.body b.0 _ b.1 in
-    let is = op_is front.head.classes front.head.globals front.body.vars k words o.0 o.1 in
-    operation o.0 is.0 st is.1 o.2 (b.2 ∙ ap (body_after front behind.Operation) o.3)
+    let is = op_is front.head.classes front.head.globals front.body.vars k words o.o o.is in
+    let of_op : OpOfVersion front.head.version o.o = λ begins. of (begins_later front.head.classes front.head.globals front.body.vars k words o.o is.0 begins) in
+    operation o.o is.0 st is.1 of_op o.room o.depth (b.2 ∙ ap (body_after front behind.Operation) o.made)
+
+end_is : (body b : BodySaid) (opened : List ℕ) → end_of body opened ≡ Ok b → (at : ℕ) × (rest : List ℕ) × (opened ≡ at ∷ rest) × (b ≡ record body { ops = ended_by body.ops at (slice_get body.ops at); opened = rest })
+end_is body b [] e = absurd cc
+end_is body b (at ∷ rest) e = (at, rest, refl, ok_is _ b e)
+
+end_says : (front next : Front) (lines : List (List ℕ)) → with_body front behind.Operation (end_line front.body) ≡ Ok next → Says front (codes "end" ∷ []) lines next
+end_says front next lines e =
+    let b = bodied front next behind.Operation _ e in
+    let t = end_is front.body b.0 front.body.opened b.1 in
+    end t.0 t.1 refl t.2 (b.2 ∙ ap (body_after front behind.Operation) t.3)
+
+done_says : (front next : Front) (lines : List (List ℕ)) → stands front.head.version front.place word.Done ≡ true → with_body front behind.Ended (done_line (settled front)) ≡ Ok next → Says front (codes "done" ∷ []) lines next
+done_says front next lines st e =
+    let b = bodied front next behind.Ended _ e in
+    let out = passed (has_block (settled front).opened) _ _ b.0 b.1 in
+    done refl st (outside _ out.0) (b.2 ∙ ap (body_after front behind.Ended) (ok_is _ b.0 out.1))
 
 place_is : (threads : ℕ) (w : List ℕ) (o : Option ℕ) → number_in 1 4294967295 w ≡ o → option_map_or (λ n. leb n threads) o false ≡ true
     → (w ≡ decimal (unwrap_or o 0)) × ((1 ≤ unwrap_or o 0) × (unwrap_or o 0 ≤ threads))
@@ -244,7 +287,7 @@ places_are threads (w ∷ ws) h =
     let more = places_are threads ws p.1 in
     (ap (λ (x : List ℕ). x ∷ ws) one.0 ∙ ap (λ (xs : List (List ℕ)). decimal (place_in w) ∷ xs) more.0, (one.1, more.1))
 
-schedule_says : (front next : Front) (lines : List (List ℕ)) (first : List ℕ) (more : List (List ℕ)) → stands front.place word.Schedule ≡ true
+schedule_says : (front next : Front) (lines : List (List ℕ)) (first : List ℕ) (more : List (List ℕ)) → stands front.head.version front.place word.Schedule ≡ true
     → with_body front behind.Schedule (schedule_line (settled front) (first ∷ more)) ≡ Ok next → Says front (codes "schedule" ∷ first ∷ more) lines next
 schedule_says front next lines first more st e =
     let b = bodied front next behind.Schedule _ e in
@@ -253,17 +296,19 @@ schedule_says front next lines first more st e =
     let room : length (settled front).schedule + length (first ∷ more) ≤ 1000000 = (let t = r.0 in search (rules, tests)) in
     let are = places_are (length (settled front).threads) (first ∷ more) (no_not _ p.0) in
     let long : length (map place_in (first ∷ more)) ≡ length (first ∷ more) = length-map (first ∷ more) place_in in
-    schedule (map place_in (first ∷ more)) (ap (λ (ws : List (List ℕ)). codes "schedule" ∷ ws) are.0) st (omega arith) are.1 (omega arith)
-    (b.2 ∙ ap (body_after front behind.Schedule) (ok_is _ b.0 r.1))
+    let out = passed (has_block (settled front).opened) _ _ b.0 r.1 in
+    schedule (map place_in (first ∷ more)) (ap (λ (ws : List (List ℕ)). codes "schedule" ∷ ws) are.0) st (omega arith) are.1 (omega arith) (outside _ out.0)
+    (b.2 ∙ ap (body_after front behind.Schedule) (ok_is _ b.0 out.1))
 
 phase_says : (front next : Front) (lines : List (List ℕ)) → is_open front.place ≡ true → with_body front behind.Operation (phase_line front.body) ≡ Ok next → Says front (codes "phase" ∷ []) lines next
 phase_says front next lines st e =
     let b = bodied front next behind.Operation _ e in
     let r = passed (leb 63 (length front.body.phases)) _ _ b.0 b.1 in
     let room : length front.body.phases < 63 = (let t = r.0 in search (rules, tests)) in
-    phase refl st room (b.2 ∙ ap (body_after front behind.Operation) (ok_is _ b.0 r.1))
+    let out = passed (has_block front.body.opened) _ _ b.0 r.1 in
+    phase refl st room (outside _ out.0) (b.2 ∙ ap (body_after front behind.Operation) (ok_is _ b.0 out.1))
 
-slots_says : (front next : Front) (lines : List (List ℕ)) (number : List ℕ) → stands front.place word.Slots ≡ true → with_head front behind.Slots (slots_line front.head number) ≡ Ok next
+slots_says : (front next : Front) (lines : List (List ℕ)) (number : List ℕ) → stands front.head.version front.place word.Slots ≡ true → with_head front behind.Slots (slots_line front.head number) ≡ Ok next
     → Says front (codes "slots" ∷ number ∷ []) lines next
 slots_says front next lines number st e =
     let h = headed front next behind.Slots _ e in
@@ -271,7 +316,7 @@ slots_says front next lines number st e =
     let s = spelled 1 4096 number n.0 (omega arith) n.1 in
     slots n.0 (two (codes "slots") number _ s.0) st (s.1, s.2) (h.2 ∙ ap (head_after front behind.Slots) (ok_is _ h.0 n.2))
 
-entries_says : (front next : Front) (lines : List (List ℕ)) (number : List ℕ) → stands front.place word.Entries ≡ true → with_head front behind.Entries (entries_line front.head number) ≡ Ok next
+entries_says : (front next : Front) (lines : List (List ℕ)) (number : List ℕ) → stands front.head.version front.place word.Entries ≡ true → with_head front behind.Entries (entries_line front.head number) ≡ Ok next
     → Says front (codes "entries" ∷ number ∷ []) lines next
 entries_says front next lines number st e =
     let h = headed front next behind.Entries _ e in
@@ -279,40 +324,41 @@ entries_says front next lines number st e =
     let s = spelled 1 4096 number n.0 (omega arith) n.1 in
     entries n.0 (two (codes "entries") number _ s.0) st (s.1, s.2) (h.2 ∙ ap (head_after front behind.Entries) (ok_is _ h.0 n.2))
 
-version_says : (front next : Front) (lines : List (List ℕ)) (number : List ℕ) → stands front.place word.Arc ≡ true
-    → (let r : Result Front Reason = need (number_in 1 1 number) why.Number (λ _. Ok (record front { place = behind.Version })) in r) ≡ Ok next → Says front (codes "arc" ∷ number ∷ []) lines next
+version_says : (front next : Front) (lines : List (List ℕ)) (number : List ℕ) → stands front.head.version front.place word.Arc ≡ true → arc_line front number ≡ Ok next → Says front (codes "arc" ∷ number ∷ []) lines next
 version_says front next lines number st e =
-    let n = found (number_in 1 1 number) _ _ next e in
-    let s = spelled 1 1 number n.0 (omega arith) n.1 in
-    let low = s.1 in let high = s.2 in
-    let one : n.0 ≡ 1 = omega arith in
-    version (two (codes "arc") number _ (s.0 ∙ ap decimal one)) st (ok_is _ next n.2)
+    let n = found (number_in 1 2 number) _ _ next e in
+    let s = spelled 1 2 number n.0 (omega arith) n.1 in
+    version n.0 (two (codes "arc") number _ s.0) st (s.1, s.2) (ok_is _ next n.2)
 
 -- ---- any line
 
-form_says : (front next : Front) (k : Keyword) (words lines : List (List ℕ)) → stands front.place k ≡ true → form_line front k words lines ≡ Ok next → Says front (text_of_keyword k ∷ words) lines next
+form_says : (front next : Front) (k : Keyword) (words lines : List (List ℕ)) → stands front.head.version front.place k ≡ true → form_line front k words lines ≡ Ok next → Says front (text_of_keyword k ∷ words) lines next
 form_says front next word.Arc (number ∷ []) lines st e = version_says front next lines number st e
 form_says front next word.Slots (number ∷ []) lines st e = slots_says front next lines number st e
 form_says front next word.Entries (number ∷ []) lines st e = entries_says front next lines number st e
 form_says front next word.Caps (s ∷ u ∷ w ∷ []) lines st e = caps_says front next lines s u w st e
 form_says front next word.Class [] lines st e = absurd cc
-form_says front next word.Class (name ∷ words) lines st e = class_says front next lines name words st e
+form_says front next word.Class (name ∷ words) lines st e = class_says front next lines false name words st (λ no. absurd cc) e
+form_says front next word.Immortal [] lines st e = absurd cc
+form_says front next word.Immortal (name ∷ words) lines st e = class_says front next lines true name words (comes_of front.head.version front.place word.Immortal st) (λ yes. second_of front.head.version front.place word.Immortal st refl) e
 form_says front next word.Global (a ∷ b ∷ c ∷ []) lines st e = global_says front next lines a b c st e
 form_says front next word.Thread (number ∷ []) lines st e = thread_says front next lines number st e
 form_says front next word.Var (a ∷ b ∷ c ∷ []) lines st e = var_says front next lines a b c st e
-form_says front next word.New words lines st e = op_says front next lines word.New words st e
-form_says front next word.Drop words lines st e = op_says front next lines word.Drop words st e
-form_says front next (word.Pair w) words lines st e = op_says front next lines (word.Pair w) words st e
-form_says front next word.Get words lines st e = op_says front next lines word.Get words st e
-form_says front next word.Set words lines st e = op_says front next lines word.Set words st e
+form_says front next word.New words lines st e = op_says front next lines word.New words st (λ no. absurd cc) e
+form_says front next word.Drop words lines st e = op_says front next lines word.Drop words st (λ no. absurd cc) e
+form_says front next (word.Pair w) words lines st e = op_says front next lines (word.Pair w) words st (λ no. absurd cc) e
+form_says front next word.Get words lines st e = op_says front next lines word.Get words st (λ no. absurd cc) e
+form_says front next word.Set words lines st e = op_says front next lines word.Set words st (λ no. absurd cc) e
+form_says front next (word.Block w) words lines st e = op_says front next lines (word.Block w) words (comes_of front.head.version front.place (word.Block w) st) (second_of front.head.version front.place (word.Block w) st) e
+form_says front next word.End [] lines st e = end_says front next lines e
 form_says front next word.Phase [] lines st e = phase_says front next lines st e
 form_says front next word.Schedule (number ∷ numbers) lines st e = schedule_says front next lines number numbers st e
-form_says front next word.Done [] lines st e = done refl st (ok_is _ next e)
+form_says front next word.Done [] lines st e = done_says front next lines st e
 form_says front next k words lines st e = absurd cc
 
 pub line_says : (front next : Front) (line first : List ℕ) (words lines : List (List ℕ)) → said_line front line first words lines ≡ Ok next → Says front (first ∷ words) lines next
 line_says front next line first words lines e =
     let a = passed (not (list_all is_plain line)) _ _ next e in
     let k = found (keyword_of first) _ _ next a.1 in
-    let s = passed (not (stands front.place k.0)) _ _ next k.2 in
+    let s = passed (not (stands front.head.version front.place k.0)) _ _ next k.2 in
     subst (λ (w : List ℕ). Says front (w ∷ words) lines next) (sym (keyword_text first k.0 k.1)) (form_says front next k.0 words lines (no_not _ s.0) s.1)

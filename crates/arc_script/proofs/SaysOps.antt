@@ -14,17 +14,21 @@ use Rattle.arc_script.specs.declared.script.VarDecl.{VarDecl}
 use Rattle.arc_script.specs.declared.script.OpCell.{OpCell}
 use Rattle.arc_script.specs.declared.script.OpCell.TheVariants as cell
 use Rattle.arc_script.specs.declared.script.Op.{Op}
+use Rattle.arc_script.specs.declared.script.Op.TheVariants as op
 use Rattle.arc_script.specs.declared.reason.Reason.{Reason}
 use Rattle.arc_script.specs.declared.keyword.PairWord.{PairWord}
 use Rattle.arc_script.specs.declared.keyword.PairWord.TheVariants as pair
+use Rattle.arc_script.specs.declared.keyword.BlockWord.{BlockWord}
+use Rattle.arc_script.specs.declared.keyword.BlockWord.TheVariants as block
 use Rattle.arc_script.specs.declared.keyword.Keyword.{Keyword}
 use Rattle.arc_script.specs.declared.keyword.Keyword.TheVariants as word
 use Rattle.arc_script.specs.declared.operation.AtCell.{AtCell}
-use Rattle.arc_script.specs.Valid.{name_at, place_of, class_names, var_names, field_names, var_refs, ref_at, owner_fields, cell_ref, IsCell, NotOwner, IsOp}
+use Rattle.arc_script.specs.Valid.{name_at, place_of, class_names, var_names, field_names, var_refs, ref_at, owner_fields, cell_ref, IsCell, NotOwner, IsOp, begins_block}
+use Rattle.arc_script.specs.Keywords.{keyword_of, is_later}
 use Rattle.arc_script.specs.Lookups.{same_kind, class_place, var_place, is_at_sign, is_dot, is_cell_word, is_cell_spelled, field_of, cell_of, has_strong_owner, is_owner}
-use Rattle.arc_script.specs.OpLines.{new_of, drop_of, pair_kinds, needs_two, pair_op, pair_of, at_cell, as_get, as_set, op_of}
+use Rattle.arc_script.specs.OpLines.{new_of, drop_of, pair_kinds, needs_two, pair_op, pair_of, at_cell, as_get, as_set, block_op, block_of, op_of}
 use Rattle.arc_script.specs.Canonical.{cell_word, op_line}
-use Rattle.arc_script.proofs.Inverted.{passed, found, ok_is, no_not, neither_not, both, kinds_agree, place_found, cut, text_of_keyword}
+use Rattle.arc_script.proofs.Inverted.{passed, found, ok_is, no_not, neither_not, both, kinds_agree, place_found, cut, text_of_keyword, keyword_back}
 
 -- ---- names
 
@@ -144,6 +148,18 @@ drop_is classes globals vars var o e =
     let v = var_found vars var t.0 t.1 in
     subst (λ (p : Op). Stands classes globals vars p (codes "drop" ∷ var ∷ [])) (sym (ok_is _ o t.2)) (ap (λ (x : List ℕ). codes "drop" ∷ x ∷ []) v.1, v.0)
 
+block_shows : (classes : List ClassDecl) (globals vars : List VarDecl) (w : BlockWord) (var : List ℕ) (v : ℕ) → v < length vars → var ≡ var_name vars v
+    → Stands classes globals vars (block_op w v) (text_of_keyword (word.Block w) ∷ var ∷ [])
+block_shows classes globals vars block.IfNil var v there text = (ap (λ (x : List ℕ). codes "ifnil" ∷ x ∷ []) text, there)
+block_shows classes globals vars block.IfSome var v there text = (ap (λ (x : List ℕ). codes "ifsome" ∷ x ∷ []) text, there)
+
+block_is : (classes : List ClassDecl) (globals vars : List VarDecl) (w : BlockWord) (var : List ℕ) (o : Op) → block_of vars w var ≡ Ok o → Stands classes globals vars o (text_of_keyword (word.Block w) ∷ var ∷ [])
+block_is classes globals vars w var o e =
+    let a = passed (not (is_name var)) _ _ o e in
+    let t = found (var_place vars var) _ _ o a.1 in
+    let v = var_found vars var t.0 t.1 in
+    subst (λ (p : Op). Stands classes globals vars p (text_of_keyword (word.Block w) ∷ var ∷ [])) (sym (ok_is _ o t.2)) (block_shows classes globals vars w var t.0 v.0 v.1)
+
 other_than : (k l : Kind) → not (same_kind k l) ≡ true → k ≢ l
 other_than kind.Strong l h e = absurd (subst (λ (x : Kind). not (same_kind kind.Strong x) ≡ true → ⊥) e (λ t. cc) h)
 other_than kind.Unowned l h e = absurd (subst (λ (x : Kind). not (same_kind kind.Unowned x) ≡ true → ⊥) e (λ t. cc) h)
@@ -211,4 +227,17 @@ op_is classes globals vars word.Drop (var ∷ []) o e = drop_is classes globals 
 op_is classes globals vars (word.Pair w) (to ∷ of ∷ []) o e = pair_is classes globals vars w to of o e
 op_is classes globals vars word.Get (to ∷ c ∷ []) o e = get_or_not classes globals vars to c (at_cell classes globals vars to c) o refl e
 op_is classes globals vars word.Set (c ∷ from ∷ []) o e = set_or_not classes globals vars c from (at_cell classes globals vars from c) o refl e
+op_is classes globals vars (word.Block w) (var ∷ []) o e = block_is classes globals vars w var o e
 op_is classes globals vars k words o e = absurd cc
+
+-- the first word of a line that begins a block
+block_word : (k : Keyword) (words ws : List (List ℕ)) (first : List ℕ) → text_of_keyword k ∷ words ≡ first ∷ ws → keyword_of first ≡ Some k
+block_word k words ws first e = subst (λ (w : List ℕ). keyword_of w ≡ Some k) (let h : text_of_keyword k ≡ first = cc in h) (keyword_back k)
+
+keyword_known : (k : Keyword) (o : Option Keyword) (l : Keyword) → o ≡ Some k → o ≡ Some l → k ≡ l
+keyword_known k o l h g = cc
+
+pub begins_later : (classes : List ClassDecl) (globals vars : List VarDecl) (k : Keyword) (words : List (List ℕ)) (o : Op) → text_of_keyword k ∷ words ≡ op_line classes globals vars o → begins_block o ≡ true → is_later k ≡ true
+begins_later classes globals vars k words (op.IfNil var to) e h = subst (λ (l : Keyword). is_later l ≡ true) (keyword_known (word.Block block.IfNil) _ k refl (block_word k words _ (codes "ifnil") e)) refl
+begins_later classes globals vars k words (op.IfSome var to) e h = subst (λ (l : Keyword). is_later l ≡ true) (keyword_known (word.Block block.IfSome) _ k refl (block_word k words _ (codes "ifsome") e)) refl
+begins_later classes globals vars k words o e h = absurd cc

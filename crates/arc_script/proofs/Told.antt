@@ -12,7 +12,7 @@ use Rattle.arc_script.specs.declared.keyword.Place.{Place}
 use Rattle.arc_script.specs.declared.keyword.Place.TheVariants as behind
 use Rattle.arc_script.specs.Valid.{IsScript}
 use Rattle.arc_script.specs.Grammar.{Front, Refusal, refused, nothing, said_line, words_line, any_line, then_lines, is_ended, script_said, lines_from, script_of}
-use Rattle.arc_script.specs.Accepted.{Says, IsPassedOver, blank, comment, Tells, end, passed, said, StandsFor}
+use Rattle.arc_script.specs.Accepted.{Says, IsPassedOver, blank, comment, Tells, nothing_left, passed, said, StandsFor}
 use Rattle.arc_script.proofs.Inverted.{ok_is, no_not}
 use Rattle.arc_script.proofs.Inverted as test
 use Rattle.arc_script.proofs.SaysLines.{line_says}
@@ -61,7 +61,7 @@ record IsTold (front : Front) (lines : List (List ℕ)) (s : Script) : Type 0 wh
 lines_tell : (lines : List (List ℕ)) (n : ℕ) (front : Front) (s : Script) → lines_from n front lines ≡ Ok s → IsTold front lines s
 lines_tell [] n front s e =
     let h = end_or n front s (is_ended front.place) refl e in
-    record { last = front; told = end; finished = h.0; said_it = h.1; valid = λ a. subst IsScript (sym h.1) (ended_is_script front [] h.0 a) }
+    record { last = front; told = nothing_left; finished = h.0; said_it = h.1; valid = λ a. subst IsScript (sym h.1) (ended_is_script front [] h.0 a) }
 lines_tell (line ∷ rest) n front s e =
     let t = then_is n (any_line front line rest) (λ next. lines_from (n + 1) next rest) s e in
     let more = lines_tell rest (n + 1) t.0 s t.2 in
@@ -84,8 +84,8 @@ lines_tell (line ∷ rest) n front s e =
 
 pub text_stands : (text : List ℕ) (s : Script) → script_of text ≡ Ok s → StandsFor text s
 text_stands text s e =
-    let t = lines_tell (lines_of text) 1 (nothing behind.Start) s e in
+    let t = lines_tell (lines_of text) 1 (nothing 1 behind.Start) s e in
     record { last = t.last; told = t.told; finished = t.finished; said_it = t.said_it }
 
 pub read_is_script : (text : List ℕ) (s : Script) → script_of text ≡ Ok s → IsScript s
-read_is_script text s e = (lines_tell (lines_of text) 1 (nothing behind.Start) s e).valid (nothing_agrees (lines_of text))
+read_is_script text s e = (lines_tell (lines_of text) 1 (nothing 1 behind.Start) s e).valid (nothing_agrees (lines_of text))

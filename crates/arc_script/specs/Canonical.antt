@@ -1,6 +1,6 @@
 -- The one canonical text of a script: single spaces, no comments, always a caps line, schedule lines of 32 places, and a newline after
 -- each line.
-use Rattle.std.specs.Prelude.{ℕ, zero, suc, ◌+◌, List, [], ◌∷◌, ◌++◌, length, map, take, drop, codes}
+use Rattle.std.specs.Prelude.{ℕ, zero, suc, ◌+◌, Bool, false, List, [], ◌∷◌, ◌++◌, length, map, take, drop, ◌==◌, if◌then◌else◌, codes}
 use Rattle.std.specs.List.{flat_map}
 use Rattle.std.specs.Fmt.{decimal}
 use Rattle.arc_model.specs.Shapes.{HeapShape}
@@ -45,8 +45,11 @@ shape_lines shape =
     ∷ numbers_line (codes "caps") (shape.caps.strong ∷ shape.caps.unowned ∷ shape.caps.wide ∷ [])
     ∷ []
 
+abbrev pub class_word : Bool → List ℕ
+class_word immortal = if immortal then codes "immortal" else codes "class"
+
 abbrev pub class_line : List ClassDecl → ClassDecl → List (List ℕ)
-class_line classes c = codes "class" ∷ c.name ∷ map (field_word classes) c.fields
+class_line classes c = class_word c.immortal ∷ c.name ∷ map (field_word classes) c.fields
 
 -- a global or a variable
 abbrev pub decl_line : List ℕ → List ClassDecl → VarDecl → List (List ℕ)
@@ -67,10 +70,38 @@ op_line classes globals vars (op.Unown to of) = pair_line (codes "unown") vars t
 op_line classes globals vars (op.Weak to of) = pair_line (codes "weak") vars to of
 op_line classes globals vars (op.Load to of) = pair_line (codes "load") vars to of
 op_line classes globals vars (op.Get to c) = codes "get" ∷ name_at (var_names vars) to ∷ cell_word classes globals vars c ∷ []
+op_line classes globals vars (op.IfNil var to) = codes "ifnil" ∷ name_at (var_names vars) var ∷ []
+op_line classes globals vars (op.IfSome var to) = codes "ifsome" ∷ name_at (var_names vars) var ∷ []
 op_line classes globals vars (op.Set c from) = codes "set" ∷ cell_word classes globals vars c ∷ name_at (var_names vars) from ∷ []
 
+-- ---- the lines of a phase; ends: where the open blocks end, the inmost first
+
+-- the inmost open block ends at this place
+abbrev pub ends_here : ℕ → List ℕ → Bool
+ends_here at [] = false
+ends_here at (end ∷ ends) = end == at
+
+-- the ends that stand at this place
+abbrev pub ends_at : ℕ → List ℕ → List (List (List ℕ))
+ends_at at [] = []
+ends_at at (end ∷ ends) = if end == at then (codes "end" ∷ []) ∷ ends_at at ends else []
+
+abbrev pub still_open : ℕ → List ℕ → List ℕ
+still_open at [] = []
+still_open at (end ∷ ends) = if end == at then still_open at ends else end ∷ ends
+
+abbrev pub with_end : Op → List ℕ → List ℕ
+with_end (op.IfNil var to) ends = to ∷ ends
+with_end (op.IfSome var to) ends = to ∷ ends
+with_end o ends = ends
+
+-- of the operations from this place on
+abbrev pub ops_from : List ClassDecl → List VarDecl → List VarDecl → ℕ → List ℕ → List Op → List (List (List ℕ))
+ops_from classes globals vars at ends [] = ends_at at ends
+ops_from classes globals vars at ends (o ∷ ops) = ends_at at ends ++ op_line classes globals vars o ∷ ops_from classes globals vars (at + 1) (with_end o (still_open at ends)) ops
+
 abbrev pub op_lines : List ClassDecl → List VarDecl → List VarDecl → List Op → List (List (List ℕ))
-op_lines classes globals vars ops = map (op_line classes globals vars) ops
+op_lines classes globals vars ops = ops_from classes globals vars 0 [] ops
 
 -- a line between each two phases
 abbrev pub later_phase : List ClassDecl → List VarDecl → List VarDecl → List Op → List (List (List ℕ))
@@ -101,7 +132,7 @@ schedule_lines places = schedule_upto (length places) places
 
 abbrev pub script_lines : Script → List (List (List ℕ))
 script_lines s =
-    numbers_line (codes "arc") (1 ∷ [])
+    numbers_line (codes "arc") (s.version ∷ [])
     ∷ (heading_lines s.shape s.classes s.globals
     ++ (threads_lines s.classes s.globals 1 s.threads
     ++ (schedule_lines s.schedule ++ (codes "done" ∷ []) ∷ [])))

@@ -16,9 +16,9 @@ use Rattle.arc_script.specs.Reasons.{reason_number}
 use Rattle.arc_script.specs.Keywords.{keyword_of, stands, is_heading_word, is_class, is_open}
 use Rattle.arc_script.specs.Valid.{class_refs, var_refs}
 use Rattle.arc_script.specs.Said.{HeadSaid, BodySaid}
-use Rattle.arc_script.specs.Group.{named, run_names}
+use Rattle.arc_script.specs.Group.{named, run_group}
 use Rattle.arc_script.specs.HeadLines.{slots_line, entries_line, caps_line, class_line, global_line}
-use Rattle.arc_script.specs.BodyLines.{closed, thread_line, var_line, op_line, phase_line, schedule_line}
+use Rattle.arc_script.specs.BodyLines.{closed, thread_line, var_line, op_line, end_line, phase_line, schedule_line, done_line}
 
 -- what the lines so far say, and which line came last
 pub record Front : Type 0 where
@@ -27,14 +27,15 @@ pub record Front : Type 0 where
   pub body : BodySaid
 
 -- before any line; slots and entries are given later, and the caps of a script that gives none are the greatest
-abbrev pub no_head : HeadSaid
-no_head = record { slots = 1; entries = 1; caps = record { strong = 1073741823; unowned = 2147483647; wide = 4294967295 }; classes = []; globals = []; group = [] }
+abbrev pub no_head : ℕ → HeadSaid
+no_head version = record { version = version; slots = 1; entries = 1; caps = record { strong = 1073741823; unowned = 2147483647; wide = 4294967295 }; classes = []; globals = []; group = [] }
 
 abbrev pub no_body : BodySaid
-no_body = record { threads = []; vars = []; phases = []; ops = []; count = 0; schedule = [] }
+no_body = record { threads = []; vars = []; phases = []; ops = []; opened = []; count = 0; schedule = [] }
 
-abbrev pub nothing : Place → Front
-nothing place = record { place = place; head = no_head; body = no_body }
+-- in a text of this version
+abbrev pub nothing : ℕ → Place → Front
+nothing version place = record { place = place; head = no_head version; body = no_body }
 
 abbrev pub with_head : Front → Place → Result HeadSaid Reason → Result Front Reason
 with_head front place (Ok head) = Ok (record { place = place; head = head; body = front.body })
@@ -45,15 +46,20 @@ with_body front place (Ok body) = Ok (record { place = place; head = front.head;
 with_body front place (Err reason) = Err reason
 
 -- the group of a class line is that of the class line before it, or begins with this line
-abbrev pub grouped : Front → List (List ℕ) → List (List ℕ) → HeadSaid
-grouped front words lines = if is_class front.place then front.head else record front.head { group = named words (run_names lines) }
+abbrev pub grouped : Front → Bool → List (List ℕ) → List (List ℕ) → HeadSaid
+grouped front immortal words lines =
+    if is_class front.place then front.head else record front.head { group = named immortal words (run_group front.head.version lines) }
+
+abbrev pub class_form : Front → Bool → List (List ℕ) → List (List ℕ) → Result Front Reason
+class_form front immortal words lines = with_head front behind.Class (class_line (grouped front immortal words lines) immortal words)
 
 -- a line of the heading; lines: those behind it
 abbrev pub heading_form : Front → Keyword → List (List ℕ) → List (List ℕ) → Result Front Reason
 heading_form front word.Slots (number ∷ []) lines = with_head front behind.Slots (slots_line front.head number)
 heading_form front word.Entries (number ∷ []) lines = with_head front behind.Entries (entries_line front.head number)
 heading_form front word.Caps (strong ∷ unowned ∷ wide ∷ []) lines = with_head front behind.Caps (caps_line front.head strong unowned wide)
-heading_form front word.Class words lines = with_head front behind.Class (class_line (grouped front words lines) words)
+heading_form front word.Class words lines = class_form front false words lines
+heading_form front word.Immortal words lines = class_form front true words lines
 heading_form front word.Global (name ∷ kind ∷ class ∷ []) lines = with_head front behind.Global (global_line front.head name kind class)
 heading_form front k words lines = Err why.WordCount
 
@@ -61,9 +67,9 @@ heading_form front k words lines = Err why.WordCount
 abbrev pub settled : Front → BodySaid
 settled front = if is_open front.place then closed front.body else front.body
 
--- arc 1
+-- arc 1 or arc 2
 abbrev pub arc_line : Front → List ℕ → Result Front Reason
-arc_line front version = need (number_in 1 1 version) why.Number (λ _. Ok (record front { place = behind.Version }))
+arc_line front version = need (number_in 1 2 version) why.Number (λ v. Ok (record { place = behind.Version; head = record front.head { version = v }; body = front.body }))
 
 -- any other line
 abbrev pub body_form : Front → Keyword → List (List ℕ) → Result Front Reason
@@ -75,9 +81,11 @@ body_form front word.Drop words = with_body front behind.Operation (op_line fron
 body_form front (word.Pair w) words = with_body front behind.Operation (op_line front.head front.body (word.Pair w) words)
 body_form front word.Get words = with_body front behind.Operation (op_line front.head front.body word.Get words)
 body_form front word.Set words = with_body front behind.Operation (op_line front.head front.body word.Set words)
+body_form front (word.Block w) words = with_body front behind.Operation (op_line front.head front.body (word.Block w) words)
+body_form front word.End [] = with_body front behind.Operation (end_line front.body)
 body_form front word.Phase [] = with_body front behind.Operation (phase_line front.body)
 body_form front word.Schedule (number ∷ numbers) = with_body front behind.Schedule (schedule_line (settled front) (number ∷ numbers))
-body_form front word.Done [] = Ok (record { place = behind.Ended; head = front.head; body = settled front })
+body_form front word.Done [] = with_body front behind.Ended (done_line (settled front))
 body_form front k words = Err why.WordCount
 
 abbrev pub form_line : Front → Keyword → List (List ℕ) → List (List ℕ) → Result Front Reason
@@ -88,7 +96,7 @@ abbrev pub said_line : Front → List ℕ → List ℕ → List (List ℕ) → L
 said_line front line first words lines =
     refuse (not (list_all is_plain line)) why.Byte (
     need (keyword_of first) why.FirstWord (λ k.
-    refuse (not (stands front.place k)) why.FirstWord (
+    refuse (not (stands front.head.version front.place k)) why.FirstWord (
     form_line front k words lines)))
 
 -- a line without a word is passed over, and so is one whose first word begins with #
@@ -119,7 +127,7 @@ abbrev pub shape_said : HeadSaid → HeapShape
 shape_said head = record { slots = head.slots; entries = head.entries; caps = head.caps; classes = class_refs head.classes; globals = var_refs head.globals }
 
 abbrev pub script_said : Front → Script
-script_said front = record { shape = shape_said front.head; classes = front.head.classes; globals = front.head.globals; threads = front.body.threads; schedule = front.body.schedule }
+script_said front = record { version = front.head.version; shape = shape_said front.head; classes = front.head.classes; globals = front.head.globals; threads = front.body.threads; schedule = front.body.schedule }
 
 abbrev pub is_ended : Place → Bool
 is_ended behind.Ended = true
@@ -136,4 +144,4 @@ lines_from n front (line ∷ lines) = then_lines n (any_line front line lines) (
 
 -- the script that the text stands for, or the line that is refused
 abbrev pub script_of : List ℕ → Result Script Refusal
-script_of text = lines_from 1 (nothing behind.Start) (lines_of text)
+script_of text = lines_from 1 (nothing 1 behind.Start) (lines_of text)

@@ -10,9 +10,10 @@ use Rattle.arc_script.specs.declared.script.ClassDecl.{ClassDecl}
 use Rattle.arc_script.specs.declared.script.VarDecl.{VarDecl}
 use Rattle.arc_script.specs.declared.reason.Reason.{Reason}
 use Rattle.arc_script.specs.declared.reason.Reason.TheVariants as why
-use Rattle.arc_script.specs.Valid.{place_of}
+use Rattle.arc_script.specs.Valid.{place_of, immortals_of, is_weak_immortal}
 use Rattle.arc_script.specs.Lookups.{kind_of, has_repeat, class_place, var_place}
-use Rattle.arc_script.specs.Said.{HeadSaid}
+use Rattle.arc_script.specs.Said.{Grouped, HeadSaid}
+use Rattle.arc_script.specs.Group.{group_names, group_immortals}
 
 -- slots N
 abbrev pub slots_line : HeadSaid → List ℕ → Result HeadSaid Reason
@@ -35,7 +36,7 @@ caps_line head strong unowned wide =
     refuse (nat_le w s || nat_lt w u) why.WideCap (
     Ok (record head { caps = record { strong = s; unowned = u; wide = w } })))))
 
--- ---- class NAME FIELD:KIND:CLASS ..
+-- ---- class NAME FIELD:KIND:CLASS .. or immortal NAME FIELD:KIND:CLASS ..
 
 -- a field as it is spelled
 pub record Spelled : Type 0 where
@@ -70,20 +71,25 @@ lacks_kind f = not (is_some (kind_of f.kind))
 abbrev pub declared_of : List (List ℕ) → Spelled → FieldDecl
 declared_of group f = record { name = f.name; kind = unwrap_or (kind_of f.kind) kind.Strong; class = unwrap_or (place_of group f.class) 0 }
 
-abbrev pub class_with : HeadSaid → List ℕ → List Spelled → Result HeadSaid Reason
-class_with head name fields =
+-- a weak field of an immortal class
+abbrev pub is_weak_field : List Grouped → FieldDecl → Bool
+is_weak_field group f = is_weak_immortal (group_immortals group) f.kind f.class
+
+abbrev pub class_with : HeadSaid → Bool → List ℕ → List Spelled → Result HeadSaid Reason
+class_with head immortal name fields =
     refuse (not (is_name name) || list_any is_misspelled fields) why.Spelling (
     refuse (is_some (class_place head.classes name) || has_repeat (map (λ (f : Spelled). f.name) fields)) why.Again (
-    refuse (list_any (lacks_class head.group) fields) why.Unknown (
+    refuse (list_any (lacks_class (group_names head.group)) fields) why.Unknown (
     refuse (list_any lacks_kind fields) why.Kind (
     refuse (nat_le 64 (length head.classes) || nat_lt 8 (length fields)) why.TooMany (
-    Ok (record head { classes = head.classes ++ record { name = name; fields = map (declared_of head.group) fields } ∷ [] }))))))
+    refuse (list_any (is_weak_field head.group) (map (declared_of (group_names head.group)) fields)) why.WeakImmortal (
+    Ok (record head { classes = head.classes ++ record { name = name; immortal = immortal; fields = map (declared_of (group_names head.group)) fields } ∷ [] })))))))
 
-abbrev pub class_line : HeadSaid → List (List ℕ) → Result HeadSaid Reason
-class_line head [] = Err why.WordCount
-class_line head (name ∷ words) =
+abbrev pub class_line : HeadSaid → Bool → List (List ℕ) → Result HeadSaid Reason
+class_line head immortal [] = Err why.WordCount
+class_line head immortal (name ∷ words) =
     refuse (not (list_all is_field_word words)) why.WordCount (
-    class_with head name (map spelled_of words))
+    class_with head immortal name (map spelled_of words))
 
 -- ---- NAME KIND CLASS, of at most so many
 
@@ -94,7 +100,8 @@ decl_of limit vars classes name kind class =
     need (class_place classes class) why.Unknown (λ c.
     need (kind_of kind) why.Kind (λ k.
     refuse (nat_le limit (length vars)) why.TooMany (
-    Ok (record { name = name; kind = k; class = c }))))))
+    refuse (is_weak_immortal (immortals_of classes) k c) why.WeakImmortal (
+    Ok (record { name = name; kind = k; class = c })))))))
 
 -- global NAME KIND CLASS
 abbrev pub with_global : HeadSaid → Result VarDecl Reason → Result HeadSaid Reason

@@ -24,16 +24,16 @@ abbrev pub may_end : Bool → Place → Bool
 may_end caps place = takes_global place && not (caps && is_entries place)
 
 -- a line that begins so may come next in the heading
-abbrev pub heads : Bool → Place → Keyword → Bool
-heads caps place k = is_heading_word k && (stands place k && not (caps && (is_entries place && not (is_caps_word k))))
+abbrev pub heads : Bool → ℕ → Place → Keyword → Bool
+heads caps version place k = is_heading_word k && (stands version place k && not (caps && (is_entries place && not (is_caps_word k))))
 
 -- the keyword of a line that may come next in the heading
-abbrev pub next_word : Bool → Place → Option Keyword → Option Keyword
-next_word caps place None = None
-next_word caps place (Some k) = if heads caps place k then Some k else None
+abbrev pub next_word : Bool → ℕ → Place → Option Keyword → Option Keyword
+next_word caps version place None = None
+next_word caps version place (Some k) = if heads caps version place k then Some k else None
 
-abbrev pub heading_keyword : Bool → Place → List ℕ → Option Keyword
-heading_keyword caps place first = next_word caps place (keyword_of first)
+abbrev pub heading_keyword : Bool → ℕ → Place → List ℕ → Option Keyword
+heading_keyword caps version place first = next_word caps version place (keyword_of first)
 
 -- what a line is to a heading
 pub data Headed : Type 0 where
@@ -54,7 +54,7 @@ headed_by caps front (Some k) line words lines =
     refuse (not (list_all is_plain line)) why.Byte (entering (heading_form front k words lines))
 
 abbrev pub headed_form : Bool → Front → List ℕ → List ℕ → List (List ℕ) → List (List ℕ) → Result Headed Reason
-headed_form caps front line first words lines = headed_by caps front (heading_keyword caps front.place first) line words lines
+headed_form caps front line first words lines = headed_by caps front (heading_keyword caps front.head.version front.place first) line words lines
 
 abbrev pub headed_words : Bool → Front → List ℕ → List (List ℕ) → List (List ℕ) → Result Headed Reason
 headed_words caps front line [] lines = Ok passed
@@ -94,6 +94,6 @@ abbrev pub then_heading : List ℕ → ℕ → ℕ → Result HeadEnd Refusal �
 then_heading text at line (Ok e) = Ok (heading_at (length text - length (after_lines (e.line - line) (drop at text))) e)
 then_heading text at line (Err refusal) = Err refusal
 
--- the heading that begins at this byte, on the line with this number
-abbrev pub heading_of : List ℕ → ℕ → ℕ → Bool → Result Heading Refusal
-heading_of text at line caps = then_heading text at line (head_from caps line line (nothing behind.Version) (lines_of (drop at text)))
+-- the heading of a text of this version that begins at this byte, on the line with this number
+abbrev pub heading_of : List ℕ → ℕ → ℕ → ℕ → Bool → Result Heading Refusal
+heading_of text at line version caps = then_heading text at line (head_from caps line line (nothing version behind.Version) (lines_of (drop at text)))

@@ -12,3 +12,4 @@ pub mod Reading
 pub mod Canonical
 pub mod Accepted
 pub mod HeadingText
+pub mod OneList

@@ -12,6 +12,8 @@ use Rattle.arc_script.specs.declared.reason.Reason.{Reason}
 use Rattle.arc_script.specs.declared.reason.Reason.TheVariants as why
 use Rattle.arc_script.specs.declared.keyword.PairWord.{PairWord}
 use Rattle.arc_script.specs.declared.keyword.PairWord.TheVariants as pair
+use Rattle.arc_script.specs.declared.keyword.BlockWord.{BlockWord}
+use Rattle.arc_script.specs.declared.keyword.BlockWord.TheVariants as block
 use Rattle.arc_script.specs.declared.keyword.Keyword.{Keyword}
 use Rattle.arc_script.specs.declared.keyword.Keyword.TheVariants as word
 use Rattle.arc_script.specs.declared.operation.AtCell.{AtCell}
@@ -94,10 +96,23 @@ as_set (Err reason) = Err reason
 abbrev pub set_of : List ClassDecl → List VarDecl → List VarDecl → List ℕ → List ℕ → Result Op Reason
 set_of classes globals vars cell from = as_set (at_cell classes globals vars from cell)
 
+-- where a block begins; the place that it goes to isn't known before its end
+abbrev pub block_op : BlockWord → ℕ → Op
+block_op block.IfNil var = op.IfNil var 0
+block_op block.IfSome var = op.IfSome var 0
+
+-- ifnil VARIABLE or ifsome VARIABLE
+abbrev pub block_of : List VarDecl → BlockWord → List ℕ → Result Op Reason
+block_of vars w var =
+    refuse (not (is_name var)) why.Spelling (
+    need (var_place vars var) why.Unknown (λ v.
+    Ok (block_op w v)))
+
 abbrev pub op_of : List ClassDecl → List VarDecl → List VarDecl → Keyword → List (List ℕ) → Result Op Reason
 op_of classes globals vars word.New (to ∷ class ∷ []) = new_of classes vars to class
 op_of classes globals vars word.Drop (var ∷ []) = drop_of vars var
 op_of classes globals vars (word.Pair w) (to ∷ of ∷ []) = pair_of vars w to of
 op_of classes globals vars word.Get (to ∷ cell ∷ []) = get_of classes globals vars to cell
 op_of classes globals vars word.Set (cell ∷ from ∷ []) = set_of classes globals vars cell from
+op_of classes globals vars (word.Block w) (var ∷ []) = block_of vars w var
 op_of classes globals vars k words = Err why.WordCount

@@ -16,3 +16,5 @@ reason_number why.Classes = 9
 reason_number why.SameVariable = 10
 reason_number why.TooMany = 11
 reason_number why.WideCap = 12
+reason_number why.WeakImmortal = 13
+reason_number why.OpenBlock = 14

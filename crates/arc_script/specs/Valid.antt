@@ -1,8 +1,8 @@
 -- Which values are scripts.
-use Rattle.std.specs.Prelude.{◌≡◌, ◌≢◌, ℕ, ◌<◌, ◌≤◌, true, List, [], length, map, sum_by, Option, Some, bytes_eq, position, slice_index_or}
+use Rattle.std.specs.Prelude.{◌≡◌, ◌≢◌, ℕ, suc, ◌+◌, ◌<◌, ◌≤◌, Bool, true, false, ◌&&◌, List, [], ◌∷◌, ◌++◌, length, map, sum_by, Option, Some, bytes_eq, position, slice_index_or}
 use Rattle.std.specs.List.{AllByRecursion}
 use Rattle.arc_text.specs.Words.{is_name}
-use Rattle.arc_model.specs.Shapes.{HeapShape}
+use Rattle.arc_model.specs.Shapes.{ObjectClass, HeapShape}
 use Rattle.arc_model.specs.Ranges.{SlotsFit, EntriesFit, CapsFit}
 use Rattle.arc_model.specs.declared.shape.Kind.{Kind}
 use Rattle.arc_model.specs.declared.shape.Kind.TheVariants as kind
@@ -49,8 +49,19 @@ field_refs fields = map (λ (f : FieldDecl). record { kind = f.kind; class = f.c
 abbrev pub var_refs : List VarDecl → List RefShape
 var_refs vars = map (λ (v : VarDecl). record { kind = v.kind; class = v.class }) vars
 
-abbrev pub class_refs : List ClassDecl → List (List RefShape)
-class_refs classes = map (λ (c : ClassDecl). field_refs c.fields) classes
+abbrev pub class_refs : List ClassDecl → List ObjectClass
+class_refs classes = map (λ (c : ClassDecl). record { fields = field_refs c.fields; immortal = c.immortal }) classes
+
+abbrev pub immortals_of : List ClassDecl → List Bool
+immortals_of classes = map (λ (c : ClassDecl). c.immortal) classes
+
+abbrev pub is_weak : Kind → Bool
+is_weak kind.Weak = true
+is_weak k = false
+
+-- a weak reference to an immortal class
+abbrev pub is_weak_immortal : List Bool → Kind → ℕ → Bool
+is_weak_immortal immortals k class = is_weak k && slice_index_or immortals class false
 
 abbrev pub ref_at : List RefShape → ℕ → RefShape
 ref_at refs i = slice_index_or refs i (record { kind = kind.Strong; class = 0 })
@@ -99,7 +110,33 @@ IsOp classes globals vars (op.Unown to of) = ArePair vars to of kind.Unowned kin
 IsOp classes globals vars (op.Weak to of) = ArePair vars to of kind.Weak kind.Strong
 IsOp classes globals vars (op.Load to of) = ArePair vars to of kind.Strong (kind_at vars of) × (kind_at vars of ≢ kind.Strong)
 IsOp classes globals vars (op.Get to c) = (to < length vars) × IsCell classes globals vars c × (ref_at (var_refs vars) to ≡ cell_ref classes globals vars c)
+IsOp classes globals vars (op.IfNil var to) = var < length vars
+IsOp classes globals vars (op.IfSome var to) = var < length vars
 IsOp classes globals vars (op.Set c from) = (from < length vars) × IsCell classes globals vars c × (ref_at (var_refs vars) from ≡ cell_ref classes globals vars c) × NotOwner from c
+
+-- ---- blocks
+
+abbrev pub begins_block : Op → Bool
+begins_block (op.IfNil var to) = true
+begins_block (op.IfSome var to) = true
+begins_block o = false
+
+-- the same beginning of a block that goes to this place
+abbrev pub goes_to : ℕ → Op → Op
+goes_to to (op.IfNil var old) = op.IfNil var to
+goes_to to (op.IfSome var old) = op.IfSome var to
+goes_to to o = o
+
+-- operations from this place on, with blocks at most so deep
+pub data Nested : ℕ → ℕ → List Op → Type 0 where
+  none : {deep at : ℕ} → Nested deep at []
+  operation : {deep at : ℕ} (o : Op) (ops : List Op) → begins_block o ≡ false → Nested deep (suc at) ops → Nested deep at (o ∷ ops)
+  block : {deep at : ℕ} (o : Op) (inside ops : List Op) → begins_block o ≡ true → Nested deep (suc at) inside → Nested (suc deep) (suc at + length inside) ops
+      → Nested (suc deep) at (goes_to (suc at + length inside) o ∷ (inside ++ ops))
+
+-- what is of version 2 alone
+abbrev pub OfSecond : ℕ → Bool → Type 0
+OfSecond version needed = needed ≡ true → version ≡ 2
 
 -- ---- declarations
 
@@ -122,20 +159,33 @@ pub record IsHeading (shape : HeapShape) (classes : List ClassDecl) (globals : L
   pub caps : CapsFit shape.caps.strong shape.caps.unowned shape.caps.wide
   pub classes_named : AreClasses classes
   pub globals_named : AreVars 64 (length classes) globals
+  pub fields_allowed : AllByRecursion (λ (c : ClassDecl). AllByRecursion (λ (f : FieldDecl). is_weak_immortal (immortals_of classes) f.kind f.class ≡ false) c.fields) classes
+  pub globals_allowed : AllByRecursion (λ (v : VarDecl). is_weak_immortal (immortals_of classes) v.kind v.class ≡ false) globals
   pub of_classes : shape.classes ≡ class_refs classes
   pub of_globals : shape.globals ≡ var_refs globals
 
 pub record IsThread (classes : List ClassDecl) (globals : List VarDecl) (thread : ThreadDecl) : Type 0 where
   pub vars : AreVars 256 (length classes) thread.vars
+  pub vars_allowed : AllByRecursion (λ (v : VarDecl). is_weak_immortal (immortals_of classes) v.kind v.class ≡ false) thread.vars
   pub some_phase : 1 ≤ length thread.phases
   pub few_phases : length thread.phases ≤ 64
   pub ops : AllByRecursion (λ (ops : List Op). AllByRecursion (IsOp classes globals thread.vars) ops) thread.phases
+  pub nested : AllByRecursion (Nested 8 0) thread.phases
 
 abbrev pub op_count : List ThreadDecl → ℕ
 op_count threads = sum_by (λ (t : ThreadDecl). sum_by (λ (ops : List Op). length ops) t.phases) threads
 
+abbrev pub OpOfVersion : ℕ → Op → Type 0
+OpOfVersion version o = OfSecond version (begins_block o)
+
+abbrev pub ThreadOfVersion : ℕ → ThreadDecl → Type 0
+ThreadOfVersion version thread = AllByRecursion (λ (ops : List Op). AllByRecursion (OpOfVersion version) ops) thread.phases
+
 -- a script: what its names, kinds and classes must be, and the limits
 pub record IsScript (s : Script) : Type 0 where
+  pub version : (1 ≤ s.version) × (s.version ≤ 2)
+  pub classes_of_version : AllByRecursion (λ (c : ClassDecl). OfSecond s.version c.immortal) s.classes
+  pub threads_of_version : AllByRecursion (ThreadOfVersion s.version) s.threads
   pub heading : IsHeading s.shape s.classes s.globals
   pub few_threads : length s.threads ≤ 64
   pub threads : AllByRecursion (IsThread s.classes s.globals) s.threads

@@ -1,3 +1,5 @@
+//! Copies of scripts and their parts.
+
 ghost use Rattle.std.specs.Prelude.{◌≡◌, IfOk};
 
 use crate::script::{ClassDecl, FieldDecl, Op, ThreadDecl, VarDecl};
@@ -26,6 +28,7 @@ pub fn copied_classes(alloc: Global, classes: &[ClassDecl]) -> Result<Items<Clas
     for class in classes {
         copies.push(ClassDecl {
             name: class.name.copy(alloc)?,
+            immortal: class.immortal,
             fields: copied_fields(alloc, class.fields.as_slice())?,
         })?;
     }

@@ -1,15 +1,17 @@
+//! What the words of a declaration say.
+
 ghost use Rattle.std.specs.Prelude.{◌<◌, ◌≤◌, length, OnOk};
 ghost use Rattle.arc_script.specs.HeadLines.{decl_of};
 ghost use Rattle.arc_script.specs.Reading.{Gives};
 
-use crate::find::{class_place, kind_of, var_place};
+use crate::find::{class_place, is_weak_immortal, kind_of, var_place};
 use crate::reason::{LineFault, Reason};
 use crate::script::{ClassDecl, VarDecl};
 use arc_text::{Name, is_name};
 use std::alloc::Global;
 
 /// The variable or global that three words declare, behind those that there are, of which there may be `limit`. Refused with the
-/// first that holds of `Spelling`, `Again`, `Unknown`, `Kind` and `TooMany`; Memory where there is none. This project's own.
+/// first that holds of `Spelling`, `Again`, `Unknown`, `Kind`, `TooMany` and `WeakImmortal`; Memory where there is none. This project's own.
 pub fn decl_of(
     alloc: Global,
     limit: usize,
@@ -38,6 +40,9 @@ pub fn decl_of(
     };
     if vars.len() >= limit {
         return Err(LineFault::Refused(Reason::TooMany));
+    }
+    if is_weak_immortal(classes, kind, class) {
+        return Err(LineFault::Refused(Reason::WeakImmortal));
     }
     let Some(name) = Name::new(Vec::from_slice(alloc, name)?) else {
         return Err(LineFault::Refused(Reason::Spelling));

@@ -1,6 +1,8 @@
+//! Names among those that were declared.
+
 ghost use Rattle.std.specs.Prelude.{◌≡◌, ◌==◌, ◌≤◌, All, drop, length, true, false, MatchOption};
 ghost use Rattle.arc_script.specs.declared.script.ClassDecl.{ClassDecl};
-ghost use Rattle.arc_script.specs.Valid.{place_of, field_names, field_refs, fields_at, var_refs, ref_at, cell_ref};
+ghost use Rattle.arc_script.specs.Valid.{is_weak, is_weak_immortal, immortals_of, place_of, field_names, field_refs, fields_at, var_refs, ref_at, cell_ref};
 ghost use Rattle.arc_script.specs.Reading.{ScopeFits};
 ghost use Rattle.arc_script.specs.Lookups.{kind_of, same_kind, class_place, var_place, is_at_sign, is_dot, is_cell_word, is_cell_spelled, field_of, cell_of, has_strong_owner, is_owner};
 
@@ -32,6 +34,23 @@ pub fn same_kind(kind: Kind, other: Kind) -> bool
         Kind::Unowned => matches!(other, Kind::Unowned),
         Kind::Weak => matches!(other, Kind::Weak),
     }
+}
+
+pub fn is_weak(kind: Kind) -> bool
+    ensures { result ≡ is_weak kind }
+{
+    matches!(kind, Kind::Weak)
+}
+
+/// Whether this is a weak reference to an immortal class.
+pub fn is_weak_immortal(classes: &[ClassDecl], kind: Kind, class: u32) -> bool
+    ensures { result ≡ is_weak_immortal (immortals_of classes.now) kind class }
+{
+    is_weak(kind)
+        && match classes.get(class as usize) {
+            Some(class) => class.immortal,
+            None => false,
+        }
 }
 
 /// The place of the class with this name, from 0.

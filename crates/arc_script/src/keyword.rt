@@ -1,5 +1,7 @@
+//! Which kind of line its first word makes it.
+
 ghost use Rattle.std.specs.Prelude.{◌≡◌};
-ghost use Rattle.arc_script.specs.Keywords.{keyword_of, stands, is_heading_word, is_open};
+ghost use Rattle.arc_script.specs.Keywords.{keyword_of, is_later, comes, stands, is_heading_word, is_open};
 
 /// An operation on two variables.
 #[derive(Clone, Copy, Debug, PartialEq, Eq)]
@@ -11,6 +13,13 @@ pub enum PairWord {
     Load,
 }
 
+/// The beginning of a block.
+#[derive(Clone, Copy, Debug, PartialEq, Eq)]
+pub enum BlockWord {
+    IfNil,
+    IfSome,
+}
+
 /// The word that a line begins with.
 #[derive(Clone, Copy, Debug, PartialEq, Eq)]
 pub enum Keyword {
@@ -19,6 +28,7 @@ pub enum Keyword {
     Entries,
     Caps,
     Class,
+    Immortal,
     Global,
     Thread,
     Var,
@@ -27,6 +37,8 @@ pub enum Keyword {
     Pair(PairWord),
     Get,
     Set,
+    Block(BlockWord),
+    End,
     Phase,
     Schedule,
     Done,
@@ -41,11 +53,12 @@ pub enum Place {
     Slots,
     Entries,
     Caps,
+    /// A class, immortal or not.
     Class,
     Global,
     /// A thread or a variable.
     Thread,
-    /// An operation or the end of a phase.
+    /// An operation, the beginning or the end of a block, or the end of a phase.
     Operation,
     Schedule,
     /// `done` was read.
@@ -62,6 +75,7 @@ pub fn keyword_of(word: &[u8]) -> Option<Keyword>
         b"entries" => Some(Keyword::Entries),
         b"caps" => Some(Keyword::Caps),
         b"class" => Some(Keyword::Class),
+        b"immortal" => Some(Keyword::Immortal),
         b"global" => Some(Keyword::Global),
         b"thread" => Some(Keyword::Thread),
         b"var" => Some(Keyword::Var),
@@ -74,6 +88,9 @@ pub fn keyword_of(word: &[u8]) -> Option<Keyword>
         b"load" => Some(Keyword::Pair(PairWord::Load)),
         b"get" => Some(Keyword::Get),
         b"set" => Some(Keyword::Set),
+        b"ifnil" => Some(Keyword::Block(BlockWord::IfNil)),
+        b"ifsome" => Some(Keyword::Block(BlockWord::IfSome)),
+        b"end" => Some(Keyword::End),
         b"phase" => Some(Keyword::Phase),
         b"schedule" => Some(Keyword::Schedule),
         b"done" => Some(Keyword::Done),
@@ -88,16 +105,38 @@ pub fn is_open(place: Place) -> bool
     matches!(place, Place::Thread | Place::Operation)
 }
 
-/// Whether a line that begins so may come behind that line.
-pub fn stands(place: Place, keyword: Keyword) -> bool
-    ensures { result ≡ stands place keyword }
+/// Whether lines that begin so are of version 2 alone.
+fn is_later(keyword: Keyword) -> bool
+    ensures { result ≡ is_later keyword }
+{
+    matches!(
+        keyword,
+        Keyword::Immortal | Keyword::Block(_) | Keyword::End
+    )
+}
+
+/// Whether a line that begins so may come behind that line in a script of this version.
+pub fn stands(version: u32, place: Place, keyword: Keyword) -> bool
+    ensures { result ≡ stands version place keyword }
+{
+    if is_later(keyword) && version != 2 {
+        return false;
+    }
+    comes(place, keyword)
+}
+
+fn comes(place: Place, keyword: Keyword) -> bool
+    ensures { result ≡ comes place keyword }
 {
     match keyword {
         Keyword::Arc => matches!(place, Place::Start),
         Keyword::Slots => matches!(place, Place::Version),
         Keyword::Entries => matches!(place, Place::Slots),
         Keyword::Caps => matches!(place, Place::Entries),
-        Keyword::Class => matches!(place, Place::Entries | Place::Caps | Place::Class),
+        Keyword::Class | Keyword::Immortal => matches!(
+            place,
+            Place::Entries | Place::Caps | Place::Class
+        ),
         Keyword::Global => matches!(
             place,
             Place::Entries | Place::Caps | Place::Class | Place::Global
@@ -117,7 +156,9 @@ pub fn stands(place: Place, keyword: Keyword) -> bool
         | Keyword::Pair(_)
         | Keyword::Get
         | Keyword::Set
+        | Keyword::Block(_)
         | Keyword::Phase => is_open(place),
+        Keyword::End => !matches!(place, Place::Start),
         Keyword::Schedule | Keyword::Done => !matches!(
             place,
             Place::Start | Place::Version | Place::Slots | Place::Ended
@@ -131,6 +172,11 @@ pub fn is_heading_word(keyword: Keyword) -> bool
 {
     matches!(
         keyword,
-        Keyword::Slots | Keyword::Entries | Keyword::Caps | Keyword::Class | Keyword::Global
+        Keyword::Slots
+            | Keyword::Entries
+            | Keyword::Caps
+            | Keyword::Class
+            | Keyword::Immortal
+            | Keyword::Global
     )
 }

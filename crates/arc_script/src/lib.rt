@@ -13,9 +13,11 @@ mod script;
 pub use answer::{Answer, Line};
 pub use arc_text::Name;
 pub use declaration::decl_of;
-pub use find::{class_place, fields_at, kind_of, ref_at};
-pub use keyword::{Keyword, PairWord, Place, is_heading_word, is_open, keyword_of, stands};
-pub use operation::op_of;
+pub use find::{class_place, fields_at, is_weak, is_weak_immortal, kind_of, ref_at};
+pub use keyword::{
+    BlockWord, Keyword, PairWord, Place, is_heading_word, is_open, keyword_of, stands,
+};
+pub use operation::{begins_block, goes_to, op_of};
 pub use reason::{LineFault, Reason};
 pub use script::{
     ClassDecl, FieldDecl, Heading, Op, OpCell, ReadFault, Script, ThreadDecl, VarDecl,

@@ -1,12 +1,15 @@
+//! What the words of an operation say.
+
 ghost use Rattle.std.specs.Prelude.{◌≡◌, ◌≤◌, map, length};
 ghost use Rattle.arc_script.specs.Reading.{ScopeFits};
-ghost use Rattle.arc_script.specs.OpLines.{new_of, drop_of, pair_kinds, needs_two, pair_op, pair_of, at_cell, get_of, set_of, op_of};
+ghost use Rattle.arc_script.specs.Valid.{begins_block, goes_to};
+ghost use Rattle.arc_script.specs.OpLines.{new_of, drop_of, pair_kinds, needs_two, pair_op, pair_of, at_cell, get_of, set_of, block_op, block_of, op_of};
 
 use crate::find::{
     cell_of, cell_ref, class_place, has_strong_owner, is_cell_spelled, is_cell_word, is_owner,
     ref_at, same_kind, var_place,
 };
-use crate::keyword::{Keyword, PairWord};
+use crate::keyword::{BlockWord, Keyword, PairWord};
 use crate::reason::Reason;
 use crate::script::{ClassDecl, Op, OpCell, VarDecl};
 use arc_model::Kind;
@@ -184,6 +187,46 @@ fn set_of(
     }
 }
 
+fn block_op(word: BlockWord, var: u32) -> Op
+    ensures { result ≡ block_op word var }
+{
+    match word {
+        BlockWord::IfNil => Op::IfNil { var, to: 0 },
+        BlockWord::IfSome => Op::IfSome { var, to: 0 },
+    }
+}
+
+fn block_of(vars: &[VarDecl], word: BlockWord, var: &[u8]) -> Result<Op, Reason>
+    requires { length vars.now ≤ 256 }
+    ensures { result ≡ block_of vars.now word var.now }
+{
+    if !is_name(var) {
+        return Err(Reason::Spelling);
+    }
+    let Some(var) = var_place(vars, var) else {
+        return Err(Reason::Unknown);
+    };
+    Ok(block_op(word, var))
+}
+
+/// Whether a block begins here.
+pub fn begins_block(op: Op) -> bool
+    ensures { result ≡ begins_block op }
+{
+    matches!(op, Op::IfNil { .. } | Op::IfSome { .. })
+}
+
+/// The same beginning of a block that goes to this place.
+pub fn goes_to(to: u32, op: Op) -> Op
+    ensures { result ≡ goes_to to op }
+{
+    match op {
+        Op::IfNil { var, .. } => Op::IfNil { var, to },
+        Op::IfSome { var, .. } => Op::IfSome { var, to },
+        _ => op,
+    }
+}
+
 /// The operation that a line says: its first word and the words behind it, read among these classes, globals and variables. Else
 /// the least reason against it. This project's own.
 pub fn op_of(
@@ -215,6 +258,10 @@ pub fn op_of(
         },
         Keyword::Set => match words {
             [cell, from] => set_of(classes, globals, vars, cell, from),
+            _ => Err(Reason::WordCount),
+        },
+        Keyword::Block(word) => match words {
+            [var] => block_of(vars, word, var),
             _ => Err(Reason::WordCount),
         },
         _ => Err(Reason::WordCount),

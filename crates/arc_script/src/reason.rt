@@ -1,3 +1,5 @@
+//! The reasons for which a line is refused, by their numbers.
+
 ghost use Rattle.std.specs.Prelude.{◌≡◌};
 ghost use Rattle.arc_script.specs.Reasons.{reason_number};
 
@@ -30,10 +32,14 @@ pub enum Reason {
     TooMany,
     /// A wide cap below strong cap plus 1, or below the unowned cap.
     WideCap,
+    /// A weak field, global or variable of an immortal class.
+    WeakImmortal,
+    /// An `end` with no open block, or a line that may not stand while a block is open.
+    OpenBlock,
 }
 
 impl Reason {
-    /// The refusal's number, 1 to 12.
+    /// The refusal's number, 1 to 14.
     pub fn number(self) -> u32
         ensures { result ≡ reason_number self }
     {
@@ -50,6 +56,8 @@ impl Reason {
             Reason::SameVariable => 10,
             Reason::TooMany => 11,
             Reason::WideCap => 12,
+            Reason::WeakImmortal => 13,
+            Reason::OpenBlock => 14,
         }
     }
 }

@@ -1,3 +1,5 @@
+//! What a script is.
+
 use crate::copy::{copied_classes, copied_threads, copied_vars};
 use arc_model::{Kind, Memory, Shape};
 use arc_text::Name;
@@ -13,10 +15,12 @@ pub struct FieldDecl {
     pub class: u32,
 }
 
-/// A class with its fields, at most 8, in the order of declaration. The fields are an `Items`, which contracts see as the list.
+/// A class with its fields, at most 8, in the order of declaration. The fields are an `Items`, which contracts see as the list. The
+/// objects of an immortal class are never freed.
 #[derive(Debug, Drop)]
 pub struct ClassDecl {
     pub name: Name,
+    pub immortal: bool,
     pub fields: Items<FieldDecl>,
 }
 
@@ -35,7 +39,8 @@ pub enum OpCell {
     Global(u32),
 }
 
-/// An operation. Variables and classes are named by their places, from 0.
+/// An operation, or where a block begins. Variables and classes are named by their places, from 0. A block is what stands between
+/// its beginning and the place `to` in the list of the phase; it is passed over unless its variable is nil, or isn't.
 #[derive(Clone, Copy, Debug, PartialEq, Eq)]
 pub enum Op {
     New { to: u32, class: u32 },
@@ -47,6 +52,8 @@ pub enum Op {
     Load { to: u32, of: u32 },
     Get { to: u32, cell: OpCell },
     Set { cell: OpCell, from: u32 },
+    IfNil { var: u32, to: u32 },
+    IfSome { var: u32, to: u32 },
 }
 
 /// A thread's variables, at most 256, and the operations of each of its phases, 1 to 64.
@@ -60,6 +67,7 @@ pub struct ThreadDecl {
 /// `Vec` without taking memory. `IsScript` of `specs/Valid.antt` says which values are scripts.
 #[derive(Debug, Drop)]
 pub struct Script {
+    pub version: u32,
     pub shape: Shape,
     pub classes: Items<ClassDecl>,
     pub globals: Items<VarDecl>,
@@ -75,6 +83,7 @@ impl Script {
         ensures { IfOk result (λ s. s ≡ self.now) }
     {
         Ok(Script {
+            version: self.version,
             shape: self.shape.copy(alloc)?,
             classes: copied_classes(alloc, self.classes.as_slice())?,
             globals: copied_vars(alloc, self.globals.as_slice())?,

@@ -12,10 +12,11 @@ use Rattle.arc_model.specs.declared.shape.Kind.TheVariants as kind
 use Rattle.arc_script.specs.declared.script.FieldDecl.{FieldDecl}
 use Rattle.arc_script.specs.declared.script.ClassDecl.{ClassDecl}
 use Rattle.arc_script.specs.declared.script.VarDecl.{VarDecl}
-use Rattle.arc_script.specs.Valid.{name_at, place_of, AreNames, field_names, class_names, var_names, AreFields, AreClasses}
+use Rattle.arc_script.specs.Valid.{name_at, place_of, immortals_of, is_weak_immortal, AreNames, field_names, class_names, var_names, AreFields, AreClasses}
 use Rattle.arc_script.specs.Said.{HeadSaid}
+use Rattle.arc_script.specs.Group.{group_names}
 use Rattle.arc_script.specs.Lookups.{kind_of, same_kind, is_among, repeats, has_repeat, class_place, is_at_sign}
-use Rattle.arc_script.specs.HeadLines.{Spelled, is_field_word, spelled_of, is_misspelled, lacks_class, lacks_kind, declared_of, class_line, decl_of}
+use Rattle.arc_script.specs.HeadLines.{Spelled, is_field_word, spelled_of, is_misspelled, lacks_class, lacks_kind, declared_of, is_weak_field, class_line, decl_of}
 use Rattle.arc_script.specs.Canonical.{kind_word}
 use Rattle.arc_script.proofs.Inverted.{both}
 use Rattle.arc_script.proofs.Names.{AreApart}
@@ -177,15 +178,15 @@ class_at classes are i lt =
     let long : length (class_names classes) ≡ length classes = length-map classes (λ (c : ClassDecl). c.name) in
     (are.names.apart i (omega arith), are.names.spelled i (omega arith))
 
-pub decl_back : (limit : ℕ) (vars : List VarDecl) (classes : List ClassDecl) (v : VarDecl) → AreClasses classes → is_name v.name ≡ true → place_of (var_names vars) v.name ≡ None → v.class < length classes → length vars < limit
+pub decl_back : (limit : ℕ) (vars : List VarDecl) (classes : List ClassDecl) (v : VarDecl) → AreClasses classes → is_name v.name ≡ true → place_of (var_names vars) v.name ≡ None → v.class < length classes → length vars < limit → is_weak_immortal (immortals_of classes) v.kind v.class ≡ false
     → decl_of limit vars classes v.name (kind_word v.kind) (name_at (class_names classes) v.class) ≡ Ok v
-decl_back limit vars classes v are name fresh class room =
+decl_back limit vars classes v are name fresh class room allowed =
     let c = class_at classes are v.class class in
     let place = c.0 in
     let spelled = c.1 in
     let kinds = kind_back v.kind in
     let few : leb limit (length vars) ≡ false = search (rules, tests) in
-    rw (name, spelled, fresh, place, kinds, few) refl
+    rw (name, spelled, fresh, place, kinds, few, allowed) refl
 
 -- ---- fields of a class
 
@@ -266,9 +267,9 @@ good_fields names n (f ∷ fs) are long spelled of =
     let lt = of.0 in
     ((spelled 0 (omega arith), are.spelled f.class (omega arith), are.apart f.class (omega arith)), good_fields names n fs are long (λ i h. spelled (suc i) (omega arith)) of.1)
 
-pub class_back : (head : HeadSaid) (names : List (List ℕ)) (n : ℕ) (c : ClassDecl) → head.group ≡ names → AreNames 64 names → length names ≡ n → is_name c.name ≡ true → place_of (class_names head.classes) c.name ≡ None
-    → AreFields n c.fields → length head.classes < 64 → class_line head (c.name ∷ map (in_names names) c.fields) ≡ Ok (record head { classes = head.classes ++ c ∷ [] })
-class_back head names n c group are long name fresh fields room =
+pub class_back : (head : HeadSaid) (names : List (List ℕ)) (n : ℕ) (c : ClassDecl) → group_names head.group ≡ names → AreNames 64 names → length names ≡ n → is_name c.name ≡ true → place_of (class_names head.classes) c.name ≡ None
+    → AreFields n c.fields → length head.classes < 64 → list_any (is_weak_field head.group) c.fields ≡ false → class_line head c.immortal (c.name ∷ map (in_names names) c.fields) ≡ Ok (record head { classes = head.classes ++ c ∷ [] })
+class_back head names n c group are long name fresh fields room allowed =
     let good = good_fields names n c.fields are long fields.names.spelled fields.of_classes in
     let pass = words_pass names c.fields good in
     let back = words_back names c.fields good in
@@ -280,4 +281,4 @@ class_back head names n c group are long name fresh fields room =
     let most = fields.names.few in
     let few_fields : ltb 8 (length (spelled_fields names c.fields)) ≡ false = le-ltb _ _ (omega (arith, length-map c.fields (λ (f : FieldDecl). f.name), length-map c.fields (λ (f : FieldDecl). let s : Spelled = record { name = f.name; kind = kind_word f.kind; class = name_at names f.class } in s))) in
     let same = all_declared names c.fields good in
-    rw (pass, back, name, misspelled, fresh, once, group, known, kinds, few, few_fields, same) refl
+    rw (pass, back, name, misspelled, fresh, once, group, known, kinds, few, few_fields, same, allowed) refl

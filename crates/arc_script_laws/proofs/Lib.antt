@@ -3,6 +3,7 @@ pub mod FormsBack
 pub mod OpsBack
 pub mod LinesSpelled
 pub mod Written
+pub mod BlocksBack
 pub mod WrittenRead
 pub mod LineRefused
 pub mod FormsRefused

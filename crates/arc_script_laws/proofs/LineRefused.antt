@@ -1,12 +1,13 @@
 -- A line that is refused has what its reason says.
 use Rattle.std.proofs.Common.{◌≡◌, ◌≢◌, ℕ, zero, suc, ◌^◌, ◌<◌, ◌≤◌, Bool, true, false, cond, eqb, leb, ltb, ◌&&◌, ◌||◌, ◌⊎◌, inl, inr, List, [], ◌∷◌, ◌++◌, length, map, drop, Option, Some, None, Result, Ok, Err, refl, sym, ap, subst, ◌∙◌, arith, rules, tests, count_by}
-use Rattle.std.specs.Prelude.{not, is_some, bytes_eq, option_map}
+use Rattle.std.specs.Prelude.{not, is_some, bytes_eq, option_map, codes, slice_index_or}
 use Rattle.std.specs.List.{list_all, list_any, Any, before_first, after_first, position_or_len}
 use Rattle.std.proofs.lemmas.Bool.{ltb-false}
 use Rattle.std.proofs.lemmas.List.Sums.{fails_before_first, prefix_len-le-length}
 use Rattle.arc_text.specs.Words.{is_name, is_plain, number_in}
 use Rattle.arc_text.specs.Chain.{refuse, need}
 use Rattle.arc_model.specs.declared.shape.Kind.{Kind}
+use Rattle.arc_model.specs.declared.shape.Kind.TheVariants as kind
 use Rattle.arc_script.specs.declared.script.ClassDecl.{ClassDecl}
 use Rattle.arc_script.specs.declared.script.VarDecl.{VarDecl}
 use Rattle.arc_script.specs.declared.script.OpCell.{OpCell}
@@ -15,15 +16,17 @@ use Rattle.arc_script.specs.declared.reason.Reason.{Reason}
 use Rattle.arc_script.specs.declared.reason.Reason.TheVariants as why
 use Rattle.arc_script.specs.declared.keyword.Place.{Place}
 use Rattle.arc_script.specs.declared.operation.AtCell.{AtCell}
-use Rattle.arc_script.specs.Valid.{name_at, place_of, class_names, var_names, field_names, var_refs, ref_at, owner_fields, cell_ref}
+use Rattle.arc_script.specs.Valid.{name_at, place_of, immortals_of, is_weak, is_weak_immortal, class_names, var_names, field_names, var_refs, ref_at, owner_fields, cell_ref}
 use Rattle.arc_script.specs.Said.{HeadSaid, BodySaid}
 use Rattle.arc_script.specs.Lookups.{kind_of, same_kind, is_among, repeats, class_place, var_place, is_at_sign, is_dot, is_cell_word, is_cell_spelled, field_of, cell_of, has_strong_owner}
 use Rattle.arc_script.specs.HeadLines.{decl_of, with_global}
 use Rattle.arc_script.specs.OpLines.{at_cell}
 use Rattle.arc_script.specs.BodyLines.{with_var}
 use Rattle.arc_script.specs.Grammar.{Front, with_head, with_body}
-use Rattle.arc_script_laws.specs.Faults.{IsBadByte, IsNoNumber, IsNoKind, IsNoName, IsIn, IsNotIn, LacksCellParts, NameWord, cell_names, after_others, field_used, cell_used, CellIs}
-use Rattle.arc_script.proofs.Inverted.{passed, found, ok_is, neither, place_found, same_bytes, same_text}
+use Rattle.arc_script_laws.specs.Faults.{IsBadByte, IsNoNumber, IsNoKind, IsNoName, IsIn, IsNotIn, LacksCellParts, NameWord, cell_names, after_others, field_used, cell_used, CellIs, IsImmortalIn}
+use Rattle.arc_script.proofs.Inverted.{both, kind_is, passed, found, ok_is, neither, place_found, same_bytes, same_text}
+use Rattle.arc_script.specs.Group.{group_names, group_of}
+use Rattle.arc_script.proofs.ReadValid.{immortals_back}
 use Rattle.arc_script_laws.proofs.Spelled.{number_back}
 use Rattle.arc_script_laws.proofs.FormsBack.{kind_back, same_self}
 
@@ -147,14 +150,26 @@ two_names a b rest h = elim (either (not (is_name a)) (not (is_name b)) h) [
 
 -- ---- declarations
 
+pub weak_word : (w : List ℕ) (k : Kind) → kind_of w ≡ Some k → is_weak k ≡ true → w ≡ codes "weak"
+weak_word w kind.Weak is h = kind_is w kind.Weak is
+weak_word w k is h = absurd cc
+
+names_of : (classes : List ClassDecl) → group_names (group_of classes) ≡ class_names classes
+names_of [] = refl
+names_of (c ∷ cs) = ap (λ (ns : List (List ℕ)). c.name ∷ ns) (names_of cs)
+
 pub decl_fails : (P : Reason → Type 0) (limit : ℕ) (vars : List VarDecl) (classes : List ClassDecl) (name of_kind class : List ℕ) (r : Reason) → decl_of limit vars classes name of_kind class ≡ Err r
-    → (Any IsNoName (name ∷ class ∷ []) → P why.Spelling) → (IsIn (var_names vars) name → P why.Again) → (IsNotIn (class_names classes) class → P why.Unknown) → (IsNoKind of_kind → P why.Kind) → (limit ≤ length vars → P why.TooMany) → P r
-decl_fails P limit vars classes name of_kind class r e spelling again unknown_class kinds many =
+    → (Any IsNoName (name ∷ class ∷ []) → P why.Spelling) → (IsIn (var_names vars) name → P why.Again) → (IsNotIn (class_names classes) class → P why.Unknown) → (IsNoKind of_kind → P why.Kind) → (limit ≤ length vars → P why.TooMany)
+    → ((of_kind ≡ codes "weak") × IsImmortalIn (group_of classes) class → P why.WeakImmortal) → P r
+decl_fails P limit vars classes name of_kind class r e spelling again unknown_class kinds many weak =
     unless P (not (is_name name) || not (is_name class)) _ r _ e (λ h. spelling (two_names name class [] h)) (λ _ e.
     unless P (is_some (var_place vars name)) _ r _ e (λ h. again (is_in (var_names vars) name h)) (λ _ e.
-    unless_none P (class_place classes class) _ r _ e (λ none. unknown_class (not_in (class_names classes) class none)) (λ c _ e.
-    unless_none P (kind_of of_kind) _ r _ e (λ none. kinds (no_kind of_kind none)) (λ k _ e.
-    unless P (leb limit (length vars)) _ r _ e (λ h. many (search (rules, tests))) (λ _ e. accepted _ r e)))))
+    unless_none P (class_place classes class) _ r _ e (λ none. unknown_class (not_in (class_names classes) class none)) (λ c at e.
+    unless_none P (kind_of of_kind) _ r _ e (λ none. kinds (no_kind of_kind none)) (λ k is e.
+    unless P (leb limit (length vars)) _ r _ e (λ h. many (search (rules, tests))) (λ _ e.
+    unless P (is_weak_immortal (immortals_of classes) k c) _ r _ e (λ h.
+    let w = both (is_weak k) (slice_index_or (immortals_of classes) c false) h in
+    weak (weak_word of_kind k is w.0, (c, ap (λ (ns : List (List ℕ)). place_of ns class) (names_of classes) ∙ at, ap (λ (is : List Bool). slice_index_or is c false) (immortals_back classes) ∙ w.1))) (λ _ e. accepted _ r e))))))
 
 pub headless : (front : Front) (place : Place) (x : Result HeadSaid Reason) (r : Reason) → with_head front place x ≡ Err r → x ≡ Err r
 headless front place (Ok h) r e = absurd cc

@@ -1,5 +1,5 @@
 -- The lines of a canonical text are words.
-use Rattle.std.proofs.Common.{◌≡◌, ℕ, zero, suc, ◌+◌, ◌^◌, ◌<◌, ◌≤◌, true, List, [], ◌∷◌, ◌++◌, length, map, take, drop, refl, arith, lit≤, lit<}
+use Rattle.std.proofs.Common.{◌≡◌, ℕ, zero, suc, ◌+◌, ◌^◌, ◌<◌, ◌≤◌, Bool, true, false, cond, eqb, List, [], ◌∷◌, ◌++◌, length, map, take, drop, refl, arith, lit≤, lit<}
 use Rattle.std.specs.Prelude.{codes}
 use Rattle.std.specs.List.{AllByRecursion, flat_map}
 use Rattle.std.specs.Fmt.{decimal}
@@ -17,7 +17,7 @@ use Rattle.arc_script.specs.declared.script.Op.TheVariants as op
 use Rattle.arc_script.specs.declared.script.ThreadDecl.{ThreadDecl}
 use Rattle.arc_script.specs.declared.script.Script.{Script}
 use Rattle.arc_script.specs.Valid.{name_at, field_names, class_names, var_names, var_refs, ref_at, owner_fields, IsCell, IsOp, AreFields, AreClasses, AreVars, IsThread, IsScript}
-use Rattle.arc_script.specs.Canonical.{kind_word, field_word, cell_word, numbers_line, class_line, decl_line, heading_lines, op_line, op_lines, later_phase, phase_lines, thread_lines, threads_lines, schedule_upto, schedule_lines, script_lines}
+use Rattle.arc_script.specs.Canonical.{kind_word, field_word, cell_word, numbers_line, class_line, decl_line, heading_lines, op_line, class_word, ends_at, still_open, with_end, ops_from, op_lines, later_phase, phase_lines, thread_lines, threads_lines, schedule_upto, schedule_lines, script_lines}
 use Rattle.arc_script_laws.proofs.Spelled.{IsInk, IsWord, word_from_test, name_word, decimal_word, marked_word, sign_word}
 use Rattle.arc_script_laws.proofs.OpsBack.{fields_of}
 
@@ -66,8 +66,12 @@ fields_spelled classes are (f ∷ fs) spelled of = (
   fields_spelled classes are fs (λ i h. spelled (suc i) (omega arith)) of.1,
 )
 
+pub class_word_spelled : (immortal : Bool) → IsWord (class_word immortal)
+class_word_spelled true = word_from_test (codes "immortal") refl
+class_word_spelled false = word_from_test (codes "class") refl
+
 pub class_spelled : (classes : List ClassDecl) → AreClasses classes → (c : ClassDecl) → is_name c.name ≡ true → AreFields (length classes) c.fields → IsLine (class_line classes c)
-class_spelled classes are c name fields = (word_from_test (codes "class") refl, (name_word c.name name, fields_spelled classes are c.fields fields.names.spelled fields.of_classes))
+class_spelled classes are c name fields = (class_word_spelled c.immortal, (name_word c.name name, fields_spelled classes are c.fields fields.names.spelled fields.of_classes))
 
 classes_spelled : (classes : List ClassDecl) → AreClasses classes → (cs : List ClassDecl) → ((i : ℕ) → i < length (class_names cs) → is_name (name_at (class_names cs) i) ≡ true) → AllByRecursion (λ (c : ClassDecl). AreFields (length classes) c.fields) cs
     → AreLines (map (class_line classes) cs)
@@ -83,6 +87,14 @@ decls_spelled w word classes are [] spelled of = tt
 decls_spelled w word classes are (v ∷ vs) spelled of = (decl_spelled w word classes are v (spelled 0 (omega arith)) of.0, decls_spelled w word classes are vs (λ i h. spelled (suc i) (omega arith)) of.1)
 
 -- ---- operations
+
+cond_lines : (b : Bool) (xs : List (List (List ℕ))) → AreLines xs → AreLines (cond b xs [])
+cond_lines true xs h = h
+cond_lines false xs h = tt
+
+ends_spelled : (at : ℕ) (ends : List ℕ) → AreLines (ends_at at ends)
+ends_spelled at [] = tt
+ends_spelled at (e ∷ ends) = cond_lines (eqb e at) ((codes "end" ∷ []) ∷ ends_at at ends) ((word_from_test (codes "end") refl, tt), ends_spelled at ends)
 
 module _ (classes : List ClassDecl) (are : AreClasses classes) (globals : List VarDecl) (cells : AreVars 64 (length classes) globals) (vars : List VarDecl) (known : AreVars 256 (length classes) vars) where
   var_spelled : (i : ℕ) → i < length vars → IsWord (name_at (var_names vars) i)
@@ -109,11 +121,18 @@ module _ (classes : List ClassDecl) (are : AreClasses classes) (globals : List V
   op_spelled (op.Weak to of) h = (word_from_test (codes "weak") refl, (var_spelled to h.to_there, (var_spelled of h.of_there, tt)))
   op_spelled (op.Load to of) h = let p = h.0 in (word_from_test (codes "load") refl, (var_spelled to p.to_there, (var_spelled of p.of_there, tt)))
   op_spelled (op.Get to c) h = (word_from_test (codes "get") refl, (var_spelled to h.0, (cell_spelled c h.1, tt)))
+  op_spelled (op.IfNil var to) h = (word_from_test (codes "ifnil") refl, (var_spelled var h, tt))
+  op_spelled (op.IfSome var to) h = (word_from_test (codes "ifsome") refl, (var_spelled var h, tt))
   op_spelled (op.Set c from) h = (word_from_test (codes "set") refl, (cell_spelled c h.1, (var_spelled from h.0, tt)))
 
+  ops_from_spelled : (at : ℕ) (ends : List ℕ) (os : List Op) → AllByRecursion (IsOp classes globals vars) os → AreLines (ops_from classes globals vars at ends os)
+  ops_from_spelled at ends [] h = ends_spelled at ends
+  ops_from_spelled at ends (o ∷ os) h =
+      lines_append (ends_at at ends) (op_line classes globals vars o ∷ ops_from classes globals vars (at + 1) (with_end o (still_open at ends)) os) (ends_spelled at ends)
+      (op_spelled o h.0, ops_from_spelled (at + 1) (with_end o (still_open at ends)) os h.1)
+
   ops_spelled : (os : List Op) → AllByRecursion (IsOp classes globals vars) os → AreLines (op_lines classes globals vars os)
-  ops_spelled [] h = tt
-  ops_spelled (o ∷ os) h = (op_spelled o h.0, ops_spelled os h.1)
+  ops_spelled os h = ops_from_spelled 0 [] os h
 
   later_spelled : (phases : List (List Op)) → AllByRecursion (λ (ops : List Op). AllByRecursion (IsOp classes globals vars) ops) phases → AreLines (flat_map (later_phase classes globals vars) phases)
   later_spelled [] h = tt
@@ -160,6 +179,7 @@ small_places threads (p ∷ places) few h = let q = h.0 in let most = q.1 in (om
 pub script_spelled : (s : Script) → IsScript s → s.shape.caps.wide < 2 ^ 32 → AreLines (script_lines s)
 script_spelled s h most =
     let head = h.heading in
+    let version = h.version.1 in
     let slots = head.slots.1 in
     let entries = head.entries.1 in
     let strong = head.caps.strong_fits in
@@ -172,7 +192,7 @@ script_spelled s h most =
     let decls : AreLines (map (class_line s.classes) s.classes ++ map (decl_line (codes "global") s.classes) s.globals) =
     lines_append (map (class_line s.classes) s.classes) (map (decl_line (codes "global") s.classes) s.globals) (classes_spelled s.classes head.classes_named s.classes head.classes_named.names.spelled head.classes_named.fields)
     (decls_spelled (codes "global") (word_from_test (codes "global") refl) s.classes head.classes_named s.globals head.globals_named.names.spelled head.globals_named.of_classes) in (
-      numbers_spelled (codes "arc") (1 ∷ []) (word_from_test (codes "arc") refl) (lit< tt, tt),
+      numbers_spelled (codes "arc") (s.version ∷ []) (word_from_test (codes "arc") refl) (omega arith, tt),
       lines_append (heading_lines s.shape s.classes s.globals) (threads_lines s.classes s.globals 1 s.threads ++ (schedule_lines s.schedule ++ (codes "done" ∷ []) ∷ [])) (
         numbers_spelled (codes "slots") (s.shape.slots ∷ []) (word_from_test (codes "slots") refl) (omega arith, tt),
         (

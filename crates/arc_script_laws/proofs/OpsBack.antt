@@ -15,9 +15,10 @@ use Rattle.arc_script.specs.declared.script.Op.{Op}
 use Rattle.arc_script.specs.declared.script.Op.TheVariants as op
 use Rattle.arc_script.specs.declared.keyword.PairWord.{PairWord}
 use Rattle.arc_script.specs.declared.keyword.PairWord.TheVariants as pair
+use Rattle.arc_script.specs.declared.keyword.BlockWord.TheVariants as block
 use Rattle.arc_script.specs.declared.keyword.Keyword.{Keyword}
 use Rattle.arc_script.specs.declared.keyword.Keyword.TheVariants as word
-use Rattle.arc_script.specs.Valid.{name_at, place_of, AreNames, field_names, class_names, var_names, var_refs, ref_at, owner_fields, cell_ref, IsCell, NotOwner, IsOp, AreFields, AreClasses, AreVars}
+use Rattle.arc_script.specs.Valid.{name_at, place_of, AreNames, field_names, class_names, var_names, var_refs, ref_at, owner_fields, cell_ref, IsCell, NotOwner, IsOp, goes_to, AreFields, AreClasses, AreVars}
 use Rattle.arc_script.specs.Lookups.{same_kind, var_place, is_at_sign, is_cell_word, is_cell_spelled, cell_of, has_strong_owner, is_owner}
 use Rattle.arc_script.specs.OpLines.{pair_kinds, needs_two, pair_op, pair_of, at_cell, op_of}
 use Rattle.arc_script.specs.Canonical.{cell_word}
@@ -127,6 +128,8 @@ module _ (classes : List ClassDecl) (are : AreClasses classes) (globals : List V
   op_keyword (op.Load to of) = word.Pair pair.Load
   op_keyword (op.Get to c) = word.Get
   op_keyword (op.Set c from) = word.Set
+  op_keyword (op.IfNil var to) = word.Block block.IfNil
+  op_keyword (op.IfSome var to) = word.Block block.IfSome
 
   abbrev pub op_rest : Op → List (List ℕ)
   op_rest (op.New to class) = var_name vars to ∷ name_at (class_names classes) class ∷ []
@@ -138,11 +141,16 @@ module _ (classes : List ClassDecl) (are : AreClasses classes) (globals : List V
   op_rest (op.Load to of) = var_name vars to ∷ var_name vars of ∷ []
   op_rest (op.Get to c) = var_name vars to ∷ cell_word classes globals vars c ∷ []
   op_rest (op.Set c from) = cell_word classes globals vars c ∷ var_name vars from ∷ []
+  op_rest (op.IfNil var to) = var_name vars var ∷ []
+  op_rest (op.IfSome var to) = var_name vars var ∷ []
 
   both_true : (a b : Bool) → a ≡ true → b ≡ true → (a && b) ≡ true
   both_true a b h k = rw (h, k) refl
 
-  pub op_back : (o : Op) → IsOp classes globals vars o → op_of classes globals vars (op_keyword o) (op_rest o) ≡ Ok o
+  -- where a block begins, its end isn't known
+  pub op_back : (o : Op) → IsOp classes globals vars o → op_of classes globals vars (op_keyword o) (op_rest o) ≡ Ok (goes_to 0 o)
+  op_back (op.IfNil var to) h = let at = var_at 256 (length classes) vars known var h in let place = at.0 in let name = at.1 in rw (name, place) refl
+  op_back (op.IfSome var to) h = let at = var_at 256 (length classes) vars known var h in let place = at.0 in let name = at.1 in rw (name, place) refl
   op_back (op.New to class) h =
       let at = var_at 256 (length classes) vars known to h.0 in
       let place = at.0 in

@@ -11,7 +11,7 @@ use Rattle.arc_script.specs.declared.keyword.Place.{Place}
 use Rattle.arc_script.specs.declared.keyword.Place.TheVariants as behind
 use Rattle.arc_script.specs.Reasons.{reason_number}
 use Rattle.arc_script.specs.Grammar.{Front, Refusal, refused, nothing, settled, said_line, words_line, any_line, then_lines, is_ended, script_said, lines_from, script_of}
-use Rattle.arc_script.specs.Accepted.{IsPassedOver, Says, Tells, end, passed, said}
+use Rattle.arc_script.specs.Accepted.{IsPassedOver, Says, Tells, nothing_left, passed, said}
 use Rattle.arc_script_laws.specs.Faults.{LineHas}
 use Rattle.arc_script_laws.specs.Refused.{Leads, no_line, over_line, told_line, IsRefused, without_done, at_line}
 use Rattle.arc_script_laws.proofs.FormsRefused.{line_has}
@@ -53,7 +53,7 @@ end_found n front r true p e = absurd cc
 end_found n front r false p e =
     let same : record { line = n; why = 2 } ≡ r = cc in
     let number : r.line ≡ n = ap (λ (q : Refusal). q.line) (sym same) in
-    no_end front end (not_ended front.place p) (omega arith) (ap (λ (q : Refusal). q.why) (sym same))
+    no_end front nothing_left (not_ended front.place p) (omega arith) (ap (λ (q : Refusal). q.why) (sym same))
 
 over_found : (n : ℕ) (front : Front) (line : List ℕ) (rest : List (List ℕ)) (r : Refusal) → IsPassedOver line → Found (n + 1) front rest r → Found n front (line ∷ rest) r
 over_found n front line rest r over (no_end last tells not number why_is) = no_end last (passed line rest over tells) not (omega arith) why_is
@@ -84,9 +84,9 @@ found : (lines : List (List ℕ)) (n : ℕ) (front : Front) (r : Refusal) → Ag
 found [] n front r a e = end_found n front r (is_ended front.place) refl e
 found (line ∷ rest) n front r a e = line_found line rest n front r (any_line front line rest) refl a (λ next b f. found rest (n + 1) next r b f) e
 
-as_refused : (text : List ℕ) (r : Refusal) → Found 1 (nothing behind.Start) (lines_of text) r → IsRefused text r
+as_refused : (text : List ℕ) (r : Refusal) → Found 1 (nothing 1 behind.Start) (lines_of text) r → IsRefused text r
 as_refused text r (no_end last tells not number why_is) = without_done last tells not (omega arith) why_is
 as_refused text r (one_line before rest words line first front reason e leads w has number why_is) = at_line before rest words line first front reason e leads w has (omega arith) why_is
 
 pub text_refused : (text : List ℕ) (r : Refusal) → script_of text ≡ Err r → IsRefused text r
-text_refused text r e = as_refused text r (found (lines_of text) 1 (nothing behind.Start) r (nothing_agrees (lines_of text)) e)
+text_refused text r e = as_refused text r (found (lines_of text) 1 (nothing 1 behind.Start) r (nothing_agrees (lines_of text)) e)

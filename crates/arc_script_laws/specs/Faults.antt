@@ -1,5 +1,5 @@
 -- What a line has that is refused: a sentence for each reason.
-use Rattle.std.specs.Prelude.{◌≡◌, ◌≢◌, ℕ, ◌+◌, ◌<◌, ◌≤◌, true, false, ◌⊎◌, List, [], ◌∷◌, ◌++◌, length, map, drop, Option, Some, None, if◌then◌else◌, count_by}
+use Rattle.std.specs.Prelude.{◌≡◌, ◌≢◌, ℕ, ◌+◌, ◌<◌, ◌≤◌, Bool, true, false, ◌⊎◌, codes, slice_index_or, List, [], ◌∷◌, ◌++◌, length, map, drop, Option, Some, None, if◌then◌else◌, count_by}
 use Rattle.std.specs.List.{Any, flat_map, before_first, after_first}
 use Rattle.std.specs.Fmt.{decimal}
 use Rattle.arc_text.specs.Words.{is_name}
@@ -12,7 +12,9 @@ use Rattle.arc_script.specs.declared.reason.Reason.TheVariants as why
 use Rattle.arc_script.specs.declared.keyword.Keyword.{Keyword}
 use Rattle.arc_script.specs.declared.keyword.Keyword.TheVariants as word
 use Rattle.arc_script.specs.Keywords.{keyword_of, stands}
-use Rattle.arc_script.specs.Valid.{name_at, class_names, var_names, field_names, owner_fields, ref_at, var_refs, cell_ref, kind_at}
+use Rattle.arc_script.specs.Said.{Grouped}
+use Rattle.arc_script.specs.Group.{group_names, group_immortals, group_of}
+use Rattle.arc_script.specs.Valid.{name_at, place_of, class_names, var_names, field_names, owner_fields, ref_at, var_refs, cell_ref, kind_at}
 use Rattle.arc_script.specs.Lookups.{var_place, class_place, cell_of, is_at_sign, is_dot, has_strong_owner, is_owner}
 use Rattle.arc_script.specs.HeadLines.{is_colon, spelled_of}
 use Rattle.arc_script.specs.OpLines.{pair_kinds, needs_two}
@@ -68,6 +70,7 @@ CountFits word.Slots n = n ≡ 1
 CountFits word.Entries n = n ≡ 1
 CountFits word.Caps n = n ≡ 3
 CountFits word.Class n = 1 ≤ n
+CountFits word.Immortal n = 1 ≤ n
 CountFits word.Global n = n ≡ 3
 CountFits word.Thread n = n ≡ 1
 CountFits word.Var n = n ≡ 3
@@ -76,12 +79,15 @@ CountFits word.Drop n = n ≡ 1
 CountFits (word.Pair w) n = n ≡ 2
 CountFits word.Get n = n ≡ 2
 CountFits word.Set n = n ≡ 2
+CountFits (word.Block w) n = n ≡ 1
+CountFits word.End n = n ≡ 0
 CountFits word.Phase n = n ≡ 0
 CountFits word.Schedule n = 1 ≤ n
 CountFits word.Done n = n ≡ 0
 
 abbrev pub field_words : Keyword → List (List ℕ) → List (List ℕ)
 field_words word.Class (name ∷ fields) = fields
+field_words word.Immortal (name ∷ fields) = fields
 field_words k words = []
 
 abbrev pub cell_words : Keyword → List (List ℕ) → List (List ℕ)
@@ -90,7 +96,7 @@ cell_words word.Set (cell ∷ from ∷ []) = cell ∷ []
 cell_words k words = []
 
 abbrev pub number_words : Front → Keyword → List (List ℕ) → List NumberWord
-number_words front word.Arc (w ∷ []) = record { low = 1; high = 1; text = w } ∷ []
+number_words front word.Arc (w ∷ []) = record { low = 1; high = 2; text = w } ∷ []
 number_words front word.Slots (w ∷ []) = record { low = 1; high = 4096; text = w } ∷ []
 number_words front word.Entries (w ∷ []) = record { low = 1; high = 4096; text = w } ∷ []
 number_words front word.Caps (s ∷ u ∷ w ∷ []) = record { low = 0; high = 1073741823; text = s } ∷ record { low = 1; high = 2147483647; text = u } ∷ record { low = 1; high = 4294967295; text = w } ∷ []
@@ -107,6 +113,7 @@ field_parts w = (spelled_of w).name ∷ (spelled_of w).class ∷ []
 -- what is to be spelled as a name
 abbrev pub name_words : Keyword → List (List ℕ) → List (List ℕ)
 name_words word.Class (name ∷ fields) = name ∷ flat_map field_parts fields
+name_words word.Immortal (name ∷ fields) = name ∷ flat_map field_parts fields
 name_words word.Global (name ∷ of_kind ∷ class ∷ []) = name ∷ class ∷ []
 name_words word.Var (name ∷ of_kind ∷ class ∷ []) = name ∷ class ∷ []
 name_words word.New (to ∷ class ∷ []) = to ∷ class ∷ []
@@ -114,6 +121,7 @@ name_words word.Drop (var ∷ []) = var ∷ []
 name_words (word.Pair w) (to ∷ of ∷ []) = to ∷ of ∷ []
 name_words word.Get (to ∷ cell ∷ []) = to ∷ cell_names cell
 name_words word.Set (cell ∷ from ∷ []) = from ∷ cell_names cell
+name_words (word.Block w) (var ∷ []) = var ∷ []
 name_words k words = []
 
 -- each with those that stand before it
@@ -121,9 +129,13 @@ abbrev pub after_others : List (List ℕ) → List (List ℕ) → List NameWord
 after_others seen [] = []
 after_others seen (n ∷ ns) = record { set = seen; name = n } ∷ after_others (seen ++ n ∷ []) ns
 
+abbrev pub class_names_new : Front → List ℕ → List (List ℕ) → List NameWord
+class_names_new front name fields = record { set = class_names front.head.classes; name = name } ∷ after_others [] (map (λ (w : List ℕ). (spelled_of w).name) fields)
+
 -- names that a line gives
 abbrev pub new_names : Front → Keyword → List (List ℕ) → List NameWord
-new_names front word.Class (name ∷ fields) = record { set = class_names front.head.classes; name = name } ∷ after_others [] (map (λ (w : List ℕ). (spelled_of w).name) fields)
+new_names front word.Class (name ∷ fields) = class_names_new front name fields
+new_names front word.Immortal (name ∷ fields) = class_names_new front name fields
 new_names front word.Global (name ∷ of_kind ∷ class ∷ []) = record { set = var_names front.head.globals; name = name } ∷ []
 new_names front word.Var (name ∷ of_kind ∷ class ∷ []) = record { set = var_names front.body.vars; name = name } ∷ []
 new_names front k words = []
@@ -137,9 +149,16 @@ cell_used front w =
     if is_at_sign w then record { set = var_names front.head.globals; name = drop 1 w } ∷ []
     else record { set = var_names front.body.vars; name = before_first is_dot w } ∷ field_used front (var_place front.body.vars (before_first is_dot w)) (after_first is_dot w)
 
+abbrev pub group_at : Front → Bool → List ℕ → List (List ℕ) → List Grouped
+group_at front immortal name lines = (run_head front immortal name lines).group
+
+abbrev pub class_names_used : List Grouped → List (List ℕ) → List NameWord
+class_names_used group fields = map (λ (w : List ℕ). let n : NameWord = record { set = group_names group; name = (spelled_of w).class } in n) fields
+
 -- names that a line needs. A class of a field may be that of any line of the group
 abbrev pub used_names : Front → Keyword → List (List ℕ) → List (List ℕ) → List NameWord
-used_names front word.Class (name ∷ fields) lines = map (λ (w : List ℕ). let n : NameWord = record { set = (run_head front name lines).group; name = (spelled_of w).class } in n) fields
+used_names front word.Class (name ∷ fields) lines = class_names_used (group_at front false name lines) fields
+used_names front word.Immortal (name ∷ fields) lines = class_names_used (group_at front true name lines) fields
 used_names front word.Global (name ∷ of_kind ∷ class ∷ []) lines = record { set = class_names front.head.classes; name = class } ∷ []
 used_names front word.Var (name ∷ of_kind ∷ class ∷ []) lines = record { set = class_names front.head.classes; name = class } ∷ []
 used_names front word.New (to ∷ class ∷ []) lines = record { set = var_names front.body.vars; name = to } ∷ record { set = class_names front.head.classes; name = class } ∷ []
@@ -147,10 +166,12 @@ used_names front word.Drop (var ∷ []) lines = record { set = var_names front.b
 used_names front (word.Pair w) (to ∷ of ∷ []) lines = record { set = var_names front.body.vars; name = to } ∷ record { set = var_names front.body.vars; name = of } ∷ []
 used_names front word.Get (to ∷ cell ∷ []) lines = record { set = var_names front.body.vars; name = to } ∷ cell_used front cell
 used_names front word.Set (cell ∷ from ∷ []) lines = record { set = var_names front.body.vars; name = from } ∷ cell_used front cell
+used_names front (word.Block w) (var ∷ []) lines = record { set = var_names front.body.vars; name = var } ∷ []
 used_names front k words lines = []
 
 abbrev pub kind_words : Keyword → List (List ℕ) → List (List ℕ)
 kind_words word.Class (name ∷ fields) = map (λ (w : List ℕ). (spelled_of w).kind) fields
+kind_words word.Immortal (name ∷ fields) = map (λ (w : List ℕ). (spelled_of w).kind) fields
 kind_words word.Global (name ∷ of_kind ∷ class ∷ []) = of_kind ∷ []
 kind_words word.Var (name ∷ of_kind ∷ class ∷ []) = of_kind ∷ []
 kind_words k words = []
@@ -200,6 +221,7 @@ NamesOneVariable front k words = ⊥
 
 abbrev pub IsTooMany : Front → Keyword → List (List ℕ) → Type 0
 IsTooMany front word.Class words = (64 ≤ length front.head.classes) ⊎ (9 < length words)
+IsTooMany front word.Immortal words = (64 ≤ length front.head.classes) ⊎ (9 < length words)
 IsTooMany front word.Global words = 64 ≤ length front.head.globals
 IsTooMany front word.Thread words = 64 ≤ length (settled front).threads
 IsTooMany front word.Var words = 256 ≤ length front.body.vars
@@ -208,6 +230,7 @@ IsTooMany front word.Drop words = 100000 ≤ front.body.count
 IsTooMany front (word.Pair w) words = 100000 ≤ front.body.count
 IsTooMany front word.Get words = 100000 ≤ front.body.count
 IsTooMany front word.Set words = 100000 ≤ front.body.count
+IsTooMany front (word.Block w) words = (100000 ≤ front.body.count) ⊎ (8 ≤ length front.body.opened)
 IsTooMany front word.Phase words = 63 ≤ length front.body.phases
 IsTooMany front word.Schedule words = 1000000 < length (settled front).schedule + length words
 IsTooMany front k words = ⊥
@@ -215,6 +238,35 @@ IsTooMany front k words = ⊥
 abbrev pub HasLowWideCap : Keyword → List (List ℕ) → Type 0
 HasLowWideCap word.Caps (s ∷ u ∷ w ∷ []) = (strong unowned wide : ℕ) × (s ≡ decimal strong) × (u ≡ decimal unowned) × (w ≡ decimal wide) × ((wide < strong + 1) ⊎ (wide < unowned))
 HasLowWideCap k words = ⊥
+
+-- ---- what version 2 adds
+
+-- the first line of the group with this name is that of an immortal class
+abbrev pub IsImmortalIn : List Grouped → List ℕ → Type 0
+IsImmortalIn group name = (i : ℕ) × (place_of (group_names group) name ≡ Some i) × (slice_index_or (group_immortals group) i false ≡ true)
+
+abbrev pub IsWeakField : List Grouped → List ℕ → Type 0
+IsWeakField group w = ((spelled_of w).kind ≡ codes "weak") × IsImmortalIn group (spelled_of w).class
+
+abbrev pub IsWeakDecl : Front → List ℕ → List ℕ → Type 0
+IsWeakDecl front of_kind class = (of_kind ≡ codes "weak") × IsImmortalIn (group_of front.head.classes) class
+
+-- a weak field, global or variable of an immortal class
+abbrev pub HasWeakImmortal : Front → Keyword → List (List ℕ) → List (List ℕ) → Type 0
+HasWeakImmortal front word.Class (name ∷ fields) lines = Any (IsWeakField (group_at front false name lines)) fields
+HasWeakImmortal front word.Immortal (name ∷ fields) lines = Any (IsWeakField (group_at front true name lines)) fields
+HasWeakImmortal front word.Global (name ∷ of_kind ∷ class ∷ []) lines = IsWeakDecl front of_kind class
+HasWeakImmortal front word.Var (name ∷ of_kind ∷ class ∷ []) lines = IsWeakDecl front of_kind class
+HasWeakImmortal front k words lines = ⊥
+
+-- an end where no block is open, or a line that may not stand where one is
+abbrev pub HasOpenBlock : Front → Keyword → Type 0
+HasOpenBlock front word.End = front.body.opened ≡ []
+HasOpenBlock front word.Phase = front.body.opened ≢ []
+HasOpenBlock front word.Thread = (settled front).opened ≢ []
+HasOpenBlock front word.Schedule = (settled front).opened ≢ []
+HasOpenBlock front word.Done = (settled front).opened ≢ []
+HasOpenBlock front k = ⊥
 
 -- ---- the sentences
 
@@ -232,9 +284,11 @@ HasFault why.Classes front k words lines = HasTwoClasses front k words
 HasFault why.SameVariable front k words lines = NamesOneVariable front k words
 HasFault why.TooMany front k words lines = IsTooMany front k words
 HasFault why.WideCap front k words lines = HasLowWideCap k words
+HasFault why.WeakImmortal front k words lines = HasWeakImmortal front k words lines
+HasFault why.OpenBlock front k words lines = HasOpenBlock front k
 
 -- of any line: first is its first word, words are those behind it, and lines stand behind it
 abbrev pub LineHas : Reason → Front → List ℕ → List ℕ → List (List ℕ) → List (List ℕ) → Type 0
 LineHas why.Byte front line first words lines = Any IsBadByte line
-LineHas why.FirstWord front line first words lines = (keyword_of first ≡ None) ⊎ ((k : Keyword) × (keyword_of first ≡ Some k) × (stands front.place k ≡ false))
+LineHas why.FirstWord front line first words lines = (keyword_of first ≡ None) ⊎ ((k : Keyword) × (keyword_of first ≡ Some k) × (stands front.head.version front.place k ≡ false))
 LineHas reason front line first words lines = (k : Keyword) × (keyword_of first ≡ Some k) × HasFault reason front k words lines

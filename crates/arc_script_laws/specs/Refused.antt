@@ -19,6 +19,6 @@ pub data Leads (front : Front) (rest : List (List ℕ)) : Front → List (List �
 
 -- all lines before it were accepted, and it has a fault of this number; the line after the last stands for a `done` that is missing
 pub data IsRefused (text : List ℕ) (r : Refusal) : Type 0 where
-  without_done : (last : Front) → Tells last (nothing behind.Start) (lines_of text) → last.place ≢ behind.Ended → r.line ≡ length (lines_of text) + 1 → r.why ≡ reason_number why.FirstWord → IsRefused text r
-  at_line : (before rest words : List (List ℕ)) (line first : List ℕ) (front : Front) (reason : Reason) → lines_of text ≡ before ++ line ∷ rest → Leads front (line ∷ rest) (nothing behind.Start) before
+  without_done : (last : Front) → Tells last (nothing 1 behind.Start) (lines_of text) → last.place ≢ behind.Ended → r.line ≡ length (lines_of text) + 1 → r.why ≡ reason_number why.FirstWord → IsRefused text r
+  at_line : (before rest words : List (List ℕ)) (line first : List ℕ) (front : Front) (reason : Reason) → lines_of text ≡ before ++ line ∷ rest → Leads front (line ∷ rest) (nothing 1 behind.Start) before
       → words_of line ≡ first ∷ words → LineHas reason front line first words rest → r.line ≡ length before + 1 → r.why ≡ reason_number reason → IsRefused text r

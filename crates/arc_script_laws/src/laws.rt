@@ -8,7 +8,7 @@ ghost use Rattle.arc_script.specs.Canonical.{canonical};
 ghost use Rattle.arc_script.specs.Accepted.{Says, StandsFor};
 ghost use Rattle.arc_script.specs.declared.reason.Reason.{Reason};
 ghost use Rattle.arc_script_laws.specs.Faults.{IsIn, LineHas};
-ghost use Rattle.arc_script.specs.Group.{run_names};
+ghost use Rattle.arc_script.specs.Group.{run_group, group_names};
 ghost use Rattle.arc_script_laws.specs.Runs.{HasInRun};
 ghost use Rattle.arc_script_laws.specs.Refused.{IsRefused};
 
@@ -45,6 +45,6 @@ pub fn refused_text_has()
 
 /// The names that a class line may use are those that stand as second words in its unbroken run of class lines.
 pub fn run_has_names()
-    ensures has { (lines : List (List ℕ)) (name : List ℕ) → IsIn (run_names lines) name → HasInRun name lines }
-    ensures names { (lines : List (List ℕ)) (name : List ℕ) → HasInRun name lines → IsIn (run_names lines) name }
+    ensures has { (version : ℕ) (lines : List (List ℕ)) (name : List ℕ) → IsIn (group_names (run_group version lines)) name → HasInRun version name lines }
+    ensures names { (version : ℕ) (lines : List (List ℕ)) (name : List ℕ) → HasInRun version name lines → IsIn (group_names (run_group version lines)) name }
 {}

@@ -20,6 +20,9 @@ const TWO_VARS: &str =
 const FOUR_VARS: &str =
     "arc 1\nslots 1\nentries 1\nclass A f:strong:A\nthread 1\nvar a strong A\nvar b strong A\nvar u unowned A\nvar w weak A\n";
 
+// the next line is line 7
+const SECOND: &str = "arc 2\nslots 1\nentries 1\nclass A\nthread 1\nvar a strong A\n";
+
 // operations that FOUR_VARS allows, and the number of one as the operation behind the last that is allowed
 static BEHIND_THE_LAST: [(&str, u32); 22] = [
     ("", 0),
@@ -211,6 +214,28 @@ fn operations_of_all_threads_count(rt: HostRuntime) -> Result<(), Fail> {
     all.extend_from_slice(&rest)?;
     check_line(&rt, all.clone()?, "", 0, 0)?;
     check_line(&rt, all, "drop c\n", 100_041, 11)
+}
+
+// the beginning of a block counts, its end doesn't
+#[test]
+fn blocks_count_as_operations(rt: HostRuntime) -> Result<(), Fail> {
+    let block = "ifnil a\ndrop a\nend\n";
+    check_end(&rt, repeated(rt.alloc(), SECOND, block, 50_000)?, 0, 0)?;
+    let text = repeated(rt.alloc(), SECOND, block, 50_000)?;
+    check_line(&rt, text, "ifsome a\n", 150_007, 11)?;
+    let text = repeated(rt.alloc(), SECOND, block, 50_000)?;
+    check_line(&rt, text, "end\n", 150_007, 14)?;
+    let text = repeated(rt.alloc(), SECOND, "ifnil a\nend\n", 100_000)?;
+    check_line(&rt, text, "drop a\n", 200_007, 11)
+}
+
+#[test]
+fn immortal_classes_count_as_classes(rt: HostRuntime) -> Result<(), Fail> {
+    let heading = "arc 2\nslots 1\nentries 1\nclass A\n";
+    let text = numbered(rt.alloc(), heading, "immortal A", 63, "\n")?;
+    check_end(&rt, text, 0, 0)?;
+    let text = numbered(rt.alloc(), heading, "immortal A", 64, "\n")?;
+    check_end(&rt, text, 68, 11)
 }
 
 #[test]

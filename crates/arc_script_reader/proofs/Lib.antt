@@ -1,5 +1,6 @@
 pub mod Any
 pub mod NameSteps
+pub mod GroupSteps
 pub mod FieldSteps
 pub mod RunLength
 pub mod CapsFit

@@ -1,10 +1,9 @@
 -- A set of the names that came before.
-use Rattle.std.proofs.Common.{◌≡◌, ℕ, suc, ◌+◌, ◌<◌, Bool, true, false, cond, ltb, ◌||◌, List, [], ◌∷◌, ◌++◌, length, map, take, get_or, Bor, Some, None, refl, sym, ap, ◌∙◌, rules, tests}
+use Rattle.std.proofs.Common.{◌≡◌, ℕ, suc, ◌+◌, ◌<◌, Bool, true, false, cond, ltb, ◌||◌, List, [], ◌∷◌, ◌++◌, length, Bor, Some, None, refl, sym, ap, ◌∙◌, rules, tests}
 use Rattle.std.specs.Prelude.{not, bytes_eq, is_some}
 use Rattle.std.specs.List.{list_any, position_or_len}
 use Rattle.std.specs.HashSet.{HashSet, PutsKey, contains}
 use Rattle.std.proofs.lemmas.Slice.Eq.{bytes_eq-Decides}
-use Rattle.std.proofs.lemmas.List.{take_more, map-append}
 use Rattle.std.proofs.lemmas.List.Folds.{list_any-append}
 use Rattle.std.proofs.lemmas.List.Sorted.{list_any-IsPermutation}
 use Rattle.arc_script.specs.Valid.{place_of}
@@ -65,12 +64,6 @@ repeated before later name h = either (is_among before name) (repeats (before ++
 
 pub not_repeated : (before later : List (List ℕ)) (name : List ℕ) → is_among before name ≡ false → repeats (before ++ name ∷ []) later ≡ repeats before (name ∷ later)
 not_repeated before later name h = sym (neither (is_among before name) (repeats (before ++ name ∷ []) later) h)
-
-pub known_next : (names : List (Bor (List ℕ))) (i : ℕ) (d : Bor (List ℕ)) (q : List ℕ) (new old : Bool) → i < length names → old ≡ is_among (map (λ n. n.now) (take i names)) q
-    → new ≡ (bytes_eq q (get_or names i d).now || old) → new ≡ is_among (map (λ n. n.now) (take (i + 1) names)) q
-known_next names i d q new old h e f =
-    let more = ap (map (λ (n : Bor (List ℕ)). n.now)) (take_more names i d h) ∙ map-append (λ (n : Bor (List ℕ)). n.now) (take i names) (get_or names i d ∷ []) in
-    rw more (known_more q (get_or names i d).now (map (λ (n : Bor (List ℕ)). n.now) (take i names)) new old e f)
 
 -- a name has a place where it is among the names
 some_of : (n : ℕ) (b : Bool) → is_some (cond b (Some n) None) ≡ b

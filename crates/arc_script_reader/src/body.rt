@@ -1,37 +1,42 @@
+//! The lines of threads: variables, phases and operations.
+
 ghost use Rattle.std.specs.Prelude.{◌≡◌, ◌++◌, map, OnOk};
-ghost use Rattle.arc_script.specs.BodyLines.{closed, thread_line, var_line, op_line, with_op, phase_line, is_place, place_in, schedule_line};
+ghost use Rattle.arc_script.specs.BodyLines.{closed, thread_line, var_line, op_line, with_op, has_block, end_line, phase_line, is_place, place_in, schedule_line, done_line};
 ghost use Rattle.std.specs.List.{list_all};
 ghost use Rattle.arc_script.specs.Grammar.{no_body};
 ghost use Rattle.arc_script.specs.Reading.{Enters};
 
 use crate::head::Head;
-use arc_script::{Keyword, LineFault, Op, Reason, ThreadDecl, VarDecl, decl_of, op_of};
+use arc_script::{
+    Keyword, LineFault, Op, Reason, ThreadDecl, VarDecl, begins_block, decl_of, goes_to, op_of,
+};
 use arc_text::number_in;
 use sqlite_items::Items;
 use std::alloc::{AllocError, Global};
 use std::marker::Model;
 use std::mem;
 
-/// What the lines of threads and of the schedule say so far. Seen as `BodySaid`.
+/// What the lines of threads and of the schedule say so far. The inmost open block is the last of `opened`. Seen as `BodySaid`.
 #[derive(Drop)]
 pub struct Body {
     threads: Items<ThreadDecl>,
     vars: Items<VarDecl>,
     phases: Items<Items<Op>>,
     ops: Items<Op>,
+    opened: Items<u32>,
     count: u32,
     schedule: Items<u32>,
 }
 
 impl Model for Body {
-    ghost use Rattle.std.specs.Prelude.{◌≤◌, length};
+    ghost use Rattle.std.specs.Prelude.{◌≤◌, length, reverse};
     ghost use Rattle.arc_script.specs.Said.{BodySaid};
 
     ghost Value = { BodySaid };
 
-    ghost view = { λ b. record { threads = b.threads; vars = b.vars; phases = b.phases; ops = b.ops; count = b.count; schedule = b.schedule } };
+    ghost view = { λ b. record { threads = b.threads; vars = b.vars; phases = b.phases; ops = b.ops; opened = reverse b.opened; count = b.count; schedule = b.schedule } };
 
-    ghost invariant = { λ b. length b.vars ≤ 256 };
+    ghost invariant = { λ b. (length b.vars ≤ 256) × (length b.ops ≤ b.count) × (b.count ≤ 100000) };
 }
 
 /// Whether the word is the number of a thread that there is.
@@ -70,6 +75,7 @@ impl Body {
             vars: Items::new(alloc),
             phases: Items::new(alloc),
             ops: Items::new(alloc),
+            opened: Items::new(alloc),
             count: 0,
             schedule: Items::new(alloc),
         }
@@ -97,6 +103,9 @@ impl Body {
         }
         if self.threads.len() >= 64 {
             return Err(LineFault::Refused(Reason::TooMany));
+        }
+        if self.has_block() {
+            return Err(LineFault::Refused(Reason::OpenBlock));
         }
         Ok(())
     }
@@ -147,12 +156,39 @@ impl Body {
     fn add_op(&mut self, op: Op) -> Result<(), LineFault>
         ensures { Enters result (with_op self.old (Ok op)) self.new }
     {
-        if self.count >= 100_000 {
+        let begins = begins_block(op);
+        if self.count >= 100_000 || (begins && self.opened.len() >= 8) {
             return Err(LineFault::Refused(Reason::TooMany));
         }
-        self.ops.push(op)?;
+        let place = self.ops.len() as u32;
         self.count += 1;
+        self.ops.push(op)?;
+        if begins {
+            self.opened.push(place)?;
+        }
         Ok(())
+    }
+
+    /// Ends the inmost open block.
+    pub fn take_end(&mut self) -> Result<(), LineFault>
+        ensures { Enters result (end_line self.old) self.new }
+    {
+        let Some(place) = self.opened.pop() else {
+            return Err(LineFault::Refused(Reason::OpenBlock));
+        };
+        let to = self.ops.len() as u32;
+        if let Some(op) = self.ops.get(place as usize) {
+            let ended = goes_to(to, *op);
+            self.ops.set(place as usize, ended);
+        }
+        Ok(())
+    }
+
+    /// Whether a block is open.
+    pub fn has_block(&self) -> bool
+        ensures { result ≡ has_block self.now.opened }
+    {
+        !self.opened.is_empty()
     }
 
     pub fn take_phase(&mut self, alloc: Global) -> Result<(), LineFault>
@@ -160,6 +196,9 @@ impl Body {
     {
         if self.phases.len() >= 63 {
             return Err(LineFault::Refused(Reason::TooMany));
+        }
+        if self.has_block() {
+            return Err(LineFault::Refused(Reason::OpenBlock));
         }
         let ops = mem::replace(&mut self.ops, Items::new(alloc));
         self.phases.push(ops)?;
@@ -175,7 +214,19 @@ impl Body {
         if self.schedule.len() > 1_000_000 || words.len() > 1_000_000 - self.schedule.len() {
             return Err(LineFault::Refused(Reason::TooMany));
         }
+        if self.has_block() {
+            return Err(LineFault::Refused(Reason::OpenBlock));
+        }
         add_places(&mut self.schedule, words)?;
+        Ok(())
+    }
+
+    pub fn take_done(&mut self) -> Result<(), LineFault>
+        ensures { Enters result (done_line self.old) self.new }
+    {
+        if self.has_block() {
+            return Err(LineFault::Refused(Reason::OpenBlock));
+        }
         Ok(())
     }
 

@@ -1,15 +1,17 @@
+//! The lines before the first thread.
+
 ghost use Rattle.std.specs.Prelude.{◌≡◌, ◌≤◌, All, length, map, IfOk, OnOk};
 ghost use Rattle.arc_text.specs.Lines.{lines_of};
 ghost use Rattle.arc_script.specs.declared.script.ClassDecl.{ClassDecl};
 ghost use Rattle.arc_script_reader.specs.Fields.{seen};
-ghost use Rattle.arc_script.specs.Group.{named, run_names};
+ghost use Rattle.arc_script.specs.Group.{named, run_group};
 ghost use Rattle.arc_script.specs.HeadLines.{slots_line, entries_line, caps_line, class_with, class_line, global_line};
 ghost use Rattle.arc_script.specs.Grammar.{no_head, shape_said};
 ghost use Rattle.arc_script.specs.Reading.{Enters};
 
 use crate::field::{
     FieldWord, are_field_words, declare, field_words, has_bad_kind, has_misspelled, has_repeat,
-    has_unknown,
+    has_unknown, has_weak_immortal,
 };
 use crate::group::Group;
 use crate::shape::shape_of;
@@ -23,6 +25,7 @@ use std::marker::Model;
 /// What the lines of a heading say so far. Seen as `HeadSaid`.
 #[derive(Drop)]
 pub struct Head<'a> {
+    version: u32,
     slots: u32,
     entries: u32,
     caps: Caps,
@@ -36,17 +39,18 @@ impl<'a> Model for Head<'a> {
 
     ghost Value = { HeadSaid };
 
-    ghost view = { λ h. record { slots = h.slots; entries = h.entries; caps = h.caps; classes = h.classes; globals = h.globals; group = h.group } };
+    ghost view = { λ h. record { version = h.version; slots = h.slots; entries = h.entries; caps = h.caps; classes = h.classes; globals = h.globals; group = h.group } };
 
-    ghost invariant = { λ h. HeadFits h.slots h.entries h.classes h.globals h.group };
+    ghost invariant = { λ h. HeadFits h.version h.slots h.entries h.classes h.globals h.group };
 }
 
 impl<'a> Head<'a> {
-    /// A heading of which nothing was read.
-    pub fn new(alloc: Global) -> Head<'a>
-        ensures { result ≡ no_head }
+    /// A heading of which nothing was read, in a text of this version.
+    pub fn new(alloc: Global, version: u32) -> Head<'a>
+        ensures { result ≡ no_head version }
     {
         Head {
+            version,
             slots: 1,
             entries: 1,
             caps: Caps::new(1_073_741_823, 2_147_483_647, 4_294_967_295).unwrap(),
@@ -69,6 +73,18 @@ impl<'a> Head<'a> {
         ensures few { length result.now ≤ 64 }
     {
         self.globals.as_slice()
+    }
+
+    pub fn version(&self) -> u32
+        ensures { result ≡ self.now.version }
+    {
+        self.version
+    }
+
+    pub fn take_version(&mut self, version: u32)
+        ensures { self.new ≡ record self.old { version = version } }
+    {
+        self.version = version;
     }
 
     pub fn take_slots(&mut self, number: &[u8]) -> Result<(), LineFault>
@@ -110,26 +126,29 @@ impl<'a> Head<'a> {
         Ok(())
     }
 
-    /// Looks ahead over the group that begins with a class line: the words behind its first one, and the text behind the line.
+    /// Looks ahead over the group that begins with a class line: whether it is that of an immortal class, the words behind its first
+    /// one, and the text behind the line.
     pub fn look_ahead(
         &mut self,
         alloc: Global,
+        immortal: bool,
         words: &[&'a [u8]],
         rest: &'a [u8],
     ) -> Result<(), AllocError>
         requires { length (lines_of rest.now) ≤ 67108864 }
-        ensures { OnOk result (self.new ≡ record self.old { group = named (map (λ w. w.now) words.now) (run_names (lines_of rest.now)) }) }
+        ensures { OnOk result (self.new ≡ record self.old { group = named immortal (map (λ w. w.now) words.now) (run_group self.old.version (lines_of rest.now)) }) }
     {
-        self.group.begin(alloc, words, rest)
+        self.group.begin(alloc, self.version, immortal, words, rest)
     }
 
     fn take_class_with(
         &mut self,
         alloc: Global,
+        immortal: bool,
         name: &[u8],
         fields: &[FieldWord],
     ) -> Result<(), LineFault>
-        ensures { Enters result (class_with self.old name.now (map seen fields.now)) self.new }
+        ensures { Enters result (class_with self.old immortal name.now (map seen fields.now)) self.new }
     {
         if !is_name(name) || has_misspelled(fields) {
             return Err(LineFault::Refused(Reason::Spelling));
@@ -147,16 +166,28 @@ impl<'a> Head<'a> {
         if self.classes.len() >= 64 || fields.len() > 8 {
             return Err(LineFault::Refused(Reason::TooMany));
         }
+        let fields = declare(alloc, &self.group, fields)?;
+        if has_weak_immortal(&self.group, fields.as_slice()) {
+            return Err(LineFault::Refused(Reason::WeakImmortal));
+        }
         let Some(name) = Name::new(Vec::from_slice(alloc, name)?) else {
             return Err(LineFault::Refused(Reason::Spelling));
         };
-        let fields = declare(alloc, &self.group, fields)?;
-        self.classes.push(ClassDecl { name, fields })?;
+        self.classes.push(ClassDecl {
+            name,
+            immortal,
+            fields,
+        })?;
         Ok(())
     }
 
-    pub fn take_class(&mut self, alloc: Global, words: &[&[u8]]) -> Result<(), LineFault>
-        ensures { Enters result (class_line self.old (map (λ w. w.now) words.now)) self.new }
+    pub fn take_class(
+        &mut self,
+        alloc: Global,
+        immortal: bool,
+        words: &[&[u8]],
+    ) -> Result<(), LineFault>
+        ensures { Enters result (class_line self.old immortal (map (λ w. w.now) words.now)) self.new }
     {
         let [name, words @ ..] = words else {
             return Err(LineFault::Refused(Reason::WordCount));
@@ -165,7 +196,7 @@ impl<'a> Head<'a> {
             return Err(LineFault::Refused(Reason::WordCount));
         }
         let fields = field_words(alloc, words)?;
-        self.take_class_with(alloc, name, &fields)
+        self.take_class_with(alloc, immortal, name, &fields)
     }
 
     pub fn take_global(
@@ -198,6 +229,7 @@ impl<'a> Head<'a> {
         ensures { IfOk result (λ p. (p.0 ≡ shape_said self.entry) × (p.1 ≡ self.entry.classes) × (p.2 ≡ self.entry.globals)) }
     {
         let Head {
+            version: _,
             slots,
             entries,
             caps,

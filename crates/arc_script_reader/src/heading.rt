@@ -1,3 +1,5 @@
+//! The heading alone, as history texts have it.
+
 ghost use Rattle.std.specs.Prelude.{◌≡◌, ◌+◌, ◌<◌, ◌≤◌, ◌^◌, length, map, IfOk};
 ghost use Rattle.arc_text.specs.Lines.{lines_of};
 ghost use Rattle.arc_script_reader.specs.Fronts.{front};
@@ -59,22 +61,22 @@ fn may_end(caps: bool, place: Place) -> bool
 }
 
 /// Whether a line that begins so may come next in the heading.
-fn heads(caps: bool, place: Place, keyword: Keyword) -> bool
-    ensures { result ≡ heads caps place keyword }
+fn heads(caps: bool, version: u32, place: Place, keyword: Keyword) -> bool
+    ensures { result ≡ heads caps version place keyword }
 {
-    if !is_heading_word(keyword) || !stands(place, keyword) {
+    if !is_heading_word(keyword) || !stands(version, place, keyword) {
         return false;
     }
     !caps || !matches!(place, Place::Entries) || matches!(keyword, Keyword::Caps)
 }
 
 /// The keyword of a line that may come next in the heading.
-fn heading_keyword(caps: bool, place: Place, first: &[u8]) -> Option<Keyword>
-    ensures { result ≡ heading_keyword caps place first.now }
+fn heading_keyword(caps: bool, version: u32, place: Place, first: &[u8]) -> Option<Keyword>
+    ensures { result ≡ heading_keyword caps version place first.now }
 {
     match keyword_of(first) {
         Some(keyword) => {
-            if heads(caps, place, keyword) {
+            if heads(caps, version, place, keyword) {
                 Some(keyword)
             } else {
                 None
@@ -96,7 +98,7 @@ fn take_words<'a>(
     requires { length (lines_of rest.now) ≤ 67108864 }
     ensures { Heads result (headed_form caps (front reader.old) line.now first.now (map (λ w. w.now) words.now) (lines_of rest.now)) (front reader.old) (front reader.new) }
 {
-    let keyword = heading_keyword(caps, reader.place, first);
+    let keyword = heading_keyword(caps, reader.head.version(), reader.place, first);
     if keyword.is_none() && may_end(caps, reader.place) {
         return Ok(Taken::Behind);
     }
@@ -148,7 +150,7 @@ fn finish(alloc: Global, reader: Reader, end: usize, line: u32) -> Result<Headin
 }
 
 /// The heading that begins at byte `at` of the text, on the line with number `line`: its lines from `slots` to its last class or
-/// global, or to `caps` or `entries` where it has none. `caps` says that the caps line must be there, and `version` is 1. Once
+/// global, or to `caps` or `entries` where it has none. `caps` says that the caps line must be there. In version 2 there may be `immortal` lines. Once
 /// `entries` was read, and `caps` where it must be there, the heading ends before the first line, those that are passed over apart,
 /// whose first word can't stand there as a line of the heading. Refused as `read_script` is; Memory where there is none.
 pub fn read_heading(
@@ -162,10 +164,10 @@ pub fn read_heading(
     requires small { length text.now ≤ 67108864 }
     requires within { at ≤ length text.now }
     requires numbered { line ≤ at + 1 }
-    requires version { version ≡ 1 }
-    ensures { Reads result (heading_of text.now at line caps) }
+    requires version { (1 ≤ version) × (version ≤ 2) }
+    ensures { Reads result (heading_of text.now at line version caps) }
 {
-    let mut reader = Reader::new(alloc, Place::Version);
+    let mut reader = Reader::new(alloc, version, Place::Version);
     let mut lines = Lines::new(&text[at..]);
     let mut number = line;
     let mut last = line;

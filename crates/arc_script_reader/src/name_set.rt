@@ -1,3 +1,5 @@
+//! Which names were taken.
+
 ghost use Rattle.std.specs.Prelude.{◌≡◌, ◌||◌, ℕ, List, bytes_eq, map, not, IfOk, OnOk};
 ghost use Rattle.arc_script.specs.Lookups.{is_among};
 ghost use Rattle.arc_script_reader.specs.NameSets.{holds};
@@ -18,15 +20,4 @@ pub fn has_name(names: &HashSet<&[u8]>, name: &[u8]) -> bool
     ensures { result ≡ holds names.now name.now }
 {
     names.contains(name)
-}
-
-/// The names as a set.
-pub fn set_of<'a>(alloc: Global, names: &[&'a [u8]]) -> Result<HashSet<&'a [u8]>, AllocError>
-    ensures { IfOk result (λ set. (q : List ℕ) → holds set q ≡ is_among (map (λ n. n.now) names.now) q) }
-{
-    let mut set = HashSet::new(alloc);
-    for name in names {
-        add_name(&mut set, name)?;
-    }
-    Ok(set)
 }

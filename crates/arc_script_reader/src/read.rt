@@ -1,3 +1,5 @@
+//! The call that reads a script.
+
 ghost use Rattle.std.specs.Prelude.{◌≤◌, length, IfOk};
 ghost use Rattle.arc_script.specs.Valid.{IsScript};
 ghost use Rattle.arc_script.specs.Grammar.{script_of};
@@ -15,7 +17,7 @@ pub fn read_script(alloc: Global, text: &[u8]) -> Result<Script, ReadFault>
     ensures exact { Reads result (script_of text.now) }
     ensures valid { IfOk result (λ s. IsScript s) }
 {
-    let mut reader = Reader::new(alloc, Place::Start);
+    let mut reader = Reader::new(alloc, 1, Place::Start);
     let mut lines = Lines::new(text);
     let mut number = 1;
     'reading: while let Some(line) = lines.next_line() {

@@ -1,3 +1,5 @@
+//! The reader: the lines that are left, and where it stands.
+
 ghost use Rattle.std.specs.Prelude.{◌≤◌, length, map};
 
 use crate::body::Body;
@@ -20,18 +22,18 @@ pub struct Reader<'a> {
 impl<'a> Reader<'a> {
     ghost use Rattle.std.specs.Prelude.{◌≡◌, OnOk};
     ghost use Rattle.arc_text.specs.Lines.{lines_of};
-    ghost use Rattle.arc_script.specs.Grammar.{nothing, with_body, heading_form, settled, arc_line, body_form, said_line, any_line, ended};
+    ghost use Rattle.arc_script.specs.Grammar.{nothing, with_body, class_form, heading_form, settled, arc_line, body_form, said_line, any_line, ended};
     ghost use Rattle.arc_script.specs.BodyLines.{thread_line, op_line, schedule_line};
     ghost use Rattle.arc_script.specs.Reading.{Enters, Reads};
     ghost use Rattle.arc_script_reader.specs.Fronts.{front};
 
-    /// A reader that has read nothing, where lines may come as behind such a line.
-    pub fn new(alloc: Global, place: Place) -> Reader<'a>
-        ensures { front result ≡ nothing place }
+    /// A reader that has read nothing, where lines may come as behind such a line in a text of this version.
+    pub fn new(alloc: Global, version: u32, place: Place) -> Reader<'a>
+        ensures { front result ≡ nothing version place }
     {
         Reader {
             place,
-            head: Head::new(alloc),
+            head: Head::new(alloc, version),
             body: Body::new(alloc),
         }
     }
@@ -39,16 +41,17 @@ impl<'a> Reader<'a> {
     fn take_class(
         &mut self,
         alloc: Global,
+        immortal: bool,
         words: &[&'a [u8]],
         rest: &'a [u8],
     ) -> Result<(), LineFault>
         requires { length (lines_of rest.now) ≤ 67108864 }
-        ensures { Enters result (heading_form (front self.old) Keyword.Class (map (λ w. w.now) words.now) (lines_of rest.now)) (front self.new) }
+        ensures { Enters result (class_form (front self.old) immortal (map (λ w. w.now) words.now) (lines_of rest.now)) (front self.new) }
     {
         if self.place != Place::Class {
-            self.head.look_ahead(alloc, words, rest)?;
+            self.head.look_ahead(alloc, immortal, words, rest)?;
         }
-        self.head.take_class(alloc, words)?;
+        self.head.take_class(alloc, immortal, words)?;
         self.place = Place::Class;
         Ok(())
     }
@@ -89,7 +92,8 @@ impl<'a> Reader<'a> {
                 }
                 _ => Err(LineFault::Refused(Reason::WordCount)),
             },
-            Keyword::Class => self.take_class(alloc, words, rest),
+            Keyword::Class => self.take_class(alloc, false, words, rest),
+            Keyword::Immortal => self.take_class(alloc, true, words, rest),
             Keyword::Global => match words {
                 [name, kind, class] => {
                     self.head.take_global(alloc, name, kind, class)?;
@@ -117,9 +121,10 @@ impl<'a> Reader<'a> {
     fn take_arc(&mut self, version: &[u8]) -> Result<(), LineFault>
         ensures { Enters result (arc_line (front self.old) version.now) (front self.new) }
     {
-        if number_in(version, 1, 1).is_none() {
+        let Some(version) = number_in(version, 1, 2) else {
             return Err(LineFault::Refused(Reason::Number));
-        }
+        };
+        self.head.take_version(version);
         self.place = Place::Version;
         Ok(())
     }
@@ -175,9 +180,20 @@ impl<'a> Reader<'a> {
                 }
                 _ => Err(LineFault::Refused(Reason::WordCount)),
             },
-            Keyword::New | Keyword::Drop | Keyword::Pair(_) | Keyword::Get | Keyword::Set => {
-                self.take_op(keyword, words)
-            }
+            Keyword::New
+            | Keyword::Drop
+            | Keyword::Pair(_)
+            | Keyword::Get
+            | Keyword::Set
+            | Keyword::Block(_) => self.take_op(keyword, words),
+            Keyword::End => match words {
+                [] => {
+                    self.body.take_end()?;
+                    self.place = Place::Operation;
+                    Ok(())
+                }
+                _ => Err(LineFault::Refused(Reason::WordCount)),
+            },
             Keyword::Phase => match words {
                 [] => {
                     self.body.take_phase(alloc)?;
@@ -193,6 +209,7 @@ impl<'a> Reader<'a> {
             Keyword::Done => match words {
                 [] => {
                     self.settle(alloc)?;
+                    self.body.take_done()?;
                     self.place = Place::Ended;
                     Ok(())
                 }
@@ -219,7 +236,7 @@ impl<'a> Reader<'a> {
         let Some(keyword) = keyword_of(first) else {
             return Err(LineFault::Refused(Reason::FirstWord));
         };
-        if !stands(self.place, keyword) {
+        if !stands(self.head.version(), self.place, keyword) {
             return Err(LineFault::Refused(Reason::FirstWord));
         }
         if is_heading_word(keyword) {
@@ -263,9 +280,11 @@ impl<'a> Reader<'a> {
                 why: Reason::FirstWord.number(),
             });
         }
+        let version = head.version();
         let (shape, classes, globals) = head.into_parts(alloc)?;
         let (threads, schedule) = body.into_parts();
         Ok(Script {
+            version,
             shape,
             classes,
             globals,

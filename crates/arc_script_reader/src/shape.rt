@@ -1,3 +1,5 @@
+//! The shape of a heap, from the lines that say it.
+
 ghost use Rattle.std.specs.Prelude.{◌≡◌, ◌≤◌, All, length, IfOk};
 ghost use Rattle.arc_model.specs.Ranges.{SlotsFit, EntriesFit};
 ghost use Rattle.arc_script.specs.declared.script.ClassDecl.{ClassDecl};
@@ -39,7 +41,10 @@ fn class_refs(alloc: Global, classes: &[ClassDecl]) -> Result<Vec<ClassShape>, A
     let mut shapes = Vec::new(alloc);
     for class in classes {
         let fields = field_refs(alloc, class.fields.as_slice())?;
-        shapes.push(ClassShape { fields })?;
+        shapes.push(ClassShape {
+            fields,
+            immortal: class.immortal,
+        })?;
     }
     Ok(shapes)
 }

@@ -17,7 +17,7 @@ const ONE_CLASS: &str = "arc 1\nslots 1\nentries 1\nclass A\n";
 const DECLARED: &str =
     "arc 1\nslots 1\nentries 1\nclass A f:strong:A g:weak:B h:unowned:A\nclass B n:strong:A\nglobal p strong A\nglobal q weak B\nthread 1\nvar a strong A\nvar b strong A\nvar s strong B\nvar u unowned A\nvar t unowned A\nvar w weak A\nvar x weak B\nvar z unowned B\n";
 
-static VERSION: [(&str, u32); 23] = [
+static VERSION: [(&str, u32); 27] = [
     ("arc 1", 0),
     (" \tarc\t 1 ", 0),
     ("arc 1\x01", 1),
@@ -35,7 +35,11 @@ static VERSION: [(&str, u32); 23] = [
     ("arc 1 1", 3),
     ("arc one two", 3),
     ("arc 0", 4),
-    ("arc 2", 4),
+    ("arc 2", 0),
+    ("arc 3", 4),
+    ("arc 2 1", 3),
+    ("arc 02", 4),
+    ("arc 2\x01", 1),
     ("arc 01", 4),
     ("arc +1", 4),
     ("arc one", 4),

@@ -10,7 +10,7 @@ use std::alloc::Global;
 use std::process::Abort;
 use std::test::Fail;
 
-static REFUSED: [(&str, u32, u32); 55] = [
+static REFUSED: [(&str, u32, u32); 56] = [
     ("", 1, 2),
     (" ", 2, 2),
     ("\n\n", 3, 2),
@@ -18,7 +18,8 @@ static REFUSED: [(&str, u32, u32); 55] = [
     ("# no script", 2, 2),
     ("arc", 1, 3),
     ("arc 1 1", 1, 3),
-    ("arc 2", 1, 4),
+    ("arc 2", 2, 2),
+    ("arc 3", 1, 4),
     ("arc 0", 1, 4),
     ("arc 01", 1, 4),
     ("arc one", 1, 4),

@@ -1,11 +1,13 @@
-ghost use Rattle.std.specs.Prelude.{◌≡◌, ◌<◌, ◌≤◌, ◌++◌, ◌∷◌, [], List, codes, map, take, drop, length, OnOk, IfOk};
+//! The canonical text of a script and of a heading.
+
+ghost use Rattle.std.specs.Prelude.{◌≡◌, ◌<◌, ◌≤◌, ◌++◌, ◌∷◌, [], List, codes, map, take, drop, reverse, length, OnOk, IfOk};
 ghost use Rattle.std.specs.List.{AllByRecursion, flat_map};
 ghost use Rattle.std.specs.Fmt.{decimal};
 ghost use Rattle.arc_script.specs.declared.script.FieldDecl.{FieldDecl};
 ghost use Rattle.arc_script.specs.declared.script.VarDecl.{VarDecl};
 ghost use Rattle.arc_script.specs.declared.script.Op.{Op};
 ghost use Rattle.arc_script.specs.Valid.{name_at, class_names, var_names, IsCell, IsOp, AreFields, AreClasses, AreVars, IsThread, IsHeading, IsScript};
-ghost use Rattle.arc_script.specs.Canonical.{kind_word, field_word, cell_word, numbers_line, shape_lines, class_line, decl_line, heading_text, pair_line, op_line, op_lines, later_phase, phase_lines, thread_lines, threads_lines, schedule_lines, spaced, line_text, text_of, canonical};
+ghost use Rattle.arc_script.specs.Canonical.{kind_word, field_word, cell_word, numbers_line, shape_lines, class_word, class_line, decl_line, heading_text, pair_line, op_line, ends_here, ends_at, still_open, with_end, op_lines, later_phase, phase_lines, thread_lines, threads_lines, schedule_lines, spaced, line_text, text_of, canonical};
 
 use arc_model::{Kind, Memory, Shape};
 use arc_script::{
@@ -83,11 +85,17 @@ fn put_field(out: &mut Vec<u8>, classes: &[ClassDecl], field: &FieldDecl) -> Res
     out.extend_from_slice(classes[field.class as usize].name.bytes())
 }
 
+fn class_word(immortal: bool) -> &'static [u8]
+    ensures { result.now ≡ class_word immortal }
+{
+    if immortal { b"immortal" } else { b"class" }
+}
+
 fn put_class(out: &mut Vec<u8>, classes: &[ClassDecl], class: &ClassDecl) -> Result<(), AllocError>
     requires { AllByRecursion (λ (f : FieldDecl). f.class < length classes.now) class.now.fields }
     ensures { OnOk result (out.new.items ≡ out.old.items ++ line_text (class_line classes.now class.now)) }
 {
-    out.extend_from_slice(b"class")?;
+    out.extend_from_slice(class_word(class.immortal))?;
     put_word(out, class.name.bytes())?;
     for field in class.fields.as_slice() {
         put_field(out, classes, field)?;
@@ -264,10 +272,44 @@ fn put_op(
         Op::Load { to, of } => put_pair(out, b"load", vars, to, of),
         Op::Get { to, cell } => put_get(out, classes, globals, vars, to, cell),
         Op::Set { cell, from } => put_set(out, classes, globals, vars, cell, from),
+        Op::IfNil { var, .. } => put_line(out, b"ifnil", &[vars[var as usize].name.bytes()]),
+        Op::IfSome { var, .. } => put_line(out, b"ifsome", &[vars[var as usize].name.bytes()]),
+    }
+}
+
+/// Whether the inmost open block, the last one, ends at this place.
+fn ends_here(ends: &Items<u32>, at: usize) -> bool
+    ensures { result ≡ ends_here at (reverse ends.now) }
+{
+    match ends.as_slice() {
+        [.., end] => *end as usize == at,
+        [] => false,
+    }
+}
+
+/// The blocks that end at this place.
+fn put_ends(out: &mut Vec<u8>, ends: &mut Items<u32>, at: usize) -> Result<(), AllocError>
+    ensures text { OnOk result (out.new.items ≡ out.old.items ++ text_of (ends_at at (reverse ends.old))) }
+    ensures open { OnOk result (reverse ends.new ≡ still_open at (reverse ends.old)) }
+{
+    'ends: while ends_here(ends, at) {
+        ends.pop();
+        put_line(out, b"end", &[])?;
+    }
+    Ok(())
+}
+
+fn open_block(ends: &mut Items<u32>, op: Op) -> Result<(), AllocError>
+    ensures { OnOk result (reverse ends.new ≡ with_end op (reverse ends.old)) }
+{
+    match op {
+        Op::IfNil { to, .. } | Op::IfSome { to, .. } => ends.push(to),
+        _ => Ok(()),
     }
 }
 
 fn put_ops(
+    alloc: Global,
     out: &mut Vec<u8>,
     classes: &[ClassDecl],
     globals: &[VarDecl],
@@ -277,13 +319,19 @@ fn put_ops(
     requires { AllByRecursion (IsOp classes.now globals.now vars.now) ops.now }
     ensures { OnOk result (out.new.items ≡ out.old.items ++ text_of (op_lines classes.now globals.now vars.now ops.now)) }
 {
+    let mut ends = Items::new(alloc);
+    let mut at = 0;
     for op in ops {
+        put_ends(out, &mut ends, at)?;
         put_op(out, classes, globals, vars, *op)?;
+        open_block(&mut ends, *op)?;
+        at += 1;
     }
-    Ok(())
+    put_ends(out, &mut ends, at)
 }
 
 fn put_later(
+    alloc: Global,
     out: &mut Vec<u8>,
     classes: &[ClassDecl],
     globals: &[VarDecl],
@@ -295,12 +343,13 @@ fn put_later(
 {
     for ops in phases {
         put_line(out, b"phase", &[])?;
-        put_ops(out, classes, globals, vars, ops.as_slice())?;
+        put_ops(alloc, out, classes, globals, vars, ops.as_slice())?;
     }
     Ok(())
 }
 
 fn put_phases(
+    alloc: Global,
     out: &mut Vec<u8>,
     classes: &[ClassDecl],
     globals: &[VarDecl],
@@ -313,13 +362,14 @@ fn put_phases(
     match phases {
         [] => Ok(()),
         [first, later @ ..] => {
-            put_ops(out, classes, globals, vars, first.as_slice())?;
-            put_later(out, classes, globals, vars, later)
+            put_ops(alloc, out, classes, globals, vars, first.as_slice())?;
+            put_later(alloc, out, classes, globals, vars, later)
         }
     }
 }
 
 fn put_thread(
+    alloc: Global,
     out: &mut Vec<u8>,
     classes: &[ClassDecl],
     globals: &[VarDecl],
@@ -332,10 +382,11 @@ fn put_thread(
     let vars = thread.vars.as_slice();
     put_numbers(out, b"thread", &[number])?;
     put_decls(out, b"var", classes, vars)?;
-    put_phases(out, classes, globals, vars, thread.phases.as_slice())
+    put_phases(alloc, out, classes, globals, vars, thread.phases.as_slice())
 }
 
 fn put_threads(
+    alloc: Global,
     out: &mut Vec<u8>,
     classes: &[ClassDecl],
     globals: &[VarDecl],
@@ -347,7 +398,7 @@ fn put_threads(
 {
     let mut number = 1;
     for thread in threads {
-        put_thread(out, classes, globals, number, thread)?;
+        put_thread(alloc, out, classes, globals, number, thread)?;
         number += 1;
     }
     Ok(())
@@ -401,9 +452,9 @@ pub fn write_script(alloc: Global, script: &Script) -> Result<Vec<u8>, Memory>
     let mut out = Vec::new(alloc);
     let classes = script.classes.as_slice();
     let globals = script.globals.as_slice();
-    put_numbers(&mut out, b"arc", &[1])?;
+    put_numbers(&mut out, b"arc", &[script.version])?;
     put_heading(&mut out, &script.shape, classes, globals)?;
-    put_threads(&mut out, classes, globals, script.threads.as_slice())?;
+    put_threads(alloc, &mut out, classes, globals, script.threads.as_slice())?;
     put_schedule(&mut out, script.schedule.as_slice())?;
     put_line(&mut out, b"done", &[])?;
     Ok(out)

@@ -1,3 +1,5 @@
+//! The place of a count in an entry.
+
 ghost use Rattle.std.specs.Prelude.{◌≡◌};
 ghost use Rattle.arc_rule.specs.Places.{IsPlace, number};
 ghost use Rattle.arc_side.specs.Entries.{count_place};

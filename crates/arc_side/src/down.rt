@@ -1,3 +1,5 @@
+//! One reference fewer, by a count of an entry.
+
 ghost use Rattle.std.specs.Prelude.{◌≡◌};
 ghost use Rattle.arc_rule.specs.Places.{IsPlace, number};
 ghost use Rattle.arc_plan.specs.declared.attempt.At.TheVariants.{Start};

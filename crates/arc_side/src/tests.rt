@@ -1,3 +1,5 @@
+//! Tests of the plans on entries.
+
 ghost use Rattle.std.specs.Prelude.{◌≡◌, IfSome};
 
 use crate::{EntryDown, EntryDownAnswer, EntryUp, EntryUpAnswer};

@@ -6,12 +6,11 @@ use Rattle.std.specs.List.{AllByRecursion}
 use Rattle.std.specs.Option.{unwrap_or}
 use Rattle.arc_bits.specs.declared.packing.Inline.{Inline}
 use Rattle.arc_bits.specs.declared.packing.Word.{Word}
-use Rattle.arc_bits.specs.declared.packing.Word.TheVariants.{Free, Counts, Slow}
+use Rattle.arc_bits.specs.declared.packing.Word.TheVariants.{Free, Counts, Slow, Immortal}
 use Rattle.arc_bits.specs.Words.{unpacked}
 use Rattle.arc_model.specs.declared.event.ObjectName.{ObjectName}
 use Rattle.arc_model.specs.declared.event.Act.TheVariants.{Finish, Vacate}
-use Rattle.arc_model.specs.declared.shape.RefShape.{RefShape}
-use Rattle.arc_model.specs.Shapes.{HeapShape}
+use Rattle.arc_model.specs.Shapes.{HeapShape, ObjectClass, class_at}
 use Rattle.arc_model.specs.Spelling.{Note, hands_of, FieldsDone, IsCascade}
 use Rattle.arc_model.specs.Spelling.Note.{Did, Name, Entry}
 use Rattle.arc_model.specs.Spelling.IsEnd.{inline}
@@ -21,6 +20,7 @@ use Rattle.arc_rule.specs.Isa.{isa_name_of}
 use Rattle.arc_rule.specs.Places.{number}
 use Rattle.arc_rule.specs.declared.layout.Place.TheVariants.{Count}
 use Rattle.arc_rule.specs.declared.step.Step.{Step}
+use Rattle.arc_rule.specs.declared.step.Intent.TheVariants as intents
 use Rattle.arc_rule.specs.declared.step.Step.TheVariants.{Exchange}
 use Rattle.arc_rule.specs.declared.step.Intent.{Intent}
 use Rattle.arc_rule.specs.declared.plan.Next.{Next}
@@ -54,7 +54,7 @@ pub record IsQuiet (now found : List Note) : Type 0 where
   pub number : number_of found ≡ number_of now
 
 -- a cascade that has come to its place, with what it says
-pub record CascadeComes (c new : CascadeState) (said : CascadeNext) (asked : Option Step) (last : Option ℕ) (base now : List Note) : Type 0 where
+pub record CascadeComes (c new : CascadeState) (said : CascadeNext) (asked : Option (Step × Intent)) (last : Option ℕ) (base now : List Note) : Type 0 where
   pub found : List Note
   pub shows : Shows c.layout asked last new.event now found
   pub stands : CascadeUpTo new (asked_by said) base (with_deinit said found) new.at
@@ -64,8 +64,8 @@ pub record CascadeComes (c new : CascadeState) (said : CascadeNext) (asked : Opt
   pub died : (name : ObjectName) → said ≡ says.Died name → new.at ≡ Named name
 
 -- it asks for a step, and the notes stay
-asks_on : (c new : CascadeState) (step : Step) (intent : Intent) (asked : Option Step) (last : Option ℕ) (base now : List Note) →
-    new.event ≡ None → IsSameObject c new → CascadeUpTo new (Some step) base now new.at → CascadeComes c new (says.Step step intent) asked last base now
+asks_on : (c new : CascadeState) (step : Step) (intent : Intent) (asked : Option (Step × Intent)) (last : Option ℕ) (base now : List Note) →
+    new.event ≡ None → IsSameObject c new → CascadeUpTo new (Some (step, intent)) base now new.at → CascadeComes c new (says.Step step intent) asked last base now
 asks_on c new step intent asked last base now quiet same u = record {
   found = now;
   shows = rw quiet (record { read = now; reads = read_nothing; finds = found_nothing });
@@ -76,19 +76,19 @@ asks_on c new step intent asked last base now quiet same u = record {
   died = λ name e. absurd (cc);
 }
 
-no_fields : (classes : List (List RefShape)) (i : ℕ) → AllByRecursion (λ (fields : List RefShape). fields ≡ []) classes → length (get_or classes i []) ≡ 0
+no_fields : (classes : List ObjectClass) (i : ℕ) → AllByRecursion (λ (c : ObjectClass). c.fields ≡ []) classes → length (get_or classes i (record { fields = []; immortal = false })).fields ≡ 0
 no_fields [] i bare = refl
-no_fields (fields ∷ classes) zero bare = ap length bare.0
-no_fields (fields ∷ classes) (suc i) bare = no_fields classes i bare.1
+no_fields (c ∷ classes) zero bare = ap length bare.0
+no_fields (c ∷ classes) (suc i) bare = no_fields classes i bare.1
 
 -- an object without fields has all of them done at once
 pub all_done : (shape : HeapShape) (slot : ℕ) (name : ObjectName) (base now : List Note) → HasNoFields shape → FieldsDone shape slot name 0 base now → AllDone shape slot base now
 all_done shape slot name base now bare d =
-    let none : length (get_or shape.classes name.class []) ≡ 0 = no_fields shape.classes name.class (recursion_from_All (λ (fields : List RefShape). fields ≡ []) shape.classes bare) in
+    let none : length (class_at shape name.class).fields ≡ 0 = no_fields shape.classes name.class (recursion_from_All (λ (c : ObjectClass). c.fields ≡ []) shape.classes bare) in
     record { name = name; done = rw none d }
 
 -- the isa word was read
-naming : (c : CascadeState) (asked : Option Step) (last : Option ℕ) (base now : List Note) → CascadeUpTo c asked base now Naming → NamesClass c.shape last →
+naming : (c : CascadeState) (asked : Option (Step × Intent)) (last : Option ℕ) (base now : List Note) → CascadeUpTo c asked base now Naming → NamesClass c.shape last →
     CascadeComes c (turned_at (record c { at = Ended; event = None }) last Naming) (answer_at c last Naming) asked last base now
 naming c asked None base now u fits = absurd fits
 naming c asked (Some w) base now u fits = record {
@@ -102,23 +102,23 @@ naming c asked (Some w) base now u fits = record {
 }
 
 -- the attempt on the count goes on, or is over
-abbrev Finishes : CascadeState → Option Step → Option ℕ → (base now : List Note) → Attempt → Next UnownedDownAnswer → Type 0
+abbrev Finishes : CascadeState → Option (Step × Intent) → Option ℕ → (base now : List Note) → Attempt → Next UnownedDownAnswer → Type 0
 Finishes c asked last base now p a = CascadeComes c (finish_turned (record c { at = Ended; event = None }) p a) (finish_says c a) asked last base now
 
-attempts : (c : CascadeState) (asked : Option Step) (last : Option ℕ) (base now : List Note) (p : Attempt) (step : Step) → p.layout ≡ c.layout → p.slot ≡ c.slot → AwaitsExchange c (Some step) p.at → AllDone c.shape c.slot base now →
+attempts : (c : CascadeState) (asked : Option (Step × Intent)) (last : Option ℕ) (base now : List Note) (p : Attempt) (step : Step) → p.layout ≡ c.layout → p.slot ≡ c.slot → AwaitsExchange c (Some (step, intents.Deinit c.slot)) p.at → AllDone c.shape c.slot base now →
     Finishes c asked last base now p (nexts.Step step)
 attempts c asked last base now p step layout slot awaits all =
     asks_on c (finish_turned (record c { at = Ended; event = None }) p (nexts.Step step)) step _ asked last base now refl (record { layout = refl; shape = refl; slot = refl })
     (record { layout = layout; slot = slot; awaits = awaits' p.at awaits }, all)
   where
-    awaits' : (a : AttemptAt) → AwaitsExchange c (Some step) a → AwaitsExchange (finish_turned (record c { at = Ended; event = None }) p (nexts.Step step)) (Some step) a
+    awaits' : (a : AttemptAt) → AwaitsExchange c (Some (step, intents.Deinit c.slot)) a → AwaitsExchange (finish_turned (record c { at = Ended; event = None }) p (nexts.Step step)) (Some (step, intents.Deinit c.slot)) a
     awaits' attempt.Start w = w
     awaits' attempt.Loading w = w
     awaits' (attempt.Exchanging seen new) w = w
     awaits' attempt.Ended w = w
 
 -- an unowned reference is left
-leaves_more : (c : CascadeState) (asked : Option Step) (last : Option ℕ) (base now : List Note) (p : Attempt) → AllDone c.shape c.slot base now → Finishes c asked last base now p (nexts.Done downs.More)
+leaves_more : (c : CascadeState) (asked : Option (Step × Intent)) (last : Option ℕ) (base now : List Note) (p : Attempt) → AllDone c.shape c.slot base now → Finishes c asked last base now p (nexts.Done downs.More)
 leaves_more c asked last base now p all = record {
   found = Did (Finish c.slot false) ∷ now;
   shows = record { read = now; reads = read_nothing; finds = found_nothing };
@@ -130,8 +130,8 @@ leaves_more c asked last base now p all = record {
 }
 
 -- none is left, and the slot is given up next
-leaves_none : (c : CascadeState) (asked : Option Step) (w new : ℕ) (counts : Inline) (base now : List Note) (p : Attempt) →
-    asked ≡ Some (Exchange (number c.layout (Count c.slot)) w new) → unpacked w ≡ Some (Counts counts) → AllDone c.shape c.slot base now → Finishes c asked (Some w) base now p (nexts.Done downs.Last)
+leaves_none : (c : CascadeState) (asked : Option (Step × Intent)) (w new : ℕ) (counts : Inline) (base now : List Note) (p : Attempt) →
+    asked ≡ Some (Exchange (number c.layout (Count c.slot)) w new, intents.Deinit c.slot) → unpacked w ≡ Some (Counts counts) → AllDone c.shape c.slot base now → Finishes c asked (Some w) base now p (nexts.Done downs.Last)
 leaves_none c asked w new counts base now p asks holds all = record {
   found = Entry c.slot None ∷ Did (Finish c.slot true) ∷ now;
   shows = record { read = now; reads = read_nothing; finds = no_entry refl asks refl holds };
@@ -143,7 +143,7 @@ leaves_none c asked w new counts base now p asks holds all = record {
 }
 
 -- the exchange found the word that was read
-exchanged : (c : CascadeState) (asked : Option Step) (w new : ℕ) (base now : List Note) (p : Attempt) → asked ≡ Some (Exchange (number c.layout (Count c.slot)) w new) → AllDone c.shape c.slot base now →
+exchanged : (c : CascadeState) (asked : Option (Step × Intent)) (w new : ℕ) (base now : List Note) (p : Attempt) → asked ≡ Some (Exchange (number c.layout (Count c.slot)) w new, intents.Deinit c.slot) → AllDone c.shape c.slot base now →
     Finishes c asked (Some w) base now p (nexts.Done (unowned_down_end (unpacked w)))
 exchanged c asked w new base now p asks all = go (unpacked w) refl
   where
@@ -151,6 +151,7 @@ exchanged c asked w new base now p asks all = go (unpacked w) refl
     go None e = leaves_more c asked (Some w) base now p all
     go (Some Free) e = leaves_more c asked (Some w) base now p all
     go (Some (Slow n)) e = leaves_more c asked (Some w) base now p all
+    go (Some Immortal) e = leaves_more c asked (Some w) base now p all
     go (Some (Counts k)) e = one (eqb k.unowned 1)
       where
         one : (b : Bool) → Finishes c asked (Some w) base now p (nexts.Done (cond b downs.Last downs.More))
@@ -164,16 +165,17 @@ plan_at p a w = record p { at = attempt_turned (λ v. unowned_down_row (unpacked
 abbrev says_at : Attempt → AttemptAt → ℕ → Next UnownedDownAnswer
 says_at p a w = attempt_answer (λ v. unowned_down_row (unpacked v)) (λ seen. unowned_down_end (unpacked seen)) downs.Again (number p.layout (Count p.slot)) a w
 
-loaded : (c : CascadeState) (asked : Option Step) (w : ℕ) (base now : List Note) (p : Attempt) → p.layout ≡ c.layout → p.slot ≡ c.slot → AllDone c.shape c.slot base now → (o : Option Word) →
+loaded : (c : CascadeState) (asked : Option (Step × Intent)) (w : ℕ) (base now : List Note) (p : Attempt) → p.layout ≡ c.layout → p.slot ≡ c.slot → AllDone c.shape c.slot base now → (o : Option Word) →
     IsCountWord p.layout.entries (λ k. k.deiniting ≡ false → 2 ≤ k.unowned) o → IsInline o →
     Finishes c asked (Some w) base now (record p { at = exchanging w (unowned_down_row o) }) (chosen (number p.layout (Count p.slot)) w (unowned_down_row o))
 loaded c asked w base now p layout slot all None fits in_line = absurd fits
 loaded c asked w base now p layout slot all (Some Free) fits in_line = absurd fits
 loaded c asked w base now p layout slot all (Some (Slow n)) fits in_line = absurd in_line
+loaded c asked w base now p layout slot all (Some Immortal) fits in_line = leaves_more c asked (Some w) base now (record p { at = exchanging w (unowned_down_row (Some Immortal)) }) all
 loaded c asked w base now p layout slot all (Some (Counts k)) fits in_line =
     attempts c asked (Some w) base now (record p { at = exchanging w (unowned_down_row (Some (Counts k))) }) _ layout slot (rw layout (rw slot refl)) all
 
-finishing : (c : CascadeState) (asked : Option Step) (last : Option ℕ) (base now : List Note) (p : Attempt) → p.layout ≡ c.layout → p.slot ≡ c.slot → AllDone c.shape c.slot base now → (a : AttemptAt) →
+finishing : (c : CascadeState) (asked : Option (Step × Intent)) (last : Option ℕ) (base now : List Note) (p : Attempt) → p.layout ≡ c.layout → p.slot ≡ c.slot → AllDone c.shape c.slot base now → (a : AttemptAt) →
     AwaitsExchange c asked a → attempt_takes (UnownedDownWord p) a last → IsInlineAt a (unwrap_or last 0) →
     Finishes c asked last base now (plan_at p a (unwrap_or last 0)) (says_at p a (unwrap_or last 0))
 finishing c asked last base now p layout slot all attempt.Start awaits takes in_line = attempts c asked last base now (record p { at = attempt.Loading }) _ layout slot tt all
@@ -187,7 +189,7 @@ finishing c asked (Some w) base now p layout slot all (attempt.Exchanging seen n
     go false e = asks_on c _ _ _ asked (Some w) base now refl (record { layout = refl; shape = refl; slot = refl }) (record { layout = refl; slot = refl; awaits = tt }, all)
 finishing c asked last base now p layout slot all attempt.Ended awaits takes in_line = absurd takes
 
-vacates : (c : CascadeState) (asked : Option Step) (last : Option ℕ) (base now : List Note) (p : OneStep) → IsFinished c.shape c.slot base now → (a : Once) → once_takes (λ w. Unit {0}) a last →
+vacates : (c : CascadeState) (asked : Option (Step × Intent)) (last : Option ℕ) (base now : List Note) (p : OneStep) → IsFinished c.shape c.slot base now → (a : Once) → once_takes (λ w. Unit {0}) a last →
     CascadeComes c (vacated (record c { at = Ended; event = None }) (record p { at = once_turned a }) (once_answer (vacating p) tt a)) (vacate_says (once_answer (vacating p) tt a)) asked last base now
 vacates c asked last base now p u onces.Start takes = asks_on c _ _ _ asked last base now refl (record { layout = refl; shape = refl; slot = refl }) u
 vacates c asked last base now p u onces.Asked takes = record {
@@ -204,7 +206,7 @@ vacates c asked last base now p u onces.Asked takes = record {
     whole = rw u.now_is (finish_last u.all_done.done refl inline)
 vacates c asked last base now p u onces.Ended takes = absurd takes
 
-pub cascade_comes : (c : CascadeState) (asked : Option Step) (last : Option ℕ) (base now : List Note) → HasNoFields c.shape → CascadeStandsFor base c asked now → cascade_takes c last →
+pub cascade_comes : (c : CascadeState) (asked : Option (Step × Intent)) (last : Option ℕ) (base now : List Note) → HasNoFields c.shape → CascadeStandsFor base c asked now → cascade_takes c last →
     CascadeComes c (cascade_turned c last) (cascade_answer c last) asked last base now
 cascade_comes c asked last base now bare u takes = go c.at u takes
   where

@@ -1,10 +1,10 @@
 -- Each word that a stepper may be given keeps what it stands for.
-use Rattle.std.proofs.Common.{◌≡◌, ℕ, ◌+◌, Bool, true, false, cond, eqb, ltb, List, ◌∷◌, take, drop, Option, Some, None, refl, sym, ap, subst, ◌∙◌, arith}
+use Rattle.std.proofs.Common.{◌≡◌, ℕ, ◌+◌, Bool, true, false, cond, eqb, ltb, List, ◌∷◌, take, drop, bit_and, Option, Some, None, refl, sym, ap, subst, ◌∙◌, arith}
 use Rattle.std.proofs.lemmas.Bool.{eqb-true}
 use Rattle.std.proofs.lemmas.Option.{slice_get_within}
 use Rattle.std.specs.Option.{unwrap_or}
 use Rattle.arc_bits.specs.declared.packing.Word.{Word}
-use Rattle.arc_bits.specs.declared.packing.Word.TheVariants.{Free, Counts, Slow}
+use Rattle.arc_bits.specs.declared.packing.Word.TheVariants.{Free, Counts, Slow, Immortal}
 use Rattle.arc_bits.specs.Words.{unpacked, packed}
 use Rattle.arc_bits.specs.Moves.{strong_more}
 use Rattle.arc_model.specs.declared.answer.Answer.TheVariants as answers
@@ -29,12 +29,14 @@ use Rattle.arc_plan.specs.declared.attempt.At.TheVariants as attempt
 use Rattle.arc_plan.specs.declared.attempt.Choice.TheVariants.{Tell, Write}
 use Rattle.arc_plan.specs.declared.slots.Making.{Making as Search}
 use Rattle.arc_plan.specs.declared.slots.Making.TheVariants as search
-use Rattle.arc_plan.specs.declared.slots.NewObjectAnswer.TheVariants.{NoSlot}
+use Rattle.arc_plan.specs.declared.slots.NewObjectAnswer.TheVariants.{NoSlot, Again}
 use Rattle.arc_plan.specs.declared.strong.StrongUpAnswer.TheVariants as ups
 use Rattle.arc_plan.specs.declared.strong.StrongDownAnswer.TheVariants as downs
 use Rattle.arc_plan.specs.Attempts.{Attempt, CappedAttempt, IsCountWord, exchanging, chosen, takes_at as attempt_takes, turned_at as attempt_turned, answer_at as attempt_answer}
 use Rattle.arc_plan.specs.Strong.{StrongUpWord, strong_up_row, StrongDownWord, strong_down_row, strong_down_end}
-use Rattle.arc_plan.specs.Slots.{Creation, making_turned, making_answer, naming, trial}
+use Rattle.arc_plan.specs.Slots.{Creation, free_slot, looked, looked_answer, looking, taking, counting, naming, slot_taken, making_turned, making_answer}
+use Rattle.arc_rule.specs.Bits.{words_of, bit_of}
+use Rattle.arc_rule.specs.declared.step.Intent.TheVariants as intents
 use Rattle.arc_cells.specs.declared.cascade.At.{At as CascadeAt}
 use Rattle.arc_cells.specs.declared.cascade.At.TheVariants as at
 use Rattle.arc_cells.specs.declared.cascade.CascadeNext.{CascadeNext}
@@ -46,22 +48,22 @@ use Rattle.arc_programs.specs.Variables as programs
 use Rattle.arc_programs.specs.Programs.{made_of, IsAnswered}
 use Rattle.arc_programs.specs.Programs.IsAnswered.{made, copied}
 use Rattle.arc_programs.specs.ProgramsLines.{number_of}
-use Rattle.arc_programs.proofs.ProgramsSteps.{answers_last, new_full}
+use Rattle.arc_programs.proofs.ProgramsSteps.{new_full}
 use Rattle.arc_ops.specs.Programs.{ops_in_first}
 use Rattle.arc_ops.proofs.Counts.{first_more}
 use Rattle.arc_ops.specs.declared.stepper.Held.{Held}
 use Rattle.arc_ops.specs.declared.stepper.Doing.{Doing}
 use Rattle.arc_ops.specs.declared.stepper.Doing.TheVariants.{Ready, Making, Copying, Dropping, Dying, Ended}
-use Rattle.arc_ops.specs.Thread.{Thread, value, is_busy, put, made_on, copied_on, dropped_on, dying_asks, dying_on, drop_begun, replaced, next_op, IsUpWord, IsUpWordAt, turned_at, turned, takes_at, takes}
+use Rattle.arc_ops.specs.Thread.{Thread, value, is_busy, put, asking, came_to, make_begun_as, made_on, copied_on, dropped_on, dying_asks, dying_on, drop_begun, replaced, next_op, IsUpWord, IsUpWordAt, turned_at, turned, takes_at, takes}
 use Rattle.arc_ops.specs.Thread as thread
 use Rattle.arc_spelled.specs.Shown.{Shows, Adds, with_act}
 use Rattle.arc_spelled.specs.Shown.ReadsName.{nothing as read_nothing}
 use Rattle.arc_spelled.specs.Shown.FindsNoEntry.{nothing as found_nothing}
 use Rattle.arc_spelled.specs.Shown.Says.{nothing, line}
 use Rattle.arc_spelled.specs.CascadeStands.{asked_by, with_deinit, CascadeUpTo}
-use Rattle.arc_spelled.specs.StepperStands.{Work, IsServedWork, strong_held, variables, IsOver, IsBegun, IsMade, MakesUpTo, IsCopying, DropEnds, step_in, IsDying, StepperUpTo, WorksOn, IsCounted, number_at, IsNumberedIf, IsOfPhase, IsInPhase, StandsFor, StepperGoesOn}
+use Rattle.arc_spelled.specs.StepperStands.{Work, IsServedWork, strong_held, variables, IsOver, IsBegun, IsMaking, IsMade, MakesUpTo, IsCopying, DropEnds, step_in, IsDying, StepperUpTo, WorksOn, IsCounted, number_at, IsNumberedIf, IsOfPhase, IsInPhase, StandsFor, StepperGoesOn}
 use Rattle.arc_spelled.proofs.CascadeKeeps.{CascadeComes, cascade_comes, all_done}
-use Rattle.arc_spelled.proofs.StepperSteps.{acts-added, Comes, comes-after, counted-line, number-here, value-held, over-done, drop-asks, begins, goes-on, replaces}
+use Rattle.arc_spelled.proofs.StepperSteps.{op-answers, acts-added, Comes, comes-after, counted-line, number-here, value-held, over-done, drop-asks, begins, goes-on, replaces}
 
 -- a stepper that was given a word, and what it stands for then
 record Turns (w : Work) (t new : Thread) (last : Option ℕ) (now : List Note) : Type 0 where
@@ -78,25 +80,67 @@ plainly w t new last now e c = turned-by w t new last now e (with_act e now) (re
 
 -- ---- an object is made
 
+-- it looks on or takes a slot, and no object is made yet
+search-goes-on : (w : Work) (t : Thread) (last : Option ℕ) (now : List Note) → WorksOn w t.layout t.shape t.thread t.phases t.program → IsCounted w t.hands t.made t.kept now → number_of now ≡ number_at w t.index → IsOfPhase w t.phase t.index →
+    (to : ℕ) (name : ObjectName) (plan : Creation) (step : Step) → slot_taken plan.at ≡ None → MakesUpTo w t.index to name t.vars now plan.at →
+    Turns w t (made_on to name plan (nexts.Step step) (record t { doing = Ended; first = false; event = None })) last now
+search-goes-on w t last now works counts number phase to name plan step none u = subst P (sym none) (plainly w t _ last now None (record {
+  after = now;
+  says = nothing;
+  event = refl;
+  stands = record { works = works; in_phase = phase; counts = counts; number = number; asks = tt; up_to = u };
+}))
+  where
+    P : Option ℕ → Type 0
+    P took = Turns w t (asking (Making to name plan) step (intents.New name.class) (came_to name took (record t { doing = Ended; first = false; event = None }))) last now
+
+-- another has taken the slot: it begins again
+search-begins-again : (w : Work) (t : Thread) (last : Option ℕ) (now : List Note) → WorksOn w t.layout t.shape t.thread t.phases t.program → IsCounted w t.hands t.made t.kept now → number_of now ≡ number_at w t.index → IsOfPhase w t.phase t.index →
+    (to : ℕ) (name : ObjectName) → IsMaking w t.index to name t.vars now → Turns w t (make_begun_as to name (record t { doing = Ended; first = false; event = None })) last now
+search-begins-again w t last now works counts number phase to name u = plainly w t _ last now None (record {
+  after = now;
+  says = nothing;
+  event = refl;
+  stands = record { works = works; in_phase = phase; counts = counts; number = number; asks = tt; up_to = u };
+})
+
 makes : (w : Work) → IsServedWork w → (t : Thread) (last : Option ℕ) (now : List Note) → WorksOn w t.layout t.shape t.thread t.phases t.program → IsCounted w t.hands t.made t.kept now → number_of now ≡ number_at w t.index → IsOfPhase w t.phase t.index →
-    (to : ℕ) (name : ObjectName) (slot : ℕ) (plan : Creation) (a : Search) → MakesUpTo w t.index to name slot t.vars now a →
-    Turns w t (made_on to name slot (record plan { at = making_turned plan.layout.slots a (unwrap_or last 0) }) (making_answer plan.layout plan.name a (unwrap_or last 0)) (record t { doing = Ended; first = false; event = None })) last now
-makes w served t last now works counts number phase to name slot plan search.Start u = absurd u
-makes w served t last now works counts number phase to name slot plan (search.Trying s) u = tried (eqb (unwrap_or last 0) 0) (ltb (s + 1) plan.layout.slots)
+    (to : ℕ) (name : ObjectName) (plan : Creation) (a : Search) → MakesUpTo w t.index to name t.vars now a →
+    Turns w t (made_on to name (record plan { at = making_turned plan.layout.slots a (unwrap_or last 0) }) (making_answer plan a (unwrap_or last 0)) (record t { doing = Ended; first = false; event = None })) last now
+makes w served t last now works counts number phase to name plan search.Start u = absurd u
+makes w served t last now works counts number phase to name plan (search.Looking word) u = looks (free_slot plan.layout.slots word (unwrap_or last 0))
   where
     b : IsBegun w t.index (op.New to name.class) t.vars now
-    b = u.1.begun
+    b = u.begun
 
     full : IsOver w t.index t.vars (Line answers.Full ∷ Did acts.Full ∷ now)
     full = over-done w t.index t.vars (Line answers.Full ∷ Did acts.Full ∷ now) (slice_get_within w.program t.index (op.New to name.class) b.there)
-        (rw b.now_is (answers_last (record { done = b.done; there = b.there }) (new_full w.thread to name.class w.came (variables t.vars) (Operation (t.index + 1) ∷ b.base))))
+        (rw b.now_is (op-answers w served (record { done = b.done; there = b.there }) (new_full w.thread to name.class w.came (variables t.vars) (Operation (t.index + 1) ∷ b.base))))
 
-    tried : (free further : Bool) → Turns w t
-        (made_on to name slot (record plan { at = cond free (search.Naming s) (cond further (search.Trying (s + 1)) search.Ended) })
-        (cond free (nexts.Step (naming plan.layout plan.name s)) (cond further (nexts.Step (trial plan.layout (s + 1))) (nexts.Done NoSlot))) (record t { doing = Ended; first = false; event = None }))
+    further : (more : Bool) → Turns w t
+        (made_on to name (record plan { at = cond more (search.Looking (word + 1)) search.Ended })
+        (cond more (nexts.Step (looking plan.layout (word + 1))) (nexts.Done NoSlot)) (record t { doing = Ended; first = false; event = None }))
         last now
-    tried true further = plainly w t _ last now (Some (acts.New (t.hands + 1) name.class slot)) (record {
-      after = Did (acts.New (t.hands + 1) name.class slot) ∷ now;
+    further true = search-goes-on w t last now works counts number phase to name (record plan { at = search.Looking (word + 1) }) (looking plan.layout (word + 1)) refl u
+    further false = plainly w t _ last now (Some acts.Full)
+        (comes-after w _ (Some acts.Full) (Did acts.Full ∷ now) (Line answers.Full ∷ Did acts.Full ∷ now) (line nothing)
+        (goes-on w served (put answers.Full (record t { doing = Ended; first = false; event = Some acts.Full })) (Line answers.Full ∷ Did acts.Full ∷ now) works
+        (counted-line w t.hands t.made t.kept (thread.number_of t) answers.Full (Did acts.Full ∷ now) (number-here w t (Did acts.Full ∷ now) works number) (record { hands_are = counts.hands_are; made_is = counts.made_is; lines_are = counts.lines_are }))
+        number phase full))
+
+    looks : (free : Option ℕ) → Turns w t
+        (made_on to name (record plan { at = looked plan.layout.slots word (unwrap_or last 0) free }) (looked_answer plan.layout word free) (record t { doing = Ended; first = false; event = None }))
+        last now
+    looks (Some s) = search-goes-on w t last now works counts number phase to name (record plan { at = search.Taking s (unwrap_or last 0) }) (taking plan.layout s) refl u
+    looks None = further (ltb (word + 1) (words_of plan.layout.slots))
+makes w served t last now works counts number phase to name plan (search.Taking s seen) u = takes_it (eqb (bit_and (unwrap_or last 0) (bit_of s)) 0)
+  where
+    takes_it : (clear : Bool) → Turns w t
+        (made_on to name (record plan { at = cond clear (search.Counting s) search.Ended })
+        (cond clear (nexts.Step (counting plan.layout plan.immortal s)) (nexts.Done (Again (record { seen = seen; found = unwrap_or last 0 })))) (record t { doing = Ended; first = false; event = None }))
+        last now
+    takes_it true = plainly w t _ last now (Some (acts.New (t.hands + 1) name.class s)) (record {
+      after = Did (acts.New (t.hands + 1) name.class s) ∷ now;
       says = nothing;
       event = refl;
       stands = record {
@@ -105,28 +149,19 @@ makes w served t last now works counts number phase to name slot plan (search.Tr
         counts = record { hands_are = ap (λ (n : ℕ). n + 1) counts.hands_are; made_is = ap (λ (n : ℕ). n + 1) counts.made_is; lines_are = counts.lines_are };
         number = number;
         asks = tt;
-        up_to = (u.0, record { before = now; making = u.1; now_is = rw counts.hands_are refl });
+        up_to = record { before = now; making = u; now_is = rw counts.hands_are refl };
       };
     })
-    tried false true = plainly w t _ last now None (record {
-      after = now;
-      says = nothing;
-      event = refl;
-      stands = record { works = works; in_phase = phase; counts = counts; number = number; asks = tt; up_to = (ap (λ (n : ℕ). n + 1) u.0, u.1) };
-    })
-    tried false false = plainly w t _ last now (Some acts.Full)
-        (comes-after w _ (Some acts.Full) (Did acts.Full ∷ now) (Line answers.Full ∷ Did acts.Full ∷ now) (line nothing)
-        (goes-on w served (put answers.Full (record t { doing = Ended; first = false; event = Some acts.Full })) (Line answers.Full ∷ Did acts.Full ∷ now) works
-        (counted-line w t.hands t.made t.kept (thread.number_of t) answers.Full (Did acts.Full ∷ now) (number-here w t (Did acts.Full ∷ now) works number) (record { hands_are = counts.hands_are; made_is = counts.made_is; lines_are = counts.lines_are }))
-        number phase full))
-makes w served t last now works counts number phase to name slot plan (search.Naming s) u = plainly w t _ last now None
+    takes_it false = search-begins-again w t last now works counts number phase to name u
+makes w served t last now works counts number phase to name plan (search.Counting s) u = search-goes-on w t last now works counts number phase to name (record plan { at = search.Naming s }) (naming plan.layout plan.name s) refl u
+makes w served t last now works counts number phase to name plan (search.Naming s) u = plainly w t _ last now None
     (comes-after w _ None now (Line (answers.New name) ∷ now) (line nothing)
     (replaces w served (put (answers.New name) (record t { doing = Ended; first = false; event = None })) to (record { hand = t.hands; place = s }) (op.New to name.class) (answers.New name) b.base now works
     (counted-line w t.hands t.made t.kept (thread.number_of t) (answers.New name) now (number-here w t now works number) counts)
     number phase b.done b.there answered))
   where
-    m : IsMade w t.index to name slot t.vars now
-    m = u.1
+    m : IsMade w t.index to name s t.vars now
+    m = u
 
     b : IsBegun w t.index (op.New to name.class) t.vars m.before
     b = m.making.begun
@@ -138,7 +173,7 @@ makes w served t last now works counts number phase to name slot plan (search.Na
     name_is = rw b.now_is at m.making.named
 
     now_is : now ≡ Did (acts.New t.hands name.class s) ∷ Operation (t.index + 1) ∷ b.base
-    now_is = let n = m.now_is in let o = b.now_is in let h = counts.hands_are in let k = ap hands_of m.now_is in let s_is = u.0 in cc
+    now_is = let n = m.now_is in let o = b.now_is in let h = counts.hands_are in let k = ap hands_of m.now_is in cc
 
     answered : IsAnswered w.thread w.came (op.New to name.class) (variables t.vars) (Operation (t.index + 1) ∷ b.base)
         (programs.put (variables t.vars) to (Some (strong_held (record { hand = t.hands; place = s })))) (answers.New name) (programs.value (variables t.vars) to) now
@@ -146,7 +181,7 @@ makes w served t last now works counts number phase to name slot plan (search.Na
         let P : List Note → Type 0 = λ (ns : List Note). IsAnswered w.thread w.came (op.New to name.class) (variables t.vars) (Operation (t.index + 1) ∷ b.base)
         (programs.put (variables t.vars) to (Some (strong_held (record { hand = t.hands; place = s })))) (answers.New name) (programs.value (variables t.vars) to) ns in
         subst P (sym now_is) (made {to = to} {class = name.class} {slot = s} {k = t.hands} {name = name} hand_is name_is (record { replaced = refl; old = refl }))
-makes w served t last now works counts number phase to name slot plan search.Ended u = absurd u
+makes w served t last now works counts number phase to name plan search.Ended u = absurd u
 
 -- ---- a reference is copied
 
@@ -160,28 +195,18 @@ copy-asks w t last now works counts number phase to held plan step u = plainly w
   stands = record { works = works; in_phase = phase; counts = counts; number = number; asks = tt; up_to = u };
 })
 
-up-loaded : (w : Work) (t : Thread) (last : Option ℕ) (now : List Note) → WorksOn w t.layout t.shape t.thread t.phases t.program → IsCounted w t.hands t.made t.kept now → number_of now ≡ number_at w t.index → IsOfPhase w t.phase t.index →
-    (to : ℕ) (held : Held) (plan : CappedAttempt) (word : ℕ) (o : Option Word) → IsUpWord plan.cap o → IsCopying w t.index to held t.vars now →
-    Turns w t (copied_on to held (record plan { at = exchanging word (strong_up_row plan.cap o) }) (chosen (number_in plan.layout (Count plan.slot)) word (strong_up_row plan.cap o)) (record t { doing = Ended; first = false; event = None })) last now
-up-loaded w t last now works counts number phase to held plan word None fits u = absurd fits
-up-loaded w t last now works counts number phase to held plan word (Some Free) fits u = absurd fits
-up-loaded w t last now works counts number phase to held plan word (Some (Slow e)) fits u = absurd fits
-up-loaded w t last now works counts number phase to held plan word (Some (Counts c)) fits u = go c.deiniting (eqb c.strong_extra plan.cap) refl refl
-  where
-    go : (dead full : Bool) → c.deiniting ≡ dead → eqb c.strong_extra plan.cap ≡ full →
-        Turns w t (copied_on to held (record plan { at = exchanging word (cond dead (Tell ups.Dead) (cond full (Tell ups.AtCap) (Write (packed (Counts (strong_more c)))))) })
-        (chosen (number_in plan.layout (Count plan.slot)) word (cond dead (Tell ups.Dead) (cond full (Tell ups.AtCap) (Write (packed (Counts (strong_more c))))))) (record t { doing = Ended; first = false; event = None })) last now
-    go true full e f = let a = fits.0 in absurd (cc)
-    go false true e f = let same = eqb-true c.strong_extra plan.cap f in let below = fits.1 in absurd (omega arith)
-    go false false e f = copy-asks w t last now works counts number phase to held _ _ u
-
-copies : (w : Work) → IsServedWork w → (t : Thread) (last : Option ℕ) (now : List Note) → WorksOn w t.layout t.shape t.thread t.phases t.program → IsCounted w t.hands t.made t.kept now → number_of now ≡ number_at w t.index → IsOfPhase w t.phase t.index →
-    (to : ℕ) (held : Held) (plan : CappedAttempt) (a : At) → IsCopying w t.index to held t.vars now → attempt_takes (StrongUpWord plan) a last → IsUpWordAt plan.cap a (unwrap_or last 0) →
-    Turns w t (copied_on to held (record plan { at = attempt_turned (λ v. strong_up_row plan.cap (unpacked v)) a (unwrap_or last 0) })
-    (attempt_answer (λ v. strong_up_row plan.cap (unpacked v)) (λ seen. ups.Up) ups.Again (number_in plan.layout (Count plan.slot)) a (unwrap_or last 0)) (record t { doing = Ended; first = false; event = None })) last now
-copies w served t last now works counts number phase to held plan attempt.Start u takes fits = copy-asks w t last now works counts number phase to held _ _ u
-copies w served t last now works counts number phase to held plan attempt.Loading u takes fits = up-loaded w t last now works counts number phase to held plan (unwrap_or last 0) (unpacked (unwrap_or last 0)) fits u
-copies w served t last now works counts number phase to held plan (attempt.Exchanging seen new) u takes fits = go (eqb (unwrap_or last 0) seen)
+-- the copy is made
+copies-made : (w : Work) → IsServedWork w → (t : Thread) (last : Option ℕ) (now : List Note) → WorksOn w t.layout t.shape t.thread t.phases t.program → IsCounted w t.hands t.made t.kept now → number_of now ≡ number_at w t.index → IsOfPhase w t.phase t.index →
+    (to : ℕ) (held : Held) (plan : CappedAttempt) → IsCopying w t.index to held t.vars now →
+    Turns w t (copied_on to held plan (nexts.Done ups.Up) (record t { doing = Ended; first = false; event = None })) last now
+copies-made w served t last now works counts number phase to held plan u =
+    plainly w t _ last now (Some (acts.Copy (Hand held.hand) (t.hands + 1)))
+    (comes-after w _ (Some (acts.Copy (Hand held.hand) (t.hands + 1))) (Did (acts.Copy (Hand held.hand) (t.hands + 1)) ∷ now) (Line answers.Ok ∷ Did (acts.Copy (Hand held.hand) (t.hands + 1)) ∷ now) (line nothing)
+    (replaces w served (put answers.Ok (record t { doing = Ended; first = false; hands = t.hands + 1; event = Some (acts.Copy (Hand held.hand) (t.hands + 1)) })) to (record { hand = t.hands + 1; place = held.place })
+    (op.Copy to u.from) answers.Ok b.base (Did (acts.Copy (Hand held.hand) (t.hands + 1)) ∷ now) works
+    (counted-line w (t.hands + 1) t.made t.kept (thread.number_of t) answers.Ok (Did (acts.Copy (Hand held.hand) (t.hands + 1)) ∷ now) (number-here w t (Did (acts.Copy (Hand held.hand) (t.hands + 1)) ∷ now) works number)
+    (record { hands_are = ap (λ (n : ℕ). n + 1) counts.hands_are; made_is = counts.made_is; lines_are = counts.lines_are }))
+    number phase b.done b.there answered))
   where
     b : IsBegun w t.index (op.Copy to u.from) t.vars now
     b = u.begun
@@ -197,14 +222,32 @@ copies w served t last now works counts number phase to held plan (attempt.Excha
         subst P (sym b.now_is) (copied {to = to} {from = u.from} {k = t.hands + 1} {held = strong_held held} (value-held t.vars u.from (Some held) u.source) hand_is
         (record { spare = Unclaimed; decided = Operation (t.index + 1) ∷ b.base; ready = ready; settled = unclaimed }) (record { replaced = refl; old = refl }))
 
+up-loaded : (w : Work) → IsServedWork w → (t : Thread) (last : Option ℕ) (now : List Note) → WorksOn w t.layout t.shape t.thread t.phases t.program → IsCounted w t.hands t.made t.kept now → number_of now ≡ number_at w t.index → IsOfPhase w t.phase t.index →
+    (to : ℕ) (held : Held) (plan : CappedAttempt) (word : ℕ) (o : Option Word) → IsUpWord plan.cap o → IsCopying w t.index to held t.vars now →
+    Turns w t (copied_on to held (record plan { at = exchanging word (strong_up_row plan.cap o) }) (chosen (number_in plan.layout (Count plan.slot)) word (strong_up_row plan.cap o)) (record t { doing = Ended; first = false; event = None })) last now
+up-loaded w served t last now works counts number phase to held plan word None fits u = absurd fits
+up-loaded w served t last now works counts number phase to held plan word (Some Free) fits u = absurd fits
+up-loaded w served t last now works counts number phase to held plan word (Some (Slow e)) fits u = absurd fits
+up-loaded w served t last now works counts number phase to held plan word (Some Immortal) fits u = copies-made w served t last now works counts number phase to held (record plan { at = attempt.Ended }) u
+up-loaded w served t last now works counts number phase to held plan word (Some (Counts c)) fits u = go c.deiniting (eqb c.strong_extra plan.cap) refl refl
+  where
+    go : (dead full : Bool) → c.deiniting ≡ dead → eqb c.strong_extra plan.cap ≡ full →
+        Turns w t (copied_on to held (record plan { at = exchanging word (cond dead (Tell ups.Dead) (cond full (Tell ups.AtCap) (Write (packed (Counts (strong_more c)))))) })
+        (chosen (number_in plan.layout (Count plan.slot)) word (cond dead (Tell ups.Dead) (cond full (Tell ups.AtCap) (Write (packed (Counts (strong_more c))))))) (record t { doing = Ended; first = false; event = None })) last now
+    go true full e f = let a = fits.0 in absurd (cc)
+    go false true e f = let same = eqb-true c.strong_extra plan.cap f in let below = fits.1 in absurd (omega arith)
+    go false false e f = copy-asks w t last now works counts number phase to held _ _ u
+
+copies : (w : Work) → IsServedWork w → (t : Thread) (last : Option ℕ) (now : List Note) → WorksOn w t.layout t.shape t.thread t.phases t.program → IsCounted w t.hands t.made t.kept now → number_of now ≡ number_at w t.index → IsOfPhase w t.phase t.index →
+    (to : ℕ) (held : Held) (plan : CappedAttempt) (a : At) → IsCopying w t.index to held t.vars now → attempt_takes (StrongUpWord plan) a last → IsUpWordAt plan.cap a (unwrap_or last 0) →
+    Turns w t (copied_on to held (record plan { at = attempt_turned (λ v. strong_up_row plan.cap (unpacked v)) a (unwrap_or last 0) })
+    (attempt_answer (λ v. strong_up_row plan.cap (unpacked v)) (λ seen. ups.Up) ups.Again (number_in plan.layout (Count plan.slot)) a (unwrap_or last 0)) (record t { doing = Ended; first = false; event = None })) last now
+copies w served t last now works counts number phase to held plan attempt.Start u takes fits = copy-asks w t last now works counts number phase to held _ _ u
+copies w served t last now works counts number phase to held plan attempt.Loading u takes fits = up-loaded w served t last now works counts number phase to held plan (unwrap_or last 0) (unpacked (unwrap_or last 0)) fits u
+copies w served t last now works counts number phase to held plan (attempt.Exchanging seen new) u takes fits = go (eqb (unwrap_or last 0) seen)
+  where
     go : (found : Bool) → Turns w t (copied_on to held (record plan { at = attempt.Ended }) (nexts.Done (cond found ups.Up (ups.Again (record { seen = seen; found = unwrap_or last 0 })))) (record t { doing = Ended; first = false; event = None })) last now
-    go true = plainly w t _ last now (Some (acts.Copy (Hand held.hand) (t.hands + 1)))
-        (comes-after w _ (Some (acts.Copy (Hand held.hand) (t.hands + 1))) (Did (acts.Copy (Hand held.hand) (t.hands + 1)) ∷ now) (Line answers.Ok ∷ Did (acts.Copy (Hand held.hand) (t.hands + 1)) ∷ now) (line nothing)
-        (replaces w served (put answers.Ok (record t { doing = Ended; first = false; hands = t.hands + 1; event = Some (acts.Copy (Hand held.hand) (t.hands + 1)) })) to (record { hand = t.hands + 1; place = held.place })
-        (op.Copy to u.from) answers.Ok b.base (Did (acts.Copy (Hand held.hand) (t.hands + 1)) ∷ now) works
-        (counted-line w (t.hands + 1) t.made t.kept (thread.number_of t) answers.Ok (Did (acts.Copy (Hand held.hand) (t.hands + 1)) ∷ now) (number-here w t (Did (acts.Copy (Hand held.hand) (t.hands + 1)) ∷ now) works number)
-        (record { hands_are = ap (λ (n : ℕ). n + 1) counts.hands_are; made_is = counts.made_is; lines_are = counts.lines_are }))
-        number phase b.done b.there answered))
+    go true = copies-made w served t last now works counts number phase to held (record plan { at = attempt.Ended }) u
     go false = plainly w t _ last now None (record {
       after = now;
       says = nothing;
@@ -255,13 +298,14 @@ drops-last w t last now works counts number phase held plan u = plainly w t _ la
   };
 })
 
-down-loaded : (w : Work) (t : Thread) (last : Option ℕ) (now : List Note) → WorksOn w t.layout t.shape t.thread t.phases t.program → IsCounted w t.hands t.made t.kept now → number_of now ≡ number_at w t.index → IsOfPhase w t.phase t.index →
+down-loaded : (w : Work) → IsServedWork w → (t : Thread) (last : Option ℕ) (now : List Note) → WorksOn w t.layout t.shape t.thread t.phases t.program → IsCounted w t.hands t.made t.kept now → number_of now ≡ number_at w t.index → IsOfPhase w t.phase t.index →
     (held : Held) (plan : Attempt) (word : ℕ) (o : Option Word) → IsCountWord plan.layout.entries (λ c. c.deiniting ≡ false) o → IsInline o → DropEnds w t.index held t.vars now →
     Turns w t (dropped_on held (record plan { at = exchanging word (strong_down_row o) }) (chosen (number_in plan.layout (Count plan.slot)) word (strong_down_row o)) (record t { doing = Ended; first = false; event = None })) last now
-down-loaded w t last now works counts number phase held plan word None fits in_line u = absurd fits
-down-loaded w t last now works counts number phase held plan word (Some Free) fits in_line u = absurd fits
-down-loaded w t last now works counts number phase held plan word (Some (Slow e)) fits in_line u = absurd in_line
-down-loaded w t last now works counts number phase held plan word (Some (Counts c)) fits in_line u = drop-goes-on w t last now works counts number phase held _ _ u
+down-loaded w served t last now works counts number phase held plan word None fits in_line u = absurd fits
+down-loaded w served t last now works counts number phase held plan word (Some Free) fits in_line u = absurd fits
+down-loaded w served t last now works counts number phase held plan word (Some (Slow e)) fits in_line u = absurd in_line
+down-loaded w served t last now works counts number phase held plan word (Some Immortal) fits in_line u = drops-more w served t last now works counts number phase held (record plan { at = attempt.Ended }) u
+down-loaded w served t last now works counts number phase held plan word (Some (Counts c)) fits in_line u = drop-goes-on w t last now works counts number phase held _ _ u
 
 drops : (w : Work) → IsServedWork w → (t : Thread) (last : Option ℕ) (now : List Note) → WorksOn w t.layout t.shape t.thread t.phases t.program → IsCounted w t.hands t.made t.kept now → number_of now ≡ number_at w t.index → IsOfPhase w t.phase t.index →
     (held : Held) (plan : Attempt) (a : At) → DropEnds w t.index held t.vars now → attempt_takes (StrongDownWord plan) a last → IsInlineAt a (unwrap_or last 0) →
@@ -269,7 +313,7 @@ drops : (w : Work) → IsServedWork w → (t : Thread) (last : Option ℕ) (now 
     (attempt_answer (λ v. strong_down_row (unpacked v)) (λ seen. strong_down_end (unpacked seen)) downs.Again (number_in plan.layout (Count plan.slot)) a (unwrap_or last 0)) (record t { doing = Ended; first = false; event = None })) last now
 drops w served t last now works counts number phase held plan attempt.Start u takes in_line = drop-goes-on w t last now works counts number phase held _ _ u
 drops w served t None now works counts number phase held plan attempt.Loading u takes in_line = absurd takes
-drops w served t (Some word) now works counts number phase held plan attempt.Loading u takes in_line = down-loaded w t (Some word) now works counts number phase held plan word (unpacked word) takes in_line u
+drops w served t (Some word) now works counts number phase held plan attempt.Loading u takes in_line = down-loaded w served t (Some word) now works counts number phase held plan word (unpacked word) takes in_line u
 drops w served t last now works counts number phase held plan (attempt.Exchanging seen new) u takes in_line = go (eqb (unwrap_or last 0) seen) (unpacked seen)
   where
     ended : (a : Bool) → Turns w t (dropped_on held (record plan { at = attempt.Ended }) (nexts.Done (cond a downs.Last downs.More)) (record t { doing = Ended; first = false; event = None })) last now
@@ -280,6 +324,7 @@ drops w served t last now works counts number phase held plan (attempt.Exchangin
     go true None = drops-more w served t last now works counts number phase held (record plan { at = attempt.Ended }) u
     go true (Some Free) = drops-more w served t last now works counts number phase held (record plan { at = attempt.Ended }) u
     go true (Some (Slow e)) = drops-more w served t last now works counts number phase held (record plan { at = attempt.Ended }) u
+    go true (Some Immortal) = drops-more w served t last now works counts number phase held (record plan { at = attempt.Ended }) u
     go true (Some (Counts c)) = ended (eqb c.strong_extra 0)
     go false o = plainly w t (drop_begun held (record t { doing = Ended; first = false; event = None })) last now None (record {
       after = now;
@@ -383,7 +428,7 @@ turns w served t last now s takes = go t.doing s.up_to s.number s.in_phase takes
         (begins w served (drop t.index (take (ops_in_first (t.phase + 1) t.phases) t.program)) (record t { doing = Ended; first = false; event = None }) now s.works s.counts
         (ap (λ ps. drop t.index (take (ops_in_first (t.phase + 1) ps) t.program)) s.works.phases_is ∙ ap (λ (p : List Op). drop t.index (take (ops_in_first (t.phase + 1) w.phases) p)) s.works.program_is)
         (rw phase (first_more t.phase w.phases)) u)
-    go (Making to name slot plan) u number phase takes = makes w served t last now s.works s.counts number phase to name slot plan plan.at u
+    go (Making to name plan) u number phase takes = makes w served t last now s.works s.counts number phase to name plan plan.at u
     go (Copying to held plan) u number phase takes = copies w served t last now s.works s.counts number phase to held plan plan.at u takes.0 takes.1
     go (Dropping held plan) u number phase takes = drops w served t last now s.works s.counts number phase held plan plan.at u takes.0 takes.1
     go (Dying c) u number phase takes = dies-on w served t last now s.works s.counts number phase c u takes

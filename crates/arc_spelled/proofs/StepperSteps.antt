@@ -17,12 +17,16 @@ use Rattle.arc_model.specs.Spelling.{Note, acts_of, IsDrop}
 use Rattle.arc_model.specs.Spelling.Note.{Line, Operation}
 use Rattle.arc_rule.specs.Extents.{Extent}
 use Rattle.arc_rule.specs.declared.step.Step.{Step}
+use Rattle.arc_rule.specs.declared.step.Intent.{Intent}
 use Rattle.arc_script.specs.declared.answer.Line.{Line as Told}
 use Rattle.arc_script.specs.declared.script.Op.{Op}
 use Rattle.arc_script.specs.declared.script.Op.TheVariants as op
+use Rattle.arc_script.specs.OneList.{numbered}
+use Rattle.arc_script.specs.Valid.{begins_block}
+use Rattle.arc_script.proofs.OneList.{number_is_place}
 use Rattle.arc_programs.specs.Variables.{Variables, put as put_var}
 use Rattle.arc_programs.specs.Variables as programs
-use Rattle.arc_programs.specs.Programs.{IsFromNil, IsAnswered, ScopeEnds}
+use Rattle.arc_programs.specs.Programs.{IsFromNil, IsAnswered, OpsDone, ScopeEnds}
 use Rattle.arc_programs.specs.Programs.IsFromNil.{copy as copy_from_nil, move as move_from_nil}
 use Rattle.arc_programs.specs.Programs.IsAnswered.{from_nil as takes_nil, moved as moves_held}
 use Rattle.arc_programs.specs.Programs.ScopeEnds.{begins as scope_starts, dropped as var_dropped}
@@ -134,16 +138,16 @@ acts-with : (e : Option Act) (ns : List Note) → acts_of (with_act e ns) ≡ wi
 acts-with None ns = refl
 acts-with (Some a) ns = refl
 
-acts-read : {layout : Extent} {asked : Option Step} {last : Option ℕ} {b ns : List Note} → ReadsName layout asked last b ns → acts_of ns ≡ acts_of b
+acts-read : {layout : Extent} {asked : Option (Step × Intent)} {last : Option ℕ} {b ns : List Note} → ReadsName layout asked last b ns → acts_of ns ≡ acts_of b
 acts-read read_nothing = refl
 acts-read (read_name a l) = refl
 
-acts-found : {layout : Extent} {asked : Option Step} {last : Option ℕ} {e : Option Act} {b ns : List Note} → FindsNoEntry layout asked last e b ns → acts_of ns ≡ acts_of b
+acts-found : {layout : Extent} {asked : Option (Step × Intent)} {last : Option ℕ} {e : Option Act} {b ns : List Note} → FindsNoEntry layout asked last e b ns → acts_of ns ≡ acts_of b
 acts-found found_nothing = refl
 acts-found (no_entry a l w c) = refl
 
 -- the event that is told is the newest of the events
-pub acts-added : {layout : Extent} {asked : Option Step} {last : Option ℕ} {b ns : List Note} (e : Option Act) → Adds layout asked last e b ns → acts_of ns ≡ with_event e (acts_of b)
+pub acts-added : {layout : Extent} {asked : Option (Step × Intent)} {last : Option ℕ} {b ns : List Note} (e : Option Act) → Adds layout asked last e b ns → acts_of ns ≡ with_event e (acts_of b)
 acts-added e a =
     acts-said a.says ∙ acts-found a.shows.finds ∙ acts-with e a.shows.read ∙ ap (λ (acts : List Act). with_event e acts) (acts-read a.shows.reads)
 
@@ -167,6 +171,39 @@ over-done w i vars now within d = rw (lt-ltb i (length w.program) within) d
 
 served-at : (w : Work) (i : ℕ) (o : Op) → IsServedWork w → slice_get w.program i ≡ Some o → IsServedOp o
 served-at w i o served there = subst IsServedOp (get_or_from_slice_get w.program i o o there) (All-get_or IsServedOp w.program i o (slice_get_within w.program i o there) served.ops)
+
+-- no operation that is served begins a block, so the number of each is by its place
+pub no-block : (o : Op) → IsServedOp o → begins_block o ≡ false
+no-block (op.New to class) s = refl
+no-block (op.Copy to from) s = refl
+no-block (op.Move to from) s = refl
+no-block (op.Drop v) s = refl
+no-block (op.Unown to of) s = refl
+no-block (op.Weak to of) s = refl
+no-block (op.Load to of) s = refl
+no-block (op.Get to cell) s = refl
+no-block (op.Set cell from) s = refl
+no-block (op.IfNil v to) s = absurd s
+no-block (op.IfSome v to) s = absurd s
+
+place-number : (w : Work) → IsServedWork w → (i : ℕ) (o : Op) → slice_get w.program i ≡ Some o → numbered (take (i + 1) w.program) ≡ i + 1
+place-number w served i o there =
+    let within = slice_get_within w.program i o there in
+    number_is_place w.program (i + 1) (λ j x at. no-block x (served-at w j x served at)) (omega arith)
+
+pub op-answers : (w : Work) → IsServedWork w → {i : ℕ} {o : Op} {vars vars' : Variables} {answer : Answer} {b ns : List Note} →
+    IsNext w.shape w.thread w.came w.program w.count i o vars b → IsAnswered w.thread w.came o vars (Operation (i + 1) ∷ b) vars' answer None ns →
+    OpsDone w.shape w.thread w.came w.program w.count (i + 1) vars' (Line answer ∷ ns)
+op-answers w served {i} {o} {vars} {vars'} {answer} {b} {ns} n d =
+    let P : ℕ → Type 0 = λ (k : ℕ). IsAnswered w.thread w.came o vars (Operation k ∷ b) vars' answer None ns in
+    answers_last n (subst P (sym (place-number w served i o n.there)) d)
+
+op-drops : (w : Work) → IsServedWork w → {i : ℕ} {o : Op} {vars vars' : Variables} {answer : Answer} {old : programs.Held} {b ns after : List Note} →
+    IsNext w.shape w.thread w.came w.program w.count i o vars b → IsAnswered w.thread w.came o vars (Operation (i + 1) ∷ b) vars' answer (Some old) ns →
+    IsDrop w.shape old.kind old.place old.hand (Line answer ∷ ns) after → OpsDone w.shape w.thread w.came w.program w.count (i + 1) vars' after
+op-drops w served {i} {o} {vars} {vars'} {answer} {old} {b} {ns} n d x =
+    let P : ℕ → Type 0 = λ (k : ℕ). IsAnswered w.thread w.came o vars (Operation k ∷ b) vars' answer (Some old) ns in
+    drops_last n (subst P (sym (place-number w served i o n.there)) d) x
 
 get-drop_suc : {X : Type 0} (xs rest : List X) (i : ℕ) (x : X) → x ∷ rest ≡ drop i xs → (slice_get xs i ≡ Some x) × (rest ≡ drop (suc i) xs)
 get-drop_suc [] rest zero x e = absurd (cc)
@@ -337,12 +374,14 @@ ends-phase w served t now works counts r before d = subst P (sym works.phases_is
 
 -- an operation that is next, with what every operation needs
 record Opens (w : Work) (t : Thread) (now : List Note) (o : Op) : Type 0 where
+  served : IsServedWork w
   next : IsNext w.shape w.thread w.came w.program w.count t.index o (variables t.vars) now
   number : number_of (Operation (t.index + 1) ∷ now) ≡ number_at w t.index
   opened : IsCounted w t.hands t.made t.kept (Operation (t.index + 1) ∷ now)
 
-opens : (w : Work) (t : Thread) (now : List Note) (o : Op) (rest : List Op) → IsHere w t o rest → IsCounted w t.hands t.made t.kept now → AreDone w t.index t.vars now → Opens w t now o
-opens w t now o rest here counts d = record {
+opens : (w : Work) → IsServedWork w → (t : Thread) (now : List Note) (o : Op) (rest : List Op) → IsHere w t o rest → IsCounted w t.hands t.made t.kept now → AreDone w t.index t.vars now → Opens w t now o
+opens w served t now o rest here counts d = record {
+  served = served;
   next = record { done = d; there = here.there };
   number = sym (number-within w t.index here.within);
   opened = counted-operation w t.hands t.made t.kept (t.index + 1) now counts;
@@ -367,11 +406,11 @@ from-nil w t now o rest to go works here x nil skip = at (value t.vars to) refl
       stands = drop-asks w (set_var to None (put answers.Nil (record t { first = true }))) old (Line answers.Nil ∷ Operation (t.index + 1) ∷ now) works
           (counted-line w t.hands t.made t.kept (thread.number_of t) answers.Nil (Operation (t.index + 1) ∷ now) (number-here w t (Operation (t.index + 1) ∷ now) works x.number) x.opened)
           x.number here.in_phase
-          (λ after y. over-done w t.index (set t.vars to None) after here.within (rw (put-held t.vars to None) (drops_last x.next (answered (Some old) e) y)));
+          (λ after y. over-done w t.index (set t.vars to None) after here.within (rw (put-held t.vars to None) (op-drops w x.served x.next (answered (Some old) e) y)));
     }
     at None e =
         let same : put_var (variables t.vars) to None ≡ variables t.vars = put-nil (variables t.vars) to (value-held t.vars to None e) in
-        comes-after w (go (skipped answers.Nil t)) t.event now (Line answers.Nil ∷ Operation (t.index + 1) ∷ now) (line (operation nothing)) (skip (rw same at (answers_last x.next (answered None e))))
+        comes-after w (go (skipped answers.Nil t)) t.event now (Line answers.Nil ∷ Operation (t.index + 1) ∷ now) (line (operation nothing)) (skip (rw same at (op-answers w x.served x.next (answered None e))))
 
 -- a reference is copied
 copying : (w : Work) (t : Thread) (now : List Note) (to from : ℕ) (rest : List Op) (go : Thread → Thread) → WorksOn w t.layout t.shape t.thread t.phases t.program → IsHere w t (op.Copy to from) rest →
@@ -421,11 +460,11 @@ moving w t now to from rest go works here x skip move = at (value t.vars from) r
       stands = drop-asks w (moved to from h (put answers.Ok (record t { first = true }))) old (Line answers.Ok ∷ Operation (t.index + 1) ∷ now) works
           (counted-line w t.hands t.made t.kept (thread.number_of t) answers.Ok (Operation (t.index + 1) ∷ now) (number-here w t (Operation (t.index + 1) ∷ now) works x.number) x.opened)
           x.number here.in_phase
-          (λ after y. over-done w t.index (set (set t.vars to (Some h)) from None) after here.within (rw (replaced_vars h) (drops_last x.next (answered h (Some old) e f) y)));
+          (λ after y. over-done w t.index (set (set t.vars to (Some h)) from None) after here.within (rw (replaced_vars h) (op-drops w x.served x.next (answered h (Some old) e f) y)));
     }
     to_place h None e f =
         comes-after w (go (moved to from h (skipped answers.Ok t))) t.event now (Line answers.Ok ∷ Operation (t.index + 1) ∷ now) (line (operation nothing))
-        (move h (rw (replaced_vars h) (answers_last x.next (answered h None e f))))
+        (move h (rw (replaced_vars h) (op-answers w x.served x.next (answered h None e f))))
 
     at : (source : Option Held) → value t.vars from ≡ source → Comes w (begun_move to from source (value t.vars to) t go) t.event now
     at (Some h) e = to_place h (value t.vars to) e refl
@@ -446,10 +485,10 @@ dropping w t now v rest go works here x skip = at (value t.vars v) refl
           (counted-line w t.hands t.made t.kept (thread.number_of t) answers.Ok (Operation (t.index + 1) ∷ now) (number-here w t (Operation (t.index + 1) ∷ now) works x.number) x.opened)
           x.number here.in_phase
           (λ after y. over-done w t.index (set t.vars v None) after here.within
-          (rw (put-held t.vars v None) (drops_last x.next (drop_of w.thread v w.came (strong_held old) (variables t.vars) (Operation (t.index + 1) ∷ now) (value-held t.vars v (Some old) e)) y)));
+          (rw (put-held t.vars v None) (op-drops w x.served x.next (drop_of w.thread v w.came (strong_held old) (variables t.vars) (Operation (t.index + 1) ∷ now) (value-held t.vars v (Some old) e)) y)));
     }
     at None e = comes-after w (go (skipped answers.Nil t)) t.event now (Line answers.Nil ∷ Operation (t.index + 1) ∷ now) (line (operation nothing))
-        (skip (answers_last x.next (drop_of_nil w.thread v w.came (variables t.vars) (Operation (t.index + 1) ∷ now) (value-held t.vars v None e))))
+        (skip (op-answers w x.served x.next (drop_of_nil w.thread v w.came (variables t.vars) (Operation (t.index + 1) ∷ now) (value-held t.vars v None e))))
 
 -- the first operation of the rest of the phase that asks for a step begins, or the phase is over
 pub begins : (w : Work) → IsServedWork w → (rest : List Op) (t : Thread) (now : List Note) → WorksOn w t.layout t.shape t.thread t.phases t.program → IsCounted w t.hands t.made t.kept now →
@@ -467,29 +506,26 @@ begins w served (op.New to class ∷ rest) t now works counts r before d =
         counts = counted-operation w t.hands t.made t.kept (t.index + 1) now counts;
         number = sym (number-within w t.index here.within);
         asks = tt;
-        up_to = (
-          refl,
-          record {
-            begun = record { base = now; done = d; there = here.there; now_is = refl };
-            named = rw (works.thread_is, counts.made_is) refl;
-          },
-        );
+        up_to = record {
+          begun = record { base = now; done = d; there = here.there; now_is = refl };
+          named = rw (works.thread_is, counts.made_is) refl;
+        };
       };
     }
 begins w served (op.Copy to from ∷ rest) t now works counts r before d =
     let here = is-here w t (op.Copy to from) rest r in
-    let x = opens w t now (op.Copy to from) rest here counts d in
+    let x = opens w served t now (op.Copy to from) rest here counts d in
     copying w t now to from rest (λ behind. begun_at rest behind) works here x d
     (λ done. begins w served rest (skipped answers.Nil t) (Line answers.Nil ∷ Operation (t.index + 1) ∷ now) works (skipped-line w t answers.Nil now x.opened) here.behind here.before_end done)
 begins w served (op.Move to from ∷ rest) t now works counts r before d =
     let here = is-here w t (op.Move to from) rest r in
-    let x = opens w t now (op.Move to from) rest here counts d in
+    let x = opens w served t now (op.Move to from) rest here counts d in
     moving w t now to from rest (λ behind. begun_at rest behind) works here x
     (λ done. begins w served rest (skipped answers.Nil t) (Line answers.Nil ∷ Operation (t.index + 1) ∷ now) works (skipped-line w t answers.Nil now x.opened) here.behind here.before_end done)
     (λ held done. begins w served rest (moved to from held (skipped answers.Ok t)) (Line answers.Ok ∷ Operation (t.index + 1) ∷ now) works (skipped-line w t answers.Ok now x.opened) here.behind here.before_end done)
 begins w served (op.Drop v ∷ rest) t now works counts r before d =
     let here = is-here w t (op.Drop v) rest r in
-    let x = opens w t now (op.Drop v) rest here counts d in
+    let x = opens w served t now (op.Drop v) rest here counts d in
     dropping w t now v rest (λ behind. begun_at rest behind) works here x
     (λ done. begins w served rest (skipped answers.Nil t) (Line answers.Nil ∷ Operation (t.index + 1) ∷ now) works (skipped-line w t answers.Nil now x.opened) here.behind here.before_end done)
 begins w served (op.Unown to of ∷ rest) t now works counts r before d = absurd (served-at w t.index (op.Unown to of) served (is-here w t (op.Unown to of) rest r).there)
@@ -497,6 +533,8 @@ begins w served (op.Weak to of ∷ rest) t now works counts r before d = absurd 
 begins w served (op.Load to of ∷ rest) t now works counts r before d = absurd (served-at w t.index (op.Load to of) served (is-here w t (op.Load to of) rest r).there)
 begins w served (op.Get to cell ∷ rest) t now works counts r before d = absurd (served-at w t.index (op.Get to cell) served (is-here w t (op.Get to cell) rest r).there)
 begins w served (op.Set cell from ∷ rest) t now works counts r before d = absurd (served-at w t.index (op.Set cell from) served (is-here w t (op.Set cell from) rest r).there)
+begins w served (op.IfNil v to ∷ rest) t now works counts r before d = absurd (served-at w t.index (op.IfNil v to) served (is-here w t (op.IfNil v to) rest r).there)
+begins w served (op.IfSome v to ∷ rest) t now works counts r before d = absurd (served-at w t.index (op.IfSome v to) served (is-here w t (op.IfSome v to) rest r).there)
 
 -- what was under way is over
 pub goes-on : (w : Work) → IsServedWork w → (t : Thread) (now : List Note) → WorksOn w t.layout t.shape t.thread t.phases t.program → IsCounted w t.hands t.made t.kept now →
@@ -551,12 +589,12 @@ replaces w served t to held o answer base ns works counts number phase done ther
 
     go : (old : Option Held) → value t.vars to ≡ old → Comes w (replaced_old old (set_var to (Some held) t)) t.event (Line answer ∷ ns)
     go None e =
-        let d : AreDone w (t.index + 1) (set t.vars to (Some held)) (Line answer ∷ ns) = rw (put-held t.vars to (Some held)) (answers_last next (rw (value-held t.vars to None e) at answered)) in
+        let d : AreDone w (t.index + 1) (set t.vars to (Some held)) (Line answer ∷ ns) = rw (put-held t.vars to (Some held)) (op-answers w served next (rw (value-held t.vars to None e) at answered)) in
         goes-on w served (set_var to (Some held) t) (Line answer ∷ ns) works counts number phase (over-done w t.index (set t.vars to (Some held)) (Line answer ∷ ns) within d)
     go (Some old) e = record {
       after = Line answer ∷ ns;
       says = nothing;
       event = refl;
       stands = drop-asks w (set_var to (Some held) t) old (Line answer ∷ ns) works counts number phase
-          (λ after x. over-done w t.index (set t.vars to (Some held)) after within (rw (put-held t.vars to (Some held)) (drops_last next (rw (value-held t.vars to (Some old) e) at answered) x)));
+          (λ after x. over-done w t.index (set t.vars to (Some held)) after within (rw (put-held t.vars to (Some held)) (op-drops w served next (rw (value-held t.vars to (Some old) e) at answered) x)));
     }

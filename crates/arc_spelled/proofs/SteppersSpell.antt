@@ -1,5 +1,5 @@
 -- A thread's stepper begins with no note, and its notes spell the thread's program where it has ended.
-use Rattle.std.proofs.Common.{◌≡◌, ℕ, zero, suc, ◌-◌, ◌<◌, ◌≤◌, Bool, true, false, cond, eqb, List, [], ◌∷◌, ◌++◌, length, replicate, take, Option, Some, None, refl, ap, subst, ◌∙◌, arith}
+use Rattle.std.proofs.Common.{◌≡◌, ℕ, zero, suc, ◌-◌, ◌<◌, ◌≤◌, Bool, true, false, cond, eqb, List, [], ◌∷◌, ◌++◌, length, replicate, take, Option, Some, None, refl, sym, ap, subst, ◌∙◌, arith}
 use Rattle.std.proofs.Math.Seq.{take-nil}
 use Rattle.std.proofs.lemmas.Bool.{eqb-true}
 use Rattle.std.proofs.lemmas.List.{take_all}
@@ -17,18 +17,20 @@ use Rattle.arc_model.specs.SpellingTies.Ties.{own, noted}
 use Rattle.arc_model.specs.declared.event.Act.{Act}
 use Rattle.arc_rule.specs.Extents.{Extent}
 use Rattle.arc_rule.specs.declared.step.Step.{Step}
+use Rattle.arc_rule.specs.declared.step.Intent.{Intent}
 use Rattle.arc_script.specs.declared.script.Op.{Op}
 use Rattle.arc_script.specs.declared.script.ThreadDecl.{ThreadDecl}
 use Rattle.arc_script.specs.declared.script.Script.{Script}
-use Rattle.arc_script.specs.Valid.{IsScript}
+use Rattle.arc_script.specs.Valid.{IsScript, begins_block}
+use Rattle.arc_script.proofs.OneList.{without_blocks}
 use Rattle.arc_programs.specs.Variables.{Variables, Held, all_nil}
 use Rattle.arc_programs.specs.Programs.{Hands, IsAnswered, OpsDone, ScopeEnds, IsProgram}
 use Rattle.arc_programs.specs.Programs.IsAnswered.{made, full, copied, unowned_formed, weak_formed, loaded, found_dead, weakly_loaded, found_nil, looked, got, put_in_nil, swapped, no_owner, given_up, nothing_there, moved, from_nil, count_full, no_entry}
-use Rattle.arc_programs.specs.Programs.OpsDone.{none, one}
+use Rattle.arc_programs.specs.Programs.OpsDone.{none, one, block}
 use Rattle.arc_programs.specs.Programs.ScopeEnds.{begins, nil as var_nil, dropped as var_dropped}
 use Rattle.arc_programs.specs.Programs.GlobalsCleared.{begins as end_begins}
 use Rattle.arc_programs.specs.ProgramsLines.{told}
-use Rattle.arc_programs.specs.ProgramsTied.{Spells}
+use Rattle.arc_programs.specs.ProgramsTied.{Spells, operations}
 use Rattle.arc_programs.specs.ProgramsTied.Spells.{thread, end}
 use Rattle.arc_ops.specs.declared.stepper.Doing.{Doing}
 use Rattle.arc_ops.specs.declared.stepper.Doing.TheVariants.{Ready, Making, Copying, Dropping, Dying, Ended}
@@ -43,6 +45,7 @@ use Rattle.arc_spelled.specs.Shown.FindsNoEntry.{nothing as found_nothing, no_en
 use Rattle.arc_spelled.specs.Shown.Says.{nothing as said_nothing, line, operation}
 use Rattle.arc_spelled.specs.StepperStands.{Work, IsServedWork, variables, AreDone, StepperUpTo, IsInPhase, Asks, StandsFor}
 use Rattle.arc_spelled.specs.Spelled.{work_of, SteppersBegin, SteppersGoOn, EndedSteppersSpell, ReadySteppersHaveDone, with_event_of, WordsHold, AddedNotesAreTied}
+use Rattle.arc_spelled.proofs.StepperSteps.{no-block}
 use Rattle.arc_spelled.proofs.StepperKeeps.{stepper_goes_on}
 
 -- ---- what a script's thread works on is served
@@ -120,6 +123,7 @@ any-done any s (none e) = none e
 any-done {program = program} any s (one {i = i} {o = o} d there e x) =
     let served : IsServedOp o = subst IsServedOp (get_or_from_slice_get program i o o there) (All-get_or IsServedOp program i o (slice_get_within program i o there) s) in
     one (any-done any s d) there e (record { answer = x.answer; last = x.last; answered = x.answered; does = any-answered any served x.does; ends = x.ends })
+any-done any s (block d there b next forth) = block (any-done any s d) there b next forth
 
 -- ---- the end
 
@@ -129,7 +133,7 @@ at-end w t now s e = go t.doing (rw e at s.asks) s.up_to
   where
     go : (d : Doing) → Asks d moves.Ended → StepperUpTo w t.index t.vars t.asked now d → IsProgram w.shape w.thread w.came w.program w.count now
     go Ready a u = absurd (cc)
-    go (Making to name slot plan) a u = absurd a
+    go (Making to name plan) a u = absurd a
     go (Copying to held plan) a u = absurd a
     go (Dropping held plan) a u = absurd a
     go (Dying c) a u = absurd a
@@ -144,15 +148,31 @@ thread-there (t ∷ ts) (suc i) within e = thread-there ts i (omega arith) e
 none-done : {shape : HeapShape} {p : ℕ} {came : Hands} {count n : ℕ} {vars : Variables} {now : List Note} → OpsDone shape p came [] count n vars now → now ≡ []
 none-done (none e) = refl
 none-done (one d there e x) = absurd (cc)
+none-done (block d there e n f) = absurd (cc)
 
 no-variables : {shape : HeapShape} {p n : ℕ} {came : Hands} {vars : Variables} {now : List Note} → OpsDone shape p came [] 0 n vars now → length vars ≡ 0
 no-variables (none e) = ap (λ (vs : Variables). length vs) e
 no-variables (one d there e x) = absurd (cc)
+no-variables (block d there e n f) = absurd (cc)
 
 none-dropped : {shape : HeapShape} {first left : Variables} {n : ℕ} {b ns : List Note} → ScopeEnds shape first n left b ns → n ≡ 0 → ns ≡ Operation 0 ∷ b
 none-dropped begins z = refl
 none-dropped (var_nil s l e w) z = absurd (omega arith)
 none-dropped (var_dropped s l e w v x) z = absurd (omega arith)
+
+-- a thread that is served has no block, so its operations in one list are those of its phases
+no-blocks-in : (ops : List Op) → AllByRecursion IsServedOp ops → AllByRecursion (λ (o : Op). begins_block o ≡ false) ops
+no-blocks-in [] served = tt
+no-blocks-in (o ∷ ops) served = (no-block o served.0, no-blocks-in ops served.1)
+
+no-blocks : (phases : List (List Op)) → AllByRecursion (All IsServedOp) phases → AllByRecursion (λ (ops : List Op). AllByRecursion (λ (o : Op). begins_block o ≡ false) ops) phases
+no-blocks [] served = tt
+no-blocks (ops ∷ phases) served = (no-blocks-in ops (recursion_from_All IsServedOp ops served.0), no-blocks phases served.1)
+
+pub one-list : (s : Script) (i : ℕ) (decl : ThreadDecl) → IsServed s → slice_get s.threads i ≡ Some decl → operations decl ≡ flat_map (λ ops. ops) decl.phases
+one-list s i decl served there =
+    let here : IsServedThread decl = subst IsServedThread (get_or_from_slice_get s.threads i decl decl there) (All-get_or IsServedThread s.threads i decl (slice_get_within s.threads i decl there) served.threads) in
+    without_blocks 0 decl.phases (no-blocks decl.phases (recursion_from_All (All IsServedOp) decl.phases here.ops))
 
 threads-spell : (s : Script) (p : ℕ) (any : Hands) (now : List Note) → IsScript s → IsServed s → p ≤ length s.threads →
     IsProgram s.shape p any (program_of s p) (vars_of s p) now → Spells s any p now
@@ -167,7 +187,9 @@ threads-spell s (suc n) any now valid served within program = numbered (eqb (suc
   where
     go : (o : Option ThreadDecl) → slice_get s.threads (suc n - 1) ≡ o → IsProgram s.shape (suc n) any (flat_map (λ ops. ops) (phases_in o)) (count_of_vars o) now → Spells s any (suc n) now
     go None e x = absurd (thread-there s.threads (suc n - 1) (omega arith) e)
-    go (Some decl) e x = thread (omega arith) e x
+    go (Some decl) e x =
+        let P : List Op → Type 0 = λ (ops : List Op). IsProgram s.shape (suc n) any ops (length decl.vars) now in
+        thread (omega arith) e (subst P (sym (one-list s (suc n - 1) decl served e)) x)
 
     numbered : (b : Bool) → eqb (suc n) 0 ≡ b →
         IsProgram s.shape (suc n) any (flat_map (λ ops. ops) (phases_in (cond b None (slice_get s.threads (suc n - 1))))) (count_of_vars (cond b None (slice_get s.threads (suc n - 1)))) now → Spells s any (suc n) now
@@ -192,7 +214,7 @@ between w t now s e = go t.doing (rw e at s.asks) s.in_phase s.up_to
   where
     go : (d : Doing) → Asks d moves.PhaseEnd → IsInPhase w t.phase t.index d → StepperUpTo w t.index t.vars t.asked now d → AreDone w (ops_in_first t.phase w.phases) t.vars now
     go Ready a i u = rw i at u
-    go (Making to name slot plan) a i u = absurd a
+    go (Making to name plan) a i u = absurd a
     go (Copying to held plan) a i u = absurd a
     go (Dropping held plan) a i u = absurd a
     go (Dying c) a i u = absurd a
@@ -203,7 +225,7 @@ ready_steppers_have_done script p came any t now served s e = any-done any (prog
 
 -- ---- the notes in a history
 
-tied-read : (causes : Causes) (shape : HeapShape) (layout : Extent) (asked : Option Step) (last : Option ℕ) (p : ℕ) (event : Option Act) (h : History) (b ns : List Note) →
+tied-read : (causes : Causes) (shape : HeapShape) (layout : Extent) (asked : Option (Step × Intent)) (last : Option ℕ) (p : ℕ) (event : Option Act) (h : History) (b ns : List Note) →
     ReadsName layout asked last b ns → WordsHold causes shape layout asked last p event h → Ties causes shape p b h → Ties causes shape p ns h
 tied-read causes shape layout asked last p event h b ns read_nothing holds t = t
 tied-read causes shape layout asked last p event h b ns (read_name {slot = slot} {w = w} a l) holds t = noted t (holds.names slot w a l)
@@ -212,7 +234,7 @@ tied-act : (causes : Causes) (shape : HeapShape) (p : ℕ) (event : Option Act) 
 tied-act causes shape p None h ns t = t
 tied-act causes shape p (Some a) h ns t = own t
 
-tied-found : (causes : Causes) (shape : HeapShape) (layout : Extent) (asked : Option Step) (last : Option ℕ) (p : ℕ) (event : Option Act) (h : History) (b ns : List Note) →
+tied-found : (causes : Causes) (shape : HeapShape) (layout : Extent) (asked : Option (Step × Intent)) (last : Option ℕ) (p : ℕ) (event : Option Act) (h : History) (b ns : List Note) →
     FindsNoEntry layout asked last event b ns → WordsHold causes shape layout asked last p event h → Ties causes shape p b (with_event_of p event h) → Ties causes shape p ns (with_event_of p event h)
 tied-found causes shape layout asked last p event h b ns found_nothing holds t = t
 tied-found causes shape layout asked last p event h b ns (found_no_entry {slot = slot} {w = w} {new = new} {c = c} e a l u) holds t = noted t (holds.entries slot w new c e a l u)

@@ -10,6 +10,8 @@ use Rattle.arc_rule.specs.Extents.{Extent}
 use Rattle.arc_rule.specs.Places.{number}
 use Rattle.arc_rule.specs.declared.layout.Place.TheVariants.{Count, Isa}
 use Rattle.arc_rule.specs.declared.step.Step.{Step}
+use Rattle.arc_rule.specs.declared.step.Intent.TheVariants as intents
+use Rattle.arc_rule.specs.declared.step.Intent.{Intent}
 use Rattle.arc_rule.specs.declared.step.Step.TheVariants.{Load, Exchange}
 use Rattle.arc_plan.specs.declared.attempt.At.{At as AttemptAt}
 use Rattle.arc_plan.specs.declared.attempt.At.TheVariants as attempt
@@ -21,9 +23,9 @@ use Rattle.arc_cells.specs.declared.cascade.CascadeNext.TheVariants as says
 use Rattle.arc_cells.specs.Cascades.{HasNoFields, CascadeState, cascade_from, cascade_turned, cascade_answer, cascade_takes}
 use Rattle.arc_spelled.specs.Shown.{Shows}
 
--- the step that it asks for
-abbrev pub asked_by : CascadeNext → Option Step
-asked_by (says.Step step intent) = Some step
+-- the step that it asks for, and what it is made for
+abbrev pub asked_by : CascadeNext → Option (Step × Intent)
+asked_by (says.Step step intent) = Some (step, intent)
 asked_by _ = None
 
 -- the line of the object that it tells the name of
@@ -43,21 +45,21 @@ pub record IsFinished (shape : HeapShape) (slot : ℕ) (base now : List Note) : 
   pub now_is : now ≡ Entry slot None ∷ Did (Finish slot true) ∷ before
 
 -- an exchange that is under way is one of the object's count
-abbrev pub AwaitsExchange : CascadeState → Option Step → AttemptAt → Type 0
-AwaitsExchange c asked (attempt.Exchanging seen new) = asked ≡ Some (Exchange (number c.layout (Count c.slot)) seen new)
+abbrev pub AwaitsExchange : CascadeState → Option (Step × Intent) → AttemptAt → Type 0
+AwaitsExchange c asked (attempt.Exchanging seen new) = asked ≡ Some (Exchange (number c.layout (Count c.slot)) seen new, intents.Deinit c.slot)
 AwaitsExchange c asked _ = ⊤
 
 -- the attempt is on the object's count
-pub record IsReleasing (c : CascadeState) (asked : Option Step) (p : Attempt) : Type 0 where
+pub record IsReleasing (c : CascadeState) (asked : Option (Step × Intent)) (p : Attempt) : Type 0 where
   pub layout : p.layout ≡ c.layout
   pub slot : p.slot ≡ c.slot
   pub awaits : AwaitsExchange c asked p.at
 
 -- what was asked for last, and the notes, where the cascade is
-abbrev pub CascadeUpTo : CascadeState → Option Step → (base now : List Note) → At → Type 0
+abbrev pub CascadeUpTo : CascadeState → Option (Step × Intent) → (base now : List Note) → At → Type 0
 CascadeUpTo c asked base now Start = now ≡ base
 CascadeUpTo c asked base now Entering = now ≡ base
-CascadeUpTo c asked base now Naming = (now ≡ base) × (asked ≡ Some (Load (number c.layout (Isa c.slot))))
+CascadeUpTo c asked base now Naming = (now ≡ base) × (asked ≡ Some (Load (number c.layout (Isa c.slot)), intents.Deinit c.slot))
 CascadeUpTo c asked base now (Named name) = FieldsDone c.shape c.slot name 0 base now
 CascadeUpTo c asked base now Leaving = AllDone c.shape c.slot base now
 CascadeUpTo c asked base now (Finishing p) = IsReleasing c asked p × AllDone c.shape c.slot base now
@@ -65,7 +67,7 @@ CascadeUpTo c asked base now (Vacating p) = IsFinished c.shape c.slot base now
 CascadeUpTo c asked base now Ended = IsCascade c.shape c.slot base now
 
 -- The cascade, which began behind the notes `base` and has asked for a step last, stands for the notes now.
-abbrev pub CascadeStandsFor : (base : List Note) → CascadeState → (asked : Option Step) → (now : List Note) → Type 0
+abbrev pub CascadeStandsFor : (base : List Note) → CascadeState → (asked : Option (Step × Intent)) → (now : List Note) → Type 0
 CascadeStandsFor base c asked now = CascadeUpTo c asked base now c.at
 
 -- the same object's cascade in the same heap
@@ -76,7 +78,7 @@ pub record IsSameObject (c new : CascadeState) : Type 0 where
 
 -- What a cascade stands for once it is given a word: the notes that it stood for, with what the word shows and with the line of the
 -- object that it tells. Where it is done, they spell the deinit.
-pub record CascadeGoesOn (c : CascadeState) (asked : Option Step) (last : Option ℕ) (base now : List Note) : Type 0 where
+pub record CascadeGoesOn (c : CascadeState) (asked : Option (Step × Intent)) (last : Option ℕ) (base now : List Note) : Type 0 where
   pub found : List Note
   pub shows : Shows c.layout asked last (cascade_turned c last).event now found
   pub stands : CascadeStandsFor base (cascade_turned c last) (asked_by (cascade_answer c last)) (with_deinit (cascade_answer c last) found)
@@ -89,5 +91,5 @@ CascadesBegin = (layout : Extent) (shape : HeapShape) (slot : ℕ) (base : List 
 
 -- Each word that a cascade may be given keeps what it stands for.
 abbrev pub CascadesGoOn : Type 0
-CascadesGoOn = (c : CascadeState) (asked : Option Step) (last : Option ℕ) (base now : List Note) →
+CascadesGoOn = (c : CascadeState) (asked : Option (Step × Intent)) (last : Option ℕ) (base now : List Note) →
     HasNoFields c.shape → CascadeStandsFor base c asked now → cascade_takes c last → CascadeGoesOn c asked last base now

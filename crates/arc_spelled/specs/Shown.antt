@@ -13,19 +13,21 @@ use Rattle.arc_rule.specs.Places.{number}
 use Rattle.arc_rule.specs.Isa.{isa_name_of}
 use Rattle.arc_rule.specs.declared.layout.Place.TheVariants.{Count, Isa}
 use Rattle.arc_rule.specs.declared.step.Step.{Step}
+use Rattle.arc_rule.specs.declared.step.Intent.TheVariants as intents
+use Rattle.arc_rule.specs.declared.step.Intent.{Intent}
 use Rattle.arc_rule.specs.declared.step.Step.TheVariants.{Load, Exchange}
 
--- Nothing, or the name that the load of an isa word found.
-pub data ReadsName (layout : Extent) (asked : Option Step) (last : Option ℕ) : (before after : List Note) → Type 0 where
+-- Nothing, or the name that a deinit's load of an isa word found.
+pub data ReadsName (layout : Extent) (asked : Option (Step × Intent)) (last : Option ℕ) : (before after : List Note) → Type 0 where
   nothing : {b : List Note} → ReadsName layout asked last b b
-  name : {slot w : ℕ} {b : List Note} → asked ≡ Some (Load (number layout (Isa slot))) → last ≡ Some w → ReadsName layout asked last b (Name slot (isa_name_of w) ∷ b)
+  name : {slot w : ℕ} {b : List Note} → asked ≡ Some (Load (number layout (Isa slot)), intents.Deinit slot) → last ≡ Some w → ReadsName layout asked last b (Name slot (isa_name_of w) ∷ b)
 
 -- Nothing, or behind the end of a deinit that no unowned reference outlives: the exchange was made on counts in the inline word, so
 -- the object has no entry.
-pub data FindsNoEntry (layout : Extent) (asked : Option Step) (last : Option ℕ) (event : Option Act) : (before after : List Note) → Type 0 where
+pub data FindsNoEntry (layout : Extent) (asked : Option (Step × Intent)) (last : Option ℕ) (event : Option Act) : (before after : List Note) → Type 0 where
   nothing : {b : List Note} → FindsNoEntry layout asked last event b b
   no_entry : {slot w new : ℕ} {c : Inline} {b : List Note} →
-      event ≡ Some (Finish slot true) → asked ≡ Some (Exchange (number layout (Count slot)) w new) → last ≡ Some w → unpacked w ≡ Some (Counts c) →
+      event ≡ Some (Finish slot true) → asked ≡ Some (Exchange (number layout (Count slot)) w new, intents.Deinit slot) → last ≡ Some w → unpacked w ≡ Some (Counts c) →
       FindsNoEntry layout asked last event b (Entry slot None ∷ b)
 
 -- the event, if one is told, is the newest note
@@ -34,7 +36,7 @@ with_act None ns = ns
 with_act (Some a) ns = Did a ∷ ns
 
 -- the step that was asked for and the word that it gave back, with the event told
-pub record Shows (layout : Extent) (asked : Option Step) (last : Option ℕ) (event : Option Act) (before after : List Note) : Type 0 where
+pub record Shows (layout : Extent) (asked : Option (Step × Intent)) (last : Option ℕ) (event : Option Act) (before after : List Note) : Type 0 where
   pub read : List Note
   pub reads : ReadsName layout asked last before read
   pub finds : FindsNoEntry layout asked last event (with_act event read) after
@@ -46,7 +48,7 @@ pub data Says : (before after : List Note) → Type 0 where
   operation : {n : ℕ} {b ns : List Note} → Says b ns → Says b (Operation n ∷ ns)
 
 -- what is shown, and then lines and beginnings of operations
-pub record Adds (layout : Extent) (asked : Option Step) (last : Option ℕ) (event : Option Act) (before after : List Note) : Type 0 where
+pub record Adds (layout : Extent) (asked : Option (Step × Intent)) (last : Option ℕ) (event : Option Act) (before after : List Note) : Type 0 where
   pub found : List Note
   pub shows : Shows layout asked last event before found
   pub says : Says found after

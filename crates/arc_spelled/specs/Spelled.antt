@@ -15,6 +15,8 @@ use Rattle.arc_rule.specs.Isa.{isa_name_of}
 use Rattle.arc_rule.specs.Places.{number}
 use Rattle.arc_rule.specs.declared.layout.Place.TheVariants.{Count, Isa}
 use Rattle.arc_rule.specs.declared.step.Step.{Step}
+use Rattle.arc_rule.specs.declared.step.Intent.TheVariants as intents
+use Rattle.arc_rule.specs.declared.step.Intent.{Intent}
 use Rattle.arc_rule.specs.declared.step.Step.TheVariants.{Load, Exchange}
 use Rattle.arc_script.specs.declared.script.Script.{Script}
 use Rattle.arc_script.specs.Valid.{IsScript}
@@ -73,12 +75,12 @@ with_event_of p None h = h
 with_event_of p (Some a) h = record { thread = p; act = a } ∷ h
 
 -- What the word shows holds of the heap: the name before the event, and behind it that there is no entry.
-pub record WordsHold (causes : Causes) (shape : HeapShape) (layout : Extent) (asked : Option Step) (last : Option ℕ) (p : ℕ) (event : Option Act) (h : History) : Type 0 where
-  pub names : (slot w : ℕ) → asked ≡ Some (Load (number layout (Isa slot))) → last ≡ Some w → Holds causes shape (heap_after h) (Name slot (isa_name_of w))
-  pub entries : (slot w new : ℕ) (c : Inline) → event ≡ Some (Finish slot true) → asked ≡ Some (Exchange (number layout (Count slot)) w new) → last ≡ Some w → unpacked w ≡ Some (Counts c) →
+pub record WordsHold (causes : Causes) (shape : HeapShape) (layout : Extent) (asked : Option (Step × Intent)) (last : Option ℕ) (p : ℕ) (event : Option Act) (h : History) : Type 0 where
+  pub names : (slot w : ℕ) → asked ≡ Some (Load (number layout (Isa slot)), intents.Deinit slot) → last ≡ Some w → Holds causes shape (heap_after h) (Name slot (isa_name_of w))
+  pub entries : (slot w new : ℕ) (c : Inline) → event ≡ Some (Finish slot true) → asked ≡ Some (Exchange (number layout (Count slot)) w new, intents.Deinit slot) → last ≡ Some w → unpacked w ≡ Some (Counts c) →
       Holds causes shape (heap_after (with_event_of p event h)) (Entry slot None)
 
 -- Where what a word shows holds of the heap, the notes with what a turn adds are those of the thread in the history with the event.
 abbrev pub AddedNotesAreTied : Type 0
-AddedNotesAreTied = (causes : Causes) (shape : HeapShape) (layout : Extent) (asked : Option Step) (last : Option ℕ) (p : ℕ) (event : Option Act) (h : History) (now after : List Note) →
+AddedNotesAreTied = (causes : Causes) (shape : HeapShape) (layout : Extent) (asked : Option (Step × Intent)) (last : Option ℕ) (p : ℕ) (event : Option Act) (h : History) (now after : List Note) →
     Adds layout asked last event now after → WordsHold causes shape layout asked last p event h → Ties causes shape p now h → Ties causes shape p after (with_event_of p event h)

@@ -9,8 +9,9 @@ use Rattle.arc_model.specs.Spelling.Note.{Did, Operation}
 use Rattle.arc_rule.specs.Extents.{Extent}
 use Rattle.arc_rule.specs.Places.{extent_of}
 use Rattle.arc_rule.specs.declared.step.Step.{Step}
+use Rattle.arc_rule.specs.declared.step.Intent.{Intent}
 use Rattle.arc_plan.specs.declared.slots.Making.{Making as Search}
-use Rattle.arc_plan.specs.declared.slots.Making.TheVariants.{Trying, Naming}
+use Rattle.arc_plan.specs.declared.slots.Making.TheVariants.{Looking, Taking, Counting, Naming}
 use Rattle.arc_cells.specs.Cascades.{HasNoFields, CascadeState}
 use Rattle.arc_script.specs.declared.script.Op.{Op}
 use Rattle.arc_script.specs.declared.script.Op.TheVariants as op
@@ -98,10 +99,12 @@ pub record IsMade (w : Work) (i to : ℕ) (name : ObjectName) (slot : ℕ) (vars
   pub making : IsMaking w i to name vars before
   pub now_is : now ≡ Did (New (hands_of before + 1) name.class slot) ∷ before
 
-abbrev pub MakesUpTo : Work → ℕ → ℕ → ObjectName → ℕ → List (Option HeldStrong) → List Note → Search → Type 0
-MakesUpTo w i to name slot vars now (Trying s) = (s ≡ slot) × IsMaking w i to name vars now
-MakesUpTo w i to name slot vars now (Naming s) = (s ≡ slot) × IsMade w i to name slot vars now
-MakesUpTo w i to name slot vars now _ = ⊥
+abbrev pub MakesUpTo : Work → ℕ → ℕ → ObjectName → List (Option HeldStrong) → List Note → Search → Type 0
+MakesUpTo w i to name vars now (Looking word) = IsMaking w i to name vars now
+MakesUpTo w i to name vars now (Taking slot seen) = IsMaking w i to name vars now
+MakesUpTo w i to name vars now (Counting slot) = IsMade w i to name slot vars now
+MakesUpTo w i to name vars now (Naming slot) = IsMade w i to name slot vars now
+MakesUpTo w i to name vars now _ = ⊥
 
 -- a reference is to be copied from a variable
 pub record IsCopying (w : Work) (i to : ℕ) (held : HeldStrong) (vars : List (Option HeldStrong)) (now : List Note) : Type 0 where
@@ -113,9 +116,9 @@ pub record IsCopying (w : Work) (i to : ℕ) (held : HeldStrong) (vars : List (O
 abbrev pub DropEnds : Work → ℕ → HeldStrong → List (Option HeldStrong) → List Note → Type 0
 DropEnds w i held vars now = (after : List Note) → IsDrop w.shape Strong held.place held.hand now after → IsOver w i vars after
 
--- the step that is asked for
-abbrev pub step_in : Move → Option Step
-step_in (moves.Step step intent) = Some step
+-- the step that is asked for, and what it is made for
+abbrev pub step_in : Move → Option (Step × Intent)
+step_in (moves.Step step intent) = Some (step, intent)
 step_in _ = None
 
 -- an object dies, and whatever completes its deinit completes what is under way
@@ -129,7 +132,7 @@ pub record IsDying (w : Work) (i : ℕ) (c : CascadeState) (asked : Move) (vars 
 -- the notes, by what the stepper is doing
 abbrev pub StepperUpTo : Work → ℕ → List (Option HeldStrong) → Move → List Note → Doing → Type 0
 StepperUpTo w i vars asked now Ready = AreDone w i vars now
-StepperUpTo w i vars asked now (Making to name slot plan) = MakesUpTo w i to name slot vars now plan.at
+StepperUpTo w i vars asked now (Making to name plan) = MakesUpTo w i to name vars now plan.at
 StepperUpTo w i vars asked now (Copying to held plan) = IsCopying w i to held vars now
 StepperUpTo w i vars asked now (Dropping held plan) = DropEnds w i held vars now
 StepperUpTo w i vars asked now (Dying c) = IsDying w i c asked vars now

@@ -1,12 +1,13 @@
 -- The script that the generator gives is a valid one.
-use Rattle.std.proofs.Common.{◌≡◌, ℕ, zero, suc, ◌+◌, ◌*◌, ◌<◌, ◌≤◌, true, List, [], ◌∷◌, length, map, Some, refl, arith, lit<, lit≤}
+use Rattle.std.proofs.Common.{◌≡◌, ℕ, zero, suc, ◌+◌, ◌*◌, ◌<◌, ◌≤◌, true, false, List, [], ◌∷◌, length, map, Some, refl, arith, lit<, lit≤}
 use Rattle.std.specs.Prelude.{codes}
 use Rattle.std.specs.List.{AllByRecursion, range_with_len}
 use Rattle.std.proofs.lemmas.List.FromFn.{length-map-range_with_len}
 use Rattle.rand_pcg.specs.Lcg.{Lcg}
 use Rattle.arc_text.specs.Words.{is_name}
 use Rattle.arc_script.specs.declared.script.Op.{Op}
-use Rattle.arc_script.specs.Valid.{name_at, place_of, AreNames, class_names, var_names, IsOp, AreClasses, AreVars, IsHeading, IsThread, IsScript}
+use Rattle.arc_script.specs.Valid.{name_at, place_of, AreNames, class_names, var_names, IsOp, begins_block, Nested, none, OpOfVersion, ThreadOfVersion, AreClasses, AreVars, IsHeading, IsThread, IsScript}
+use Rattle.arc_script.specs.Valid as Valid
 use Rattle.arc_storm.specs.Storm.{seeded, after, draw, storm_classes, storm_globals, storm_vars, storm_shape, operation, operation_at, operations, place_at, places, storm_thread, storm_script}
 use Rattle.arc_storm.proofs.Dealt.{all_dealt, op_count-threads}
 
@@ -80,6 +81,8 @@ heading_is = record {
   caps = record { strong_fits = lit≤ tt; unowned_fits = (lit≤ tt, lit≤ tt); wide_fits = (lit< tt, lit≤ tt) };
   classes_named = classes_are;
   globals_named = record { names = global_named; of_classes = (lit< tt, (lit< tt, (lit< tt, tt))) };
+  fields_allowed = ((refl, (refl, (refl, tt))), ((refl, (refl, (refl, tt))), ((refl, (refl, tt)), tt)));
+  globals_allowed = (refl, (refl, (refl, tt)));
   of_classes = refl;
   of_globals = refl;
 }
@@ -138,6 +141,19 @@ row_is row c r k = below 3 (λ c. IsStormOp (operation row c)) (below 14 (λ row
 op_is : (g : Lcg) (i : ℕ) → IsStormOp (operation_at g i)
 op_is g i = row_is (draw g (2 * i) 14) (draw g (2 * i + 1) 3) (omega arith) (omega arith)
 
+-- no block begins in a row
+no_block : (row c : ℕ) → row < 14 → c < 3 → begins_block (operation row c) ≡ false
+no_block row c r k =
+    below 3 (λ c. begins_block (operation row c) ≡ false)
+    (below 14 (λ row. Upto 3 (λ c. begins_block (operation row c) ≡ false)) ((refl, (refl, (refl, tt))), ((refl, (refl, (refl, tt))), ((refl, (refl, (refl, tt))), ((refl, (refl, (refl, tt))), ((refl, (refl, (refl, tt))), ((refl, (refl, (refl, tt))), ((refl, (refl, (refl, tt))), ((refl, (refl, (refl, tt))), ((refl, (refl, (refl, tt))), ((refl, (refl, (refl, tt))), ((refl, (refl, (refl, tt))), ((refl, (refl, (refl, tt))), ((refl, (refl, (refl, tt))), ((refl, (refl, (refl, tt))), tt)))))))))))))) row r) c k
+
+is_plain : (g : Lcg) (i : ℕ) → begins_block (operation_at g i) ≡ false
+is_plain g i = no_block (draw g (2 * i) 14) (draw g (2 * i + 1) 3) (omega arith) (omega arith)
+
+plain_nested : (deep at : ℕ) (ops : List Op) → AllByRecursion (λ (o : Op). begins_block o ≡ false) ops → Nested deep at ops
+plain_nested deep at [] h = none
+plain_nested deep at (o ∷ ops) h = Valid.operation o ops h.0 (plain_nested deep (suc at) ops h.1)
+
 all_of : {X : Type 0} (f : ℕ → X) (P : X → Type 0) → ((i : ℕ) → P (f i)) → (is : List ℕ) → AllByRecursion P (map f is)
 all_of f P h [] = tt
 all_of f P h (i ∷ is) = (h i, all_of f P h is)
@@ -145,10 +161,18 @@ all_of f P h (i ∷ is) = (h i, all_of f P h is)
 thread_is : (g : Lcg) (n t : ℕ) → IsThread storm_classes storm_globals (storm_thread (operations g n) t)
 thread_is g n t = record {
   vars = vars_are;
+  vars_allowed = (refl, (refl, (refl, (refl, (refl, (refl, (refl, (refl, (refl, (refl, (refl, (refl, tt))))))))))));
   some_phase = lit≤ tt;
   few_phases = lit≤ tt;
   ops = (all_dealt IsStormOp t (operations g n) (all_of (operation_at g) IsStormOp (op_is g) (range_with_len 0 n)), tt);
+  nested = (plain_nested 8 0 _ (all_dealt (λ (o : Op). begins_block o ≡ false) t (operations g n) (all_of (operation_at g) (λ (o : Op). begins_block o ≡ false) (is_plain g) (range_with_len 0 n))), tt);
 }
+
+of_first : (o : Op) → begins_block o ≡ false → OpOfVersion 1 o
+of_first o isnt = λ is. absurd cc
+
+thread_of_first : (g : Lcg) (n t : ℕ) → ThreadOfVersion 1 (storm_thread (operations g n) t)
+thread_of_first g n t = (all_dealt (OpOfVersion 1) t (operations g n) (all_of (operation_at g) (OpOfVersion 1) (λ i. of_first (operation_at g i) (is_plain g i)) (range_with_len 0 n)), tt)
 
 place_is : (g : Lcg) (i : ℕ) → (1 ≤ place_at g i) × (place_at g i ≤ 16)
 place_is g i = (omega arith, omega arith)
@@ -159,6 +183,9 @@ storm_is_script count start few =
     let ops : length (operations g count) ≡ count = length-map-range_with_len (operation_at g) 0 count in
     let marks : length (places (after (2 * count) g) (4 * count)) ≡ 4 * count = length-map-range_with_len (place_at (after (2 * count) g)) 0 (4 * count) in
     record {
+      version = (lit≤ tt, lit≤ tt);
+      classes_of_version = (λ is. absurd cc, (λ is. absurd cc, (λ is. absurd cc, tt)));
+      threads_of_version = all_of (storm_thread (operations g count)) (ThreadOfVersion 1) (thread_of_first g count) (range_with_len 0 16);
       heading = heading_is;
       few_threads = lit≤ tt;
       threads = all_of (storm_thread (operations g count)) (IsThread storm_classes storm_globals) (thread_is g count) (range_with_len 0 16);

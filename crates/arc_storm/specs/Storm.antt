@@ -3,7 +3,7 @@
 -- Its words are those of a Pcg32 generator, seeded with a number. Operation i takes words 2i and 2i + 1: its row is the first
 -- modulo 14, and its class the second modulo 3. The schedule takes the words after those of all operations, and a place of it is
 -- 1 plus the word modulo 16.
-use Rattle.std.specs.Prelude.{ℕ, ◌+◌, ◌*◌, ◌%◌, Bool, ◌==◌, if◌then◌else◌, List, [], ◌∷◌, ◌++◌, map, filter, Option, Some, None, codes}
+use Rattle.std.specs.Prelude.{ℕ, ◌+◌, ◌*◌, ◌%◌, Bool, false, ◌==◌, if◌then◌else◌, List, [], ◌∷◌, ◌++◌, map, filter, Option, Some, None, codes}
 use Rattle.std.specs.List.{range_with_len, enumerate_from}
 use Rattle.rand_core.specs.Pcg32Seed.{pcg32_seed}
 use Rattle.rand_pcg.specs.Lcg.{Lcg, advance}
@@ -49,7 +49,7 @@ kid_fields (Some class) = field (codes "kid") kind.Strong class ∷ []
 kid_fields None = []
 
 abbrev pub class : List ℕ → Option ℕ → ClassDecl
-class name kid = record { name = name; fields = kid_fields kid ++ field (codes "peer") kind.Unowned 0 ∷ field (codes "seen") kind.Weak 0 ∷ [] }
+class name kid = record { name = name; immortal = false; fields = kid_fields kid ++ field (codes "peer") kind.Unowned 0 ∷ field (codes "seen") kind.Weak 0 ∷ [] }
 
 abbrev pub storm_classes : List ClassDecl
 storm_classes = class (codes "Top") (Some 1) ∷ class (codes "Mid") (Some 2) ∷ class (codes "Low") None ∷ []
@@ -155,6 +155,7 @@ places g n = map (place_at g) (range_with_len 0 n)
 
 abbrev pub storm_script : ℕ → ℕ → Script
 storm_script count start = record {
+  version = 1;
   shape = storm_shape;
   classes = storm_classes;
   globals = storm_globals;

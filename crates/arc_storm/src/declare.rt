@@ -58,7 +58,11 @@ fn class(alloc: Global, name: &[u8], kid: Option<u32>) -> Result<ClassDecl, Allo
     let mut fields = kid_fields(alloc, kid)?;
     fields.push(field(alloc, b"peer", Kind::Unowned, 0)?)?;
     fields.push(field(alloc, b"seen", Kind::Weak, 0)?)?;
-    Ok(ClassDecl { name, fields })
+    Ok(ClassDecl {
+        name,
+        immortal: false,
+        fields,
+    })
 }
 
 /// The classes. Strong fields lead from each to the next alone.
@@ -116,8 +120,8 @@ pub fn vars(alloc: Global) -> Result<Items<VarDecl>, AllocError>
     Ok(vars)
 }
 
-fn field_shapes(alloc: Global, fields: &[FieldDecl]) -> Result<ClassShape, AllocError>
-    ensures { IfOk result (λ c. c ≡ field_refs fields.now) }
+fn field_shapes(alloc: Global, fields: &[FieldDecl]) -> Result<Vec<RefShape>, AllocError>
+    ensures { IfOk result (λ v. v.items ≡ field_refs fields.now) }
 {
     let mut shapes = Vec::new(alloc);
     for field in fields {
@@ -126,7 +130,7 @@ fn field_shapes(alloc: Global, fields: &[FieldDecl]) -> Result<ClassShape, Alloc
             class: field.class,
         })?;
     }
-    Ok(ClassShape { fields: shapes })
+    Ok(shapes)
 }
 
 fn class_shapes(alloc: Global, classes: &[ClassDecl]) -> Result<Vec<ClassShape>, AllocError>
@@ -134,7 +138,11 @@ fn class_shapes(alloc: Global, classes: &[ClassDecl]) -> Result<Vec<ClassShape>,
 {
     let mut shapes = Vec::new(alloc);
     for class in classes {
-        shapes.push(field_shapes(alloc, class.fields.as_slice())?)?;
+        let fields = field_shapes(alloc, class.fields.as_slice())?;
+        shapes.push(ClassShape {
+            fields,
+            immortal: class.immortal,
+        })?;
     }
     Ok(shapes)
 }

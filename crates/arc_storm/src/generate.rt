@@ -196,6 +196,7 @@ pub fn storm(alloc: Global, count: u32, start: u64) -> Result<Script, Memory>
     let shape = shape(alloc, classes.as_slice(), globals.as_slice())?;
     let threads = deal_threads(alloc, &operations)?;
     Ok(Script {
+        version: 1,
         shape,
         classes,
         globals,

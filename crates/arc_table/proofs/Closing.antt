@@ -1,5 +1,5 @@
 -- What the rule shows of a heap whose first pass took in every other and has nothing.
-use Rattle.std.proofs.Common.{◌≡◌, ⊎_elim, ℕ, ◌≤◌, true, [], None, refl, sym, ap, ◌∙◌, subst, arith}
+use Rattle.std.proofs.Common.{◌≡◌, ⊎_elim, ℕ, ◌≤◌, true, false, [], None, refl, sym, ap, ◌∙◌, subst, arith}
 use mathlib.Core.Logic.{dite}
 use mathlib.Core.Option.{some, some-injective}
 use native.Mathlib.Decide.{ℕ_discrete, dec_le}
@@ -28,14 +28,16 @@ use Rattle.arc_table.specs.Ending.{IsAllQuiet}
 no_exception : (w : Working) → w.owes ≡ None → w.access ≡ None → (pl : Place) → Excepts w pl → ⊥
 no_exception w owes access places.Zero e = e
 no_exception w owes access (places.Global g) e = None≢Some e.0 (sym access ∙ e.1)
-no_exception w owes access (places.Count s) e = e
-no_exception w owes access (places.Isa s) e = None≢Some s (sym owes ∙ e)
+no_exception w owes access (places.Count s) e = None≢Some (record { slot = s; counted = false }) (sym owes ∙ e)
+no_exception w owes access (places.Isa s) e = None≢Some e.0 (sym owes ∙ e.1)
 no_exception w owes access (places.Next s) e = e
 no_exception w owes access (places.Field s f) e = None≢Some e.0 (sym access ∙ e.1)
 no_exception w owes access (places.Link n) e = e
 no_exception w owes access (places.Strong n) e = e
 no_exception w owes access (places.Unowned n) e = e
 no_exception w owes access (places.Weak n) e = e
+no_exception w owes access (places.SlotBits n) e = e
+no_exception w owes access (places.EntryBits n) e = e
 
 -- a thread that has made no event has nothing
 never_began : (shape : HeapShape) (p : ℕ) (h : History) → IsLegal shape h → share h p ≡ [] → IsQuiet p (heap_after h)

@@ -1,14 +1,15 @@
 -- The plan that drops a strong reference by the inline word, on the shared heap.
 use Rattle.arc_model.specs.declared.event.Act.TheVariants as acts
-use Rattle.arc_table.proofs.Making.{grew_on}
+use Rattle.arc_table.proofs.Making.{grew_on, grew_most}
+use Rattle.arc_table.proofs.Lasting.{drop_told, mortal}
 use Rattle.arc_view_laws.proofs.Counted.{told_alone}
 use Rattle.arc_view_laws.specs.Strangers.{SeesNoStranger}
 use Rattle.arc_view_laws.specs.Having.{IsStrongOf, StandsAs}
-use Rattle.arc_table.specs.Causes.{ReadTwice, HasEntry}
+use Rattle.arc_table.specs.Causes.{ReadTwice, HasEntry, IsMortal, IsLookOfImmortal}
 use Rattle.arc_table.specs.Attempts.{IsLoweredInline, inline_down_act, down_steps}
 use Rattle.arc_table.specs.Calls.{GoesOn, IsFree}
 use Rattle.arc_rule.specs.declared.step.Changed.{Changed}
-use Rattle.std.proofs.Common.{◌≡◌, ◌≢◌, inl, ℕ, ◌<◌, ◌==◌, false, cond, [], ◌∷◌, ◌++◌, length, Option, None, Some, refl, sym, ap, ◌∙◌, subst, arith, eq-eqb, ne_eqb}
+use Rattle.std.proofs.Common.{◌≡◌, ◌≢◌, ◌⊎◌, inl, inr, ℕ, ◌<◌, ◌==◌, true, false, cond, [], ◌∷◌, ◌++◌, length, Option, None, Some, refl, sym, ap, ◌∙◌, subst, arith, eq-eqb, ne_eqb}
 use Rattle.std.specs.Prelude.{slice_get}
 use Rattle.std.specs.Option.{unwrap_or}
 use mathlib.Core.Logic.{dite}
@@ -18,7 +19,8 @@ use Rattle.arc_bits.specs.declared.packing.Word.TheVariants.{Counts}
 use Rattle.arc_bits.specs.Words.{IsWordOf, unpacked, counts_word}
 use Rattle.arc_bits.specs.Moves.{strong_less}
 use Rattle.arc_model.specs.declared.shape.Kind.TheVariants as kinds
-use Rattle.arc_model.specs.Shapes.{HeapShape}
+use Rattle.arc_model.specs.Shapes.{HeapShape, class_at}
+use Rattle.arc_model.specs.Cells.{is_immortal}
 use Rattle.arc_model.specs.Heaps.{Hand, Object}
 use Rattle.arc_model.specs.History.{heap_after, IsLegal}
 use Rattle.arc_model.specs.Lookup.{spot}
@@ -29,7 +31,7 @@ use Rattle.arc_view.specs.Holding.{At}
 use Rattle.arc_view.specs.Rule.{InShape, IsSized}
 use Rattle.arc_plan.specs.Attempts.{IsCountWord}
 use Rattle.arc_model.specs.Holders.{is_number}
-use Rattle.arc_model.proofs.Basics.{None≢Some}
+use Rattle.arc_model.proofs.Basics.{None≢Some, true≢false}
 use Rattle.arc_model.proofs.Others.{others_leave}
 use Rattle.arc_rule.specs.declared.step.Step.{Step}
 use Rattle.arc_rule.specs.declared.step.Step.TheVariants.{Load, Exchange}
@@ -45,7 +47,7 @@ use Rattle.arc_view.specs.declared.view.Working.{Working}
 use Rattle.arc_view.specs.declared.view.View.{View}
 use Rattle.arc_view.specs.Views.{made_in}
 use Rattle.arc_view.specs.Holding.{heap_of}
-use Rattle.arc_view.specs.Kinds.{act_of, event_list, kind_at, loaded_act, working_loaded, working_after, is_last, is_last_in}
+use Rattle.arc_view.specs.Kinds.{act_of, event_list, kind_at, working_loaded, working_after, is_last, is_last_in}
 use Rattle.arc_view.specs.Built.{IsAllowed}
 use Rattle.arc_view.specs.Steps.{Told}
 use Rattle.arc_view.specs.Calls.{Grew, Called}
@@ -59,8 +61,8 @@ use Rattle.arc_plan.specs.declared.strong.StrongDownAnswer.TheVariants as downs
 use Rattle.arc_plan.specs.Attempts.{Attempt, turned_at, exchanging, chosen, left_at}
 use Rattle.arc_plan.specs.Strong.{strong_down_row, strong_down_end, strong_down_takes, strong_down_turned, strong_down_answer}
 use Rattle.arc_table.specs.Runs.{MayRun, Ran}
-use Rattle.arc_view_laws.proofs.Kept.{stands_as}
-use Rattle.arc_view_laws.proofs.StrongWords.{ShowsStrong, shows_strong}
+use Rattle.arc_view_laws.proofs.Kept.{strong_one, stands_as}
+use Rattle.arc_view_laws.proofs.StrongWords.{ShowsStrong, shows_strong, forever, one_unpacked}
 use Rattle.arc_view_laws.proofs.StrongWords.ShowsStrong.{counts, slow}
 use Rattle.arc_view_laws.proofs.Growing.{acts_of, told_grew}
 use Rattle.arc_table.proofs.Invariant.{Keeps, may_run, has_run}
@@ -89,15 +91,39 @@ module _ (shape : HeapShape) (k s : ℕ) (v0 : View) (sized : IsSized shape) (lt
   holding0 : Holding v0
   holding0 = record { number = refl; working = refl; o = o0; hand = hand0; here = here0; slot = slot0; is_class = refl }
 
-  look_none : (v : View) (x : ℕ) → act_of shape v look drop x ≡ None
-  look_none v x = ap (λ (q : Place). loaded_act shape v q x drop) (place_at-number (extent_of shape) (Count s) lt)
+  look_none : (x : ℕ) → x ≢ 1 → act_of shape v0 look drop x ≡ None
+  look_none x other = drop_told shape v0 k i s x o0 lt hand0 here0 slot0 no_access ∙ ap (λ b. cond b (Some (acts.Drop k false)) None) (ne_eqb x 1 other)
+
+  look_drops : (x : ℕ) → x ≡ 1 → act_of shape v0 look drop x ≡ Some (acts.Drop k false)
+  look_drops x one = drop_told shape v0 k i s x o0 lt hand0 here0 slot0 no_access ∙ ap (λ b. cond b (Some (acts.Drop k false)) None) (eq-eqb x 1 one)
 
   look_works : (v : View) (x : ℕ) → working_after shape v look drop x ≡ v.working
   look_works v x = ap (λ (q : Place). working_loaded v.working q x drop) (place_at-number (extent_of shape) (Count s) lt)
 
-  -- a load of the inline word shows no event
+  -- a load of the inline word shows no event, or the drop of a reference to an immortal object
   may_look : (v : View) → Holding v → IsAllowed shape v look drop
-  may_look v g = ((Count s, refl, lt, ap (λ (w : Working). w.owes) g.working ∙ free, inl (i, g.o, g.here, g.slot, inl (k, kinds.Strong, g.hand))), inl (look_none v, look_works v))
+  may_look v g = ((Count s, refl, lt, ap (λ (w : Working). w.owes) g.working ∙ free, (i, g.o, g.here, g.slot, inl (k, kinds.Strong, g.hand, strong≢weak)), tt), inr tt)
+
+  -- the load showed that the object is immortal
+  pub record Lasts (w : View) : Type 0 where
+    pub called : Called shape (acts.Drop k false ∷ []) 1 v0 w
+    pub working : w.working ≡ v0.working
+    pub alone : SeesNoStranger w
+    pub mark : Mark
+    pub trail : w.trail ≡ mark ∷ v0.trail
+    pub step : mark.step ≡ look
+    pub found : mark.found ≡ 1
+
+  lasts : (x : ℕ) (v : View) → x ≡ 1 → Told shape drop look v0 x v → Lasts v
+  lasts x v one t = record {
+    called = record { grew = subst (λ a. Grew (acts_of a) 1 v0 v) (look_drops x one) (told_grew shape drop look v0 x v t); legal = t.legal; in_shape = t.in_shape };
+    working = ap (λ (u : View). u.working) t.after ∙ look_works v0 x;
+    alone = told_alone shape drop look v0 x v t;
+    mark = record { step = look; found = x; length = length (t.between ++ v0.seen); made = made_in v0.number (t.between ++ v0.seen) };
+    trail = ap (λ (u : View). u.trail) t.after;
+    step = refl;
+    found = one;
+  }
 
   -- after a step of no event that leaves what is under way, the hand stands where it stood
   pub record Looked (x : ℕ) (v : View) : Type 0 where
@@ -106,16 +132,17 @@ module _ (shape : HeapShape) (k s : ℕ) (v0 : View) (sized : IsSized shape) (lt
     pub in_shape : InShape shape v.seen
     pub holding : Holding v
     pub shows : ShowsStrong shape holding.o x
+    pub mortal : is_immortal shape o0 ≡ false
     pub mark : Mark
     pub trail : v.trail ≡ mark ∷ v0.trail
     pub step : mark.step ≡ look
     pub found : mark.found ≡ x
     pub alone : SeesNoStranger v
 
-  looked : (x : ℕ) (v : View) → Told shape drop look v0 x v → Looked x v
-  looked x v t =
+  looked : (x : ℕ) (v : View) → x ≢ 1 → Told shape drop look v0 x v → Looked x v
+  looked x v other t =
       let h = t.between ++ v0.seen in
-      let none = look_none v0 x in
+      let none = look_none x other in
       let seen : v.seen ≡ h = ap (λ (u : View). u.seen) t.after ∙ ap (λ a. event_list v0.number a ++ h) none in
       let legal : IsLegal shape h = subst (IsLegal shape) seen t.legal in
       let within : InShape shape h = subst (InShape shape) seen t.in_shape in
@@ -137,12 +164,23 @@ module _ (shape : HeapShape) (k s : ℕ) (v0 : View) (sized : IsSized shape) (lt
           is_class = held.class;
         };
         shows = shows_strong shape h v0.number k i s x held.q sized legal within hand held.here slot says;
+        mortal = ap (λ c. (class_at shape c).immortal) (sym held.class) ∙ mortal shape h i s x held.q legal held.here slot says other;
         mark = record { step = look; found = x; length = length h; made = made_in v0.number h };
         trail = ap (λ (u : View). u.trail) t.after;
         step = refl;
         found = refl;
         alone = told_alone shape drop look v0 x v t;
       }
+
+  -- what the load told
+  abbrev pub After : ℕ → View → Type 0
+  After x v = ((x ≡ 1) × Lasts v) ⊎ Looked x v
+
+  after : (x : ℕ) (v : View) → Told shape drop look v0 x v → After x v
+  after x v t = dite (ℕ_discrete x 1) (λ one. inl (one, lasts x v one t)) (λ other. inr (looked x v other t))
+
+  not_forever : {X : Type 0} (x : ℕ) (v : View) (l : Looked x v) → is_immortal shape l.holding.o ≡ true → X
+  not_forever x v l lasts = absurd (true≢false (sym lasts ∙ (ap (λ c. (class_at shape c).immortal) l.holding.is_class ∙ l.mortal)))
 
   -- the counts that were read
   may_drop : (x : ℕ) (v : View) (c : Inline) → Looked x v → IsWordOf (Counts c) x → c.deiniting ≡ false → IsAllowed shape v (Exchange count_at x (counts_word (strong_less c))) drop
@@ -154,7 +192,7 @@ module _ (shape : HeapShape) (k s : ℕ) (v0 : View) (sized : IsSized shape) (lt
       ap (λ (w : Working). w.owes) g.working ∙ free,
       (kinds.Strong, i, g.o, g.hand, ap (λ (w : Working). w.access) g.working ∙ no_access, g.here, ap (λ m. is_number m s) g.slot ∙ eq-eqb s s refl, (c, word, lives, refl)),
     ),
-    ap kind_at g.hand,
+    λ weak. strong≢weak (sym (ap kind_at g.hand) ∙ weak),
   )
 
   abbrev row : ℕ → Choice StrongDownAnswer
@@ -171,6 +209,7 @@ module _ (shape : HeapShape) (k s : ℕ) (v0 : View) (sized : IsSized shape) (lt
       go : ShowsStrong shape l.holding.o x → Row x v l
       go (counts c is word lives most unowned none) = drops c is word lives (ap strong_down_row is)
       go (slow e is entry within) = aside e entry within (ap strong_down_row is)
+      go (forever one is lasts) = not_forever x v l lasts
 
   abbrev swap : ℕ → Inline → Step
   swap x c = Exchange count_at x (counts_word (strong_less c))
@@ -186,7 +225,7 @@ module _ (shape : HeapShape) (k s : ℕ) (v0 : View) (sized : IsSized shape) (lt
 
   -- More and Last by the strong references but the first in the counts that were read and exchanged
   abbrev pub Outcome : StrongDownAnswer → View → Type 0
-  Outcome downs.More w = (seen : ℕ) × (t : Tried seen seen w) × (t.c.strong_extra ≢ 0)
+  Outcome downs.More w = ((seen : ℕ) × (t : Tried seen seen w) × (t.c.strong_extra ≢ 0)) ⊎ Lasts w
   Outcome downs.Last w = (seen : ℕ) × (t : Tried seen seen w) × (t.c.strong_extra ≡ 0)
   Outcome (downs.Slow e) w = (x : ℕ) × (l : Looked x w) × (l.holding.o.entry ≡ Some e) × (e < shape.entries)
   Outcome (downs.Again c) w = Tried c.seen c.found w × (c.found ≢ c.seen)
@@ -194,7 +233,7 @@ module _ (shape : HeapShape) (k s : ℕ) (v0 : View) (sized : IsSized shape) (lt
   abbrev IsAt : At' → Option ℕ → View → Type 0
   IsAt ats.Start last v = (last ≡ None) × (v ≡ v0)
   IsAt ats.Loading None v = ⊥
-  IsAt ats.Loading (Some x) v = Looked x v
+  IsAt ats.Loading (Some x) v = After x v
   IsAt (ats.Exchanging seen new) None v = ⊥
   IsAt (ats.Exchanging seen new) (Some f) v = Tried seen f v
   IsAt ats.Ended last v = ⊥
@@ -208,11 +247,13 @@ module _ (shape : HeapShape) (k s : ℕ) (v0 : View) (sized : IsSized shape) (lt
   is_down_word : (o : Object) (x : ℕ) → ShowsStrong shape o x → IsCountWord shape.entries (λ c. c.deiniting ≡ false) (unpacked x)
   is_down_word o x (counts c is word lives most unowned none) = subst (IsCountWord shape.entries (λ c. c.deiniting ≡ false)) (sym is) (unowned, lives)
   is_down_word o x (slow e is entry within) = subst (IsCountWord shape.entries (λ c. c.deiniting ≡ false)) (sym is) within
+  is_down_word o x (forever one is lasts) = subst (IsCountWord shape.entries (λ c. c.deiniting ≡ false)) (sym is) tt
 
   takes_it : (m : At') (last : Option ℕ) (v : View) → IsAt m last v → strong_down_takes (plan m) last
   takes_it ats.Start last v i = i.0
   takes_it ats.Loading None v i = absurd (i)
-  takes_it ats.Loading (Some x) v l = is_down_word l.holding.o x l.shows
+  takes_it ats.Loading (Some x) v (inl (one, l)) = subst (IsCountWord shape.entries (λ c. c.deiniting ≡ false)) (sym (ap unpacked one ∙ one_unpacked)) tt
+  takes_it ats.Loading (Some x) v (inr l) = is_down_word l.holding.o x l.shows
   takes_it (ats.Exchanging seen new) None v i = absurd (i)
   takes_it (ats.Exchanging seen new) (Some f) v i = λ e. absurd (None≢Some f (sym e))
   takes_it ats.Ended last v i = absurd (i)
@@ -233,18 +274,23 @@ module _ (shape : HeapShape) (k s : ℕ) (v0 : View) (sized : IsSized shape) (lt
   Stepping m v n a = IsAllowed shape v a drop × (left_at n < left_at m) × ((found : ℕ) (w : View) → Told shape drop a v found w → Is (plan n) (Some found) w)
 
   looks : Stepping ats.Start v0 ats.Loading look
-  looks = (may_look v0 holding0, omega arith, λ found w told. (ats.Loading, refl, looked found w told))
+  looks = (may_look v0 holding0, omega arith, λ found w told. (ats.Loading, refl, after found w told))
 
-  after_look : (x : ℕ) (v : View) (a : Step) → Looked x v → chosen count_at x (row x) ≡ nexts.Step a → Stepping ats.Loading v (exchanging x (row x)) a
-  after_look x v a l = elim (row_of x v l) [
+  one_row : (x : ℕ) → x ≡ 1 → row x ≡ Tell downs.More
+  one_row x one = ap strong_down_row (ap unpacked one ∙ one_unpacked)
+
+  after_look : (x : ℕ) (v : View) (a : Step) → After x v → chosen count_at x (row x) ≡ nexts.Step a → Stepping ats.Loading v (exchanging x (row x)) a
+  after_look x v a (inl (one, l)) = subst (λ r. chosen count_at x r ≡ nexts.Step a → Stepping ats.Loading v (exchanging x r) a) (sym (one_row x one)) (λ e. done≢step e)
+  after_look x v a (inr l) = elim (row_of x v l) [
     | aside e entry within is ↦ subst (λ r. chosen count_at x r ≡ nexts.Step a → Stepping ats.Loading v (exchanging x r) a) (sym is) (λ e. done≢step e)
     | drops c shown word lives is ↦ subst (λ r. chosen count_at x r ≡ nexts.Step a → Stepping ats.Loading v (exchanging x r) a) (sym is)
         (λ e. subst (Stepping ats.Loading v (ats.Exchanging x (counts_word (strong_less c)))) (step_inj e)
         (may_drop x v c l word lives, omega arith, λ found w told. (ats.Exchanging x (counts_word (strong_less c)), refl, record { v = v; c = c; l = l; is = shown; word = word; told = told })))
   ]
 
-  look_ends : (x : ℕ) (v : View) (a : StrongDownAnswer) → Looked x v → chosen count_at x (row x) ≡ nexts.Done a → Outcome a v
-  look_ends x v a l = elim (row_of x v l) [
+  look_ends : (x : ℕ) (v : View) (a : StrongDownAnswer) → After x v → chosen count_at x (row x) ≡ nexts.Done a → Outcome a v
+  look_ends x v a (inl (one, l)) = subst (λ r. chosen count_at x r ≡ nexts.Done a → Outcome a v) (sym (one_row x one)) (λ e. subst (λ b. Outcome b v) (done_inj e) (inr l))
+  look_ends x v a (inr l) = elim (row_of x v l) [
     | aside e entry within is ↦ subst (λ r. chosen count_at x r ≡ nexts.Done a → Outcome a v) (sym is) (λ d. subst (λ b. Outcome b v) (done_inj d) (x, l, entry, within))
     | drops c shown word lives is ↦ subst (λ r. chosen count_at x r ≡ nexts.Done a → Outcome a v) (sym is) (λ e. step≢done e)
   ]
@@ -253,7 +299,7 @@ module _ (shape : HeapShape) (k s : ℕ) (v0 : View) (sized : IsSized shape) (lt
   hit_ends : (seen : ℕ) (v : View) → Tried seen seen v → Outcome (strong_down_end (unpacked seen)) v
   hit_ends seen v t = subst (λ m. Outcome (strong_down_end m) v) (sym t.is) (dite (ℕ_discrete t.c.strong_extra 0)
       (λ e. subst (λ b. Outcome (cond b downs.Last downs.More) v) (sym (eq-eqb t.c.strong_extra 0 e)) (seen, t, e))
-      (λ ne. subst (λ b. Outcome (cond b downs.Last downs.More) v) (sym (ne_eqb t.c.strong_extra 0 ne)) (seen, t, ne)))
+      (λ ne. subst (λ b. Outcome (cond b downs.Last downs.More) v) (sym (ne_eqb t.c.strong_extra 0 ne)) (inl (seen, t, ne))))
 
   swap_ends : (seen f : ℕ) (v : View) → Tried seen f v → Outcome (cond (f == seen) (strong_down_end (unpacked seen)) (downs.Again (record { seen = seen; found = f }))) v
   swap_ends seen f v t = dite (ℕ_discrete f seen)
@@ -352,15 +398,30 @@ module _ (shape : HeapShape) (k s : ℕ) (v0 : View) (sized : IsSized shape) (lt
         ap (λ (u : View). u.working) t.told.after ∙ (ap (λ b. cond b v.working v.working) miss ∙ t.l.holding.working),
       )
 
+  is_mortal : (x : ℕ) (w : View) → Looked x w → IsMortal shape v0 k s
+  is_mortal x w l class strong = ap (λ c. (class_at shape c).immortal) (strong_one v0 k s s class o0.class strong (i, o0, hand0, here0, slot0, refl)).1 ∙ l.mortal
+
+  -- what is looked at once only
+  dies : (x : ℕ) (u w : View) → Looked x u → IsLookOfImmortal shape k s v0 w
+  dies x u w l class strong lasts = absurd (true≢false (sym lasts ∙ is_mortal x u l class strong))
+
+  pub look_of_immortal : (a : StrongDownAnswer) (w : View) → Outcome a w → IsLookOfImmortal shape k s v0 w
+  look_of_immortal downs.More w (inl (seen, t, some)) = dies seen t.v w t.l
+  look_of_immortal downs.More w (inr l) = λ class strong is. (l.mark, l.trail, l.step, l.found)
+  look_of_immortal downs.Last w (seen, t, none) = dies seen t.v w t.l
+  look_of_immortal (downs.Slow e) w (x, l, entry, within) = dies x w w l
+  look_of_immortal (downs.Again c) w (t, differ) = dies c.seen t.v w t.l
+
   -- what each answer tells
   pub lowered_inline : (a : StrongDownAnswer) (w : View) → Outcome a w → IsLoweredInline shape k s v0 w a × GoesOn shape (inline_down_act k a) (down_steps a) v0 w
-  lowered_inline downs.More w (seen, t, some) =
+  lowered_inline downs.More w (inr l) = (tt, record { called = record { grew = grew_most (acts.Drop k false ∷ []) 1 2 v0 w (omega arith) l.called.grew; legal = l.called.legal; in_shape = l.called.in_shape }; working = l.working; alone = l.alone })
+  lowered_inline downs.More w (inl (seen, t, some)) =
       let gone = has_let_go seen w t in
       (tt, record { called = subst (λ b. Called shape (acts.Drop k b ∷ []) 2 v0 w) (ne_eqb t.c.strong_extra 0 some) gone.0; working = gone.1; alone = gone.2 })
   lowered_inline downs.Last w (seen, t, none) =
       let gone = has_let_go seen w t in
-      (tt, record { called = subst (λ b. Called shape (acts.Drop k b ∷ []) 2 v0 w) (eq-eqb t.c.strong_extra 0 none) gone.0; working = gone.1; alone = gone.2 })
-  lowered_inline (downs.Slow e) w (x, l, entry, within) = ((look_stands x w l, look_has x e w l entry, within), record { called = look_called x w l; working = l.holding.working; alone = l.alone })
+      (is_mortal seen t.v t.l, record { called = subst (λ b. Called shape (acts.Drop k b ∷ []) 2 v0 w) (eq-eqb t.c.strong_extra 0 none) gone.0; working = gone.1; alone = gone.2 })
+  lowered_inline (downs.Slow e) w (x, l, entry, within) = ((look_stands x w l, look_has x e w l entry, within, is_mortal x w l), record { called = look_called x w l; working = l.holding.working; alone = l.alone })
   lowered_inline (downs.Again c) w (t, differ) =
       let missed = has_missed c w t differ in
       (read_twice c w t differ, record { called = missed.0; working = missed.1; alone = told_alone shape drop (swap c.seen t.c) t.v c.found w t.told })
@@ -372,6 +433,7 @@ may_lower shape k s v sized (lt, (class, (i, o, hand, here, slot, is))) free = m
 
 pub has_lowered : (shape : HeapShape) (k s : ℕ) (v : View) → IsSized shape → (s < shape.slots) × ((class : ℕ) × IsStrongOf v k s class) → IsFree v → (a : StrongDownAnswer) (w : View)
     → Ran strong_down_turned strong_down_answer shape (intents.Drop k) (record { layout = extent_of shape; slot = s; at = ats.Start }) None v a w
-    → IsLoweredInline shape k s v w a × GoesOn shape (inline_down_act k a) (down_steps a) v w
+    → IsLoweredInline shape k s v w a × GoesOn shape (inline_down_act k a) (down_steps a) v w × IsLookOfImmortal shape k s v w
 has_lowered shape k s v sized (lt, (class, (i, o, hand, here, slot, is))) free a w ran =
-    lowered_inline shape k s v sized lt free.owes free.access i o hand here slot a w (has_dropped shape k s v sized lt free.owes free.access i o hand here slot a w ran)
+    let out = has_dropped shape k s v sized lt free.owes free.access i o hand here slot a w ran in
+    let told = lowered_inline shape k s v sized lt free.owes free.access i o hand here slot a w out in (told.0, told.1, look_of_immortal shape k s v sized lt free.owes free.access i o hand here slot a w out)

@@ -1,7 +1,6 @@
 -- Which of the last duties' tokens a pass has after a call.
-use Rattle.std.proofs.Common.{◌≡◌, ℕ, ◌<◌, false, [], Some, refl, sym, ap, ◌∙◌, subst}
-use Rattle.std.specs.Prelude.{slice_get}
-use Rattle.arc_model.specs.Shapes.{HeapShape}
+use Rattle.std.proofs.Common.{◌≡◌, ℕ, ◌<◌, false, [], refl, sym, ap, ◌∙◌, subst}
+use Rattle.arc_model.specs.Shapes.{HeapShape, class_at}
 use Rattle.arc_model.specs.Heaps.{Object}
 use Rattle.arc_model.specs.History.{IsLegal}
 use Rattle.arc_model.proofs.Basics.{Some-inj}
@@ -25,10 +24,10 @@ pub released_owed : (shape : HeapShape) (held : Token) (d : Dying) (v w : View) 
 released_owed shape held d v w h r = (subst (λ s. s < shape.slots) (sym r.0) h.0, (h.1.0, r.1 h.1.0 h.1.1))
 
 -- a slot is in one object, so that one class that has no field is enough
-pub no_field : (shape : HeapShape) (v : View) (s class : ℕ) → IsLegal shape v.seen → IsDyingOf v s class → slice_get shape.classes class ≡ Some [] → HasNoField shape v s
+pub no_field : (shape : HeapShape) (v : View) (s class : ℕ) → IsLegal shape v.seen → IsDyingOf v s class → (class_at shape class).fields ≡ [] → HasNoField shape v s
 no_field shape v s class legal (i, o, here, duty, slot, is) bare other (j, q, there, owed, in_it, its) =
     let same : o ≡ q = Some-inj (sym (slot_found shape v.seen i s o legal here slot) ∙ slot_found shape v.seen j s q legal there in_it) in
-    ap (slice_get shape.classes) (sym (sym is ∙ (ap (λ (x : Object). x.class) same ∙ its))) ∙ bare
+    ap (λ c. (class_at shape c).fields) (sym (sym is ∙ (ap (λ (x : Object). x.class) same ∙ its))) ∙ bare
 
 -- the end of a deinit leaves what name is owed
 pub finish_owes : (shape : HeapShape) (d : Dying) (r : Finish) (w : Working) → (works_after shape (finish_act d r) w).owes ≡ w.owes

@@ -1,6 +1,6 @@
 -- The end of a deinit, on the shared heap: what a pass that owes it may do on a word that counts the unowned references, and what it has then.
-use Rattle.std.proofs.Common.{◌≡◌, ◌≢◌, inl, inr, ℕ, zero, suc, ◌<◌, ◌≤◌, ◌==◌, Bool, true, false, cond, List, [], ◌∷◌, ◌++◌, length, Option, Some, None, refl, sym, ap, ◌∙◌, subst, arith, eq-eqb, ne_eqb}
-use Rattle.std.specs.Prelude.{slice_get, slice_index_or}
+use Rattle.std.proofs.Common.{◌≡◌, ◌≢◌, inl, inr, ℕ, ◌<◌, ◌≤◌, ◌==◌, Bool, true, false, cond, [], ◌∷◌, ◌++◌, length, Option, Some, None, refl, sym, ap, ◌∙◌, subst, arith, eq-eqb, ne_eqb}
+use Rattle.std.specs.Prelude.{slice_get}
 use mathlib.Core.Logic.{dite}
 use native.Mathlib.Decide.{ℕ_discrete}
 use Rattle.arc_bits.specs.Words.{unpacked}
@@ -8,14 +8,14 @@ use Rattle.arc_model.specs.declared.event.Act.TheVariants as acts
 use Rattle.arc_model.specs.declared.event.Event.{Event}
 use Rattle.arc_model.specs.declared.shape.Kind.{Kind}
 use Rattle.arc_model.specs.declared.shape.Kind.TheVariants as kinds
-use Rattle.arc_model.specs.Shapes.{HeapShape}
+use Rattle.arc_model.specs.Shapes.{HeapShape, class_at}
 use Rattle.arc_model.specs.Heaps.{Field as field_holder, Deinit, Vacating, Object, Heap}
 use Rattle.arc_model.specs.Holders.{is_number, in_slot}
 use Rattle.arc_model.specs.Cells.{is_nil, are_all_nil, each_below}
 use Rattle.arc_model.specs.Needs.{passes}
 use Rattle.arc_model.specs.History.{History, heap_after, share, IsLegal}
 use Rattle.arc_model.specs.Lookup.{duty_of}
-use Rattle.arc_model.proofs.Basics.{None≢Some, Some-inj, true≢false}
+use Rattle.arc_model.proofs.Basics.{true≢false}
 use Rattle.arc_model.proofs.Duties.{own_duties}
 use Rattle.arc_model.proofs.Others.{others_leave}
 use Rattle.arc_rule.specs.declared.layout.Place.{Place}
@@ -41,7 +41,7 @@ use Rattle.arc_view.specs.Steps.{IsUnsettled, Told}
 use Rattle.arc_view.specs.Calls.{Grew, Called}
 use Rattle.arc_view.proofs.Held.{stays_after, dying_busy}
 use Rattle.arc_view.proofs.Strongs.{slot_found, entry_found}
-use Rattle.arc_view.proofs.Counting.{header_counts}
+use Rattle.arc_view.proofs.Counting.{inline_counts}
 use Rattle.arc_view.proofs.Owed.{owed_stays}
 use Rattle.arc_plan.specs.declared.attempt.At.{At as At'}
 use Rattle.arc_plan.specs.declared.attempt.At.TheVariants as ats
@@ -67,11 +67,6 @@ use Rattle.arc_view_laws.proofs.Growing.{acts_of, told_grew}
 use Rattle.arc_view_laws.proofs.DyingWords.{ShowsDying, counts, slow, dying_lists, shows_dying}
 use Rattle.arc_table.proofs.Making.{grew_on}
 
-index_or : {A : Type 0} (xs : List A) (i : ℕ) (d x : A) → slice_get xs i ≡ Some x → slice_index_or xs i d ≡ x
-index_or [] i d x e = absurd (None≢Some x e)
-index_or (y ∷ ys) zero d x e = Some-inj e
-index_or (y ∷ ys) (suc i) d x e = index_or ys i d x e
-
 -- the entry's unowned count
 pub shows_count : (shape : HeapShape) (h : History) (p i e w : ℕ) (o : Object) → IsLegal shape h → At (heap_after h) i o → duty_of p i (heap_after h) ≡ Some Deinit → o.entry ≡ Some e → Says shape (heap_after h) (places.Unowned e) w → 1 ≤ w
 shows_count shape h p i e w o legal here duty entry says =
@@ -80,7 +75,7 @@ shows_count shape h p i e w o legal here duty entry says =
     let is = shown.0 in let some = lists.1 in omega (arith, is, some)
 
 -- The view owes the deinit of object i, in slot s, whose class has no field.
-module _ (shape : HeapShape) (s : ℕ) (v0 : View) (free : v0.working.owes ≡ None) (i : ℕ) (o0 : Object) (here0 : At (heap_of v0) i o0) (duty0 : HasDuty v0 Deinit i) (slot0 : o0.slot ≡ Some s) (bare0 : slice_get shape.classes o0.class ≡ Some []) where
+module _ (shape : HeapShape) (s : ℕ) (v0 : View) (free : v0.working.owes ≡ None) (i : ℕ) (o0 : Object) (here0 : At (heap_of v0) i o0) (duty0 : HasDuty v0 Deinit i) (slot0 : o0.slot ≡ Some s) (bare0 : (class_at shape o0.class).fields ≡ []) where
   abbrev pub deinit : Intent
   deinit = intents.Deinit s
 
@@ -113,10 +108,10 @@ module _ (shape : HeapShape) (s : ℕ) (v0 : View) (free : v0.working.owes ≡ N
       }
 
   all_nil : (v : View) (g : Owing v) → are_all_nil shape (heap_of v) g.o ≡ true
-  all_nil v g = ap (λ xs. each_below (length xs) (λ f. is_nil (heap_of v) (field_holder g.o.id f))) (ap (λ c. slice_index_or shape.classes c []) g.is_class ∙ index_or shape.classes o0.class [] [] bare0)
+  all_nil v g = ap (λ xs. each_below (length xs) (λ f. is_nil (heap_of v) (field_holder g.o.id f))) (ap (λ c. (class_at shape c).fields) g.is_class ∙ bare0)
 
   pub has_with : (v : View) (g : Owing v) (e : ℕ) → g.o.entry ≡ Some e → IsBareDyingWith shape v s e
-  has_with v g e entry = (i, g.o, g.here, g.duty, g.slot, ap (λ c. slice_get shape.classes c) g.is_class ∙ bare0, entry)
+  has_with v g e entry = (i, g.o, g.here, g.duty, g.slot, ap (λ c. (class_at shape c).fields) g.is_class ∙ bare0, entry)
 
   -- on a word that counts the object's unowned references
   module _ (pl : Place) (inside : IsPlace (extent_of shape) pl) (quiet : (w : Working) (x : ℕ) → working_loaded w pl x deinit ≡ w) (knows : (v : View) → Owing v → MayLoad shape v pl deinit) where
@@ -133,7 +128,7 @@ module _ (shape : HeapShape) (s : ℕ) (v0 : View) (free : v0.working.owes ≡ N
     look_works v x = ap (λ (u : Place). working_loaded v.working u x deinit) (place_at-number (extent_of shape) pl inside) ∙ quiet v.working x
 
     pub may_look : IsAllowed shape v0 look deinit
-    may_look = ((pl, refl, inside, free, knows v0 owing_first), inl (look_none v0, look_works v0))
+    may_look = ((pl, refl, inside, free, knows v0 owing_first, tt), inl (look_none v0, look_works v0))
 
     -- the word was loaded: it shows the heap of what is seen
     pub record Looked (x : ℕ) (v : View) : Type 0 where
@@ -149,7 +144,7 @@ module _ (shape : HeapShape) (s : ℕ) (v0 : View) (free : v0.working.owes ≡ N
       pub alone : SeesNoStranger v
 
     -- a word that counts is never unsettled
-    module _ (settled : (p : ℕ) (heap : Heap) (x : ℕ) → IsUnsettled p heap pl x → ⊥) where
+    module _ (settled : (x : ℕ) → IsUnsettled pl x → ⊥) where
       pub looked : (x : ℕ) (v : View) → Told shape deinit look v0 x v → Looked x v
       looked x v t =
           let h = t.between ++ v0.seen in
@@ -159,7 +154,7 @@ module _ (shape : HeapShape) (s : ℕ) (v0 : View) (free : v0.working.owes ≡ N
             legal = t.legal;
             in_shape = t.in_shape;
             owing = owing_on v0 t.between legal t.others owing_first v (ap (λ (u : View). u.number) t.after) (ap (λ (u : View). u.working) t.after ∙ look_works v0 x) (ap heap_after seen);
-            says = subst (λ l. Says shape (heap_after l) pl x) (sym seen) ((t.read pl tt inside refl).says (settled v0.number (heap_after h) x));
+            says = subst (λ l. Says shape (heap_after l) pl x) (sym seen) ((t.read pl tt inside refl).says (settled x));
             mark = record { step = look; found = x; length = length h; made = made_in v0.number h };
             trail = ap (λ (u : View). u.trail) t.after;
             step = refl;
@@ -210,7 +205,7 @@ module _ (shape : HeapShape) (s : ℕ) (v0 : View) (free : v0.working.owes ≡ N
         met_legal = legal.1
 
         pub met_says : Says shape (heap_after h) pl seen
-        met_says = (told.read pl tt inside refl).says (settled v.number (heap_after h) seen)
+        met_says = (told.read pl tt inside refl).says (settled seen)
 
         -- where it was the last one, the vacating is owed
         pub hit_frees : (entry : Option ℕ) → last ≡ true → ((o : Object) → At (heap_after h) i o → o.slot ≡ Some s → ((n : ℕ) → o0.entry ≡ Some n → o.entry ≡ Some n) → o.entry ≡ entry) → IsFreedOf w s entry
@@ -281,7 +276,7 @@ module _ (shape : HeapShape) (s : ℕ) (v0 : View) (free : v0.working.owes ≡ N
   -- by the inline word
   module _ (sized : IsSized shape) (lt : s < shape.slots) where
     knows_count : (v : View) → Owing v → MayLoad shape v (Count s) deinit
-    knows_count v g = inl (i, g.o, g.here, g.slot, inr (inl (Deinit, g.duty)))
+    knows_count v g = (i, g.o, g.here, g.slot, inr (inl (Deinit, g.duty)))
 
     abbrev SeenCount : ℕ → View → Type 0
     SeenCount = Looked (Count s) lt (λ w x. refl) knows_count
@@ -316,7 +311,7 @@ module _ (shape : HeapShape) (s : ℕ) (v0 : View) (free : v0.working.owes ≡ N
 
     inline_swaps : (x new : ℕ) (v : View) (l : SeenCount x v) → inline_row x ≡ Write new → ShowsDying shape l.owing.o x → IsAllowed shape v (Exchange (number (extent_of shape) (Count s)) x new) deinit
     inline_swaps x new v l is (counts c shown word ends unowned none) =
-        may_swap (Count s) lt (λ w x. refl) knows_count (λ p heap x u. u) x new v l (ap (λ m. is_number m s) l.owing.slot ∙ eq-eqb s s refl) (c, word, unowned, write_inj (sym is ∙ ap unowned_down_row shown))
+        may_swap (Count s) lt (λ w x. refl) knows_count (λ x u. u) x new v l (ap (λ m. is_number m s) l.owing.slot ∙ eq-eqb s s refl) (c, word, unowned, write_inj (sym is ∙ ap unowned_down_row shown))
     inline_swaps x new v l is (slow e shown entry within) = tell≢write (sym (ap unowned_down_row shown) ∙ is)
 
     abbrev InlineClaim : UnownedDownAnswer → View → Type 0
@@ -333,47 +328,47 @@ module _ (shape : HeapShape) (s : ℕ) (v0 : View) (free : v0.working.owes ≡ N
     inline_hits seen new v w l is told (counts c shown word ends unowned none) = subst (λ m. InlineClaim (unowned_down_end m) w) (sym shown) (dite (ℕ_discrete c.unowned 1) one more)
       where
         called : Called shape (acts.Finish s (is_last_in kinds.Unowned (unpacked seen)) ∷ []) 2 v0 w
-        called = hit_called (Count s) lt (λ w x. refl) knows_count (λ p heap x u. u) seen new v w l told
+        called = hit_called (Count s) lt (λ w x. refl) knows_count (λ x u. u) seen new v w l told
 
         called_by : (b : Bool) → (c.unowned == 1) ≡ b → Called shape (acts.Finish s b ∷ []) 2 v0 w
         called_by b e = subst (λ t. Called shape (acts.Finish s t ∷ []) 2 v0 w) (ap (is_last_in kinds.Unowned) shown ∙ e) called
 
         works : w.working ≡ without_next (number (extent_of shape)) s v0.working
-        works = hit_works (Count s) lt (λ w x. refl) knows_count (λ p heap x u. u) seen new v w l told
+        works = hit_works (Count s) lt (λ w x. refl) knows_count (λ x u. u) seen new v w l told
 
         alone : SeesNoStranger w
-        alone = hit_alone (Count s) lt (λ w x. refl) knows_count (λ p heap x u. u) seen new v w l told
+        alone = hit_alone (Count s) lt (λ w x. refl) knows_count (λ x u. u) seen new v w l told
 
         -- the word that the exchange found shows that the object had no entry then
         bare_then : (o : Object) → At (heap_after (told.between ++ v.seen)) i o → o.slot ≡ Some s → o.entry ≡ None
         bare_then o here slot =
-            let says = met_says (Count s) lt (λ w x. refl) knows_count (λ p heap x u. u) seen new v w l told in
-            let legal = met_legal (Count s) lt (λ w x. refl) knows_count (λ p heap x u. u) seen new v w l told in
-            (header_counts shape o c seen sized (subst (λ m. ShowsCounts shape m seen) (slot_found shape (told.between ++ v.seen) i s o legal here slot) says) word).entry
+            let says = met_says (Count s) lt (λ w x. refl) knows_count (λ x u. u) seen new v w l told in
+            let legal = met_legal (Count s) lt (λ w x. refl) knows_count (λ x u. u) seen new v w l told in
+            (inline_counts shape o c seen sized (subst (λ m. ShowsCounts shape m seen) (slot_found shape (told.between ++ v.seen) i s o legal here slot) says) word).entry
 
         one : c.unowned ≡ 1 → InlineClaim (cond (c.unowned == 1) inline_downs.Last inline_downs.More) w
         one e =
             let t = eq-eqb c.unowned 1 e in
             subst (λ b. InlineClaim (cond b inline_downs.Last inline_downs.More) w) (sym t)
-            (hit_frees (Count s) lt (λ w x. refl) knows_count (λ p heap x u. u) seen new v w l told None (ap (is_last_in kinds.Unowned) shown ∙ t) (λ o here slot _. bare_then o here slot), record { called = called_by true t; working = works; alone = alone })
+            (hit_frees (Count s) lt (λ w x. refl) knows_count (λ x u. u) seen new v w l told None (ap (is_last_in kinds.Unowned) shown ∙ t) (λ o here slot _. bare_then o here slot), record { called = called_by true t; working = works; alone = alone })
 
         more : c.unowned ≢ 1 → InlineClaim (cond (c.unowned == 1) inline_downs.Last inline_downs.More) w
         more ne = let t = ne_eqb c.unowned 1 ne in subst (λ b. InlineClaim (cond b inline_downs.Last inline_downs.More) w) (sym t) (tt, record { called = called_by false t; working = works; alone = alone })
 
     inline_misses : (seen new found : ℕ) (v w : View) (l : SeenCount seen v) → Told shape deinit (Exchange (number (extent_of shape) (Count s)) seen new) v found w → found ≢ seen → InlineClaim (inline_downs.Again (record { seen = seen; found = found })) w
     inline_misses seen new found v w l told ne = (
-      read_twice (Count s) lt (λ w x. refl) knows_count (λ p heap x u. u) seen new found v w l told ne,
+      read_twice (Count s) lt (λ w x. refl) knows_count (λ x u. u) seen new found v w l told ne,
       record {
-        called = miss_called (Count s) lt (λ w x. refl) knows_count (λ p heap x u. u) seen new found v w l told ne;
-        working = miss_works (Count s) lt (λ w x. refl) knows_count (λ p heap x u. u) seen new found v w l told ne;
-        alone = miss_alone (Count s) lt (λ w x. refl) knows_count (λ p heap x u. u) seen new found v w l told ne;
+        called = miss_called (Count s) lt (λ w x. refl) knows_count (λ x u. u) seen new found v w l told ne;
+        working = miss_works (Count s) lt (λ w x. refl) knows_count (λ x u. u) seen new found v w l told ne;
+        alone = miss_alone (Count s) lt (λ w x. refl) knows_count (λ x u. u) seen new found v w l told ne;
       },
     )
 
     inline_may : MayTry unowned_down_takes unowned_down_turned unowned_down_answer shape deinit (number (extent_of shape) (Count s)) InlineFits inline_row (λ seen. unowned_down_end (unpacked seen)) inline_downs.Again inline_plan (λ p. left_at p.at) inline_attempt v0 SeenCount
     inline_may = record {
       looks = may_look (Count s) lt (λ w x. refl) knows_count;
-      looked = looked (Count s) lt (λ w x. refl) knows_count (λ p heap x u. u);
+      looked = looked (Count s) lt (λ w x. refl) knows_count (λ x u. u);
       fits = λ x v l. inline_fits l.owing.o x (shows x v l);
       swaps = λ x new v l is. inline_swaps x new v l is (shows x v l);
     }
@@ -395,7 +390,7 @@ module _ (shape : HeapShape) (s : ℕ) (v0 : View) (free : v0.working.owes ≡ N
   -- by the unowned count of the object's entry
   module _ (e : ℕ) (lt : e < shape.entries) (entry0 : o0.entry ≡ Some e) where
     knows_unowned : (v : View) → Owing v → MayLoad shape v (places.Unowned e) deinit
-    knows_unowned v g = inl (i, g.o, g.here, g.entry e entry0, inr (inl (Deinit, g.duty)))
+    knows_unowned v g = (i, g.o, g.here, g.entry e entry0, inr (inl (Deinit, g.duty)))
 
     abbrev SeenUnowned : ℕ → View → Type 0
     SeenUnowned = Looked (places.Unowned e) lt (λ w x. refl) knows_unowned
@@ -422,43 +417,43 @@ module _ (shape : HeapShape) (s : ℕ) (v0 : View) (free : v0.working.owes ≡ N
     entry_hits seen new v w l told = dite (ℕ_discrete seen 1) one more
       where
         called_by : (b : Bool) → (seen == 1) ≡ b → Called shape (acts.Finish s b ∷ []) 2 v0 w
-        called_by b is = subst (λ t. Called shape (acts.Finish s t ∷ []) 2 v0 w) is (hit_called (places.Unowned e) lt (λ w x. refl) knows_unowned (λ p heap x u. u) seen new v w l told)
+        called_by b is = subst (λ t. Called shape (acts.Finish s t ∷ []) 2 v0 w) is (hit_called (places.Unowned e) lt (λ w x. refl) knows_unowned (λ x u. u) seen new v w l told)
 
         works : w.working ≡ without_next (number (extent_of shape)) s v0.working
-        works = hit_works (places.Unowned e) lt (λ w x. refl) knows_unowned (λ p heap x u. u) seen new v w l told
+        works = hit_works (places.Unowned e) lt (λ w x. refl) knows_unowned (λ x u. u) seen new v w l told
 
         alone : SeesNoStranger w
-        alone = hit_alone (places.Unowned e) lt (λ w x. refl) knows_unowned (λ p heap x u. u) seen new v w l told
+        alone = hit_alone (places.Unowned e) lt (λ w x. refl) knows_unowned (λ x u. u) seen new v w l told
 
         one : seen ≡ 1 → EntryClaim (cond (seen == 1) entry_downs.Last entry_downs.More) w
         one is =
             let t = eq-eqb seen 1 is in
             subst (λ b. EntryClaim (cond b entry_downs.Last entry_downs.More) w) (sym t)
-            (hit_frees (places.Unowned e) lt (λ w x. refl) knows_unowned (λ p heap x u. u) seen new v w l told (Some e) t (λ o here slot entry. entry e entry0), record { called = called_by true t; working = works; alone = alone })
+            (hit_frees (places.Unowned e) lt (λ w x. refl) knows_unowned (λ x u. u) seen new v w l told (Some e) t (λ o here slot entry. entry e entry0), record { called = called_by true t; working = works; alone = alone })
 
         more : seen ≢ 1 → EntryClaim (cond (seen == 1) entry_downs.Last entry_downs.More) w
         more ne = let t = ne_eqb seen 1 ne in subst (λ b. EntryClaim (cond b entry_downs.Last entry_downs.More) w) (sym t) (tt, record { called = called_by false t; working = works; alone = alone })
 
     entry_misses : (seen new found : ℕ) (v w : View) (l : SeenUnowned seen v) → Told shape deinit (Exchange (number (extent_of shape) (places.Unowned e)) seen new) v found w → found ≢ seen → EntryClaim (entry_downs.Again (record { seen = seen; found = found })) w
     entry_misses seen new found v w l told ne =
-        let g = miss_owing (places.Unowned e) lt (λ w x. refl) knows_unowned (λ p heap x u. u) seen new found v w l told ne in (
+        let g = miss_owing (places.Unowned e) lt (λ w x. refl) knows_unowned (λ x u. u) seen new found v w l told ne in (
           (
             (i, g.o, g.here, g.duty, g.slot, g.entry e entry0),
-            read_twice (places.Unowned e) lt (λ w x. refl) knows_unowned (λ p heap x u. u) seen new found v w l told ne,
+            read_twice (places.Unowned e) lt (λ w x. refl) knows_unowned (λ x u. u) seen new found v w l told ne,
           ),
           record {
-            called = miss_called (places.Unowned e) lt (λ w x. refl) knows_unowned (λ p heap x u. u) seen new found v w l told ne;
-            working = miss_works (places.Unowned e) lt (λ w x. refl) knows_unowned (λ p heap x u. u) seen new found v w l told ne;
-            alone = miss_alone (places.Unowned e) lt (λ w x. refl) knows_unowned (λ p heap x u. u) seen new found v w l told ne;
+            called = miss_called (places.Unowned e) lt (λ w x. refl) knows_unowned (λ x u. u) seen new found v w l told ne;
+            working = miss_works (places.Unowned e) lt (λ w x. refl) knows_unowned (λ x u. u) seen new found v w l told ne;
+            alone = miss_alone (places.Unowned e) lt (λ w x. refl) knows_unowned (λ x u. u) seen new found v w l told ne;
           },
         )
 
     entry_may : MayTry entry_down_takes entry_down_turned entry_down_answer shape deinit (number (extent_of shape) (places.Unowned e)) EntryDownWord entry_down_row entry_down_end entry_downs.Again entry_plan (λ p. left_at p.at) entry_attempt v0 SeenUnowned
     entry_may = record {
       looks = may_look (places.Unowned e) lt (λ w x. refl) knows_unowned;
-      looked = looked (places.Unowned e) lt (λ w x. refl) knows_unowned (λ p heap x u. u);
+      looked = looked (places.Unowned e) lt (λ w x. refl) knows_unowned (λ x u. u);
       fits = some;
-      swaps = λ x new v l is. may_swap (places.Unowned e) lt (λ w x. refl) knows_unowned (λ p heap x u. u) x new v l (ap (λ m. is_number m e) (l.owing.entry e entry0) ∙ eq-eqb e e refl)
+      swaps = λ x new v l is. may_swap (places.Unowned e) lt (λ w x. refl) knows_unowned (λ x u. u) x new v l (ap (λ m. is_number m e) (l.owing.entry e entry0) ∙ eq-eqb e e refl)
           (let one = some x v l in let less = entry_write is in omega (arith, one, less));
     }
 

@@ -1,5 +1,6 @@
 -- The plan that drops a strong reference by the count of the object's entry, on the shared heap.
-use Rattle.std.proofs.Common.{◌≡◌, ◌≢◌, inl, ℕ, ◌-◌, ◌<◌, ◌≤◌, ◌==◌, cond, [], ◌∷◌, ◌++◌, length, Option, None, Some, refl, sym, ap, ◌∙◌, subst, arith, eq-eqb, ne_eqb}
+use Rattle.std.proofs.Common.{◌≡◌, ◌≢◌, inl, ℕ, ◌-◌, ◌<◌, ◌≤◌, ◌==◌, cond, [], ◌∷◌, ◌++◌, length, Option, None, Some, refl, sym, ap, ◌∙◌, subst, arith, eq-eqb, ne_eqb, Bool, true, false, ◌&&◌}
+use Rattle.std.specs.Prelude.{is_none}
 use Rattle.std.specs.Option.{unwrap_or}
 use mathlib.Core.Logic.{dite}
 use native.Mathlib.Decide.{ℕ_discrete}
@@ -25,7 +26,7 @@ use Rattle.arc_view.specs.declared.view.Working.{Working}
 use Rattle.arc_view.specs.declared.view.View.{View}
 use Rattle.arc_view.specs.Views.{made_in}
 use Rattle.arc_view.specs.Holding.{At, heap_of}
-use Rattle.arc_view.specs.Kinds.{act_of, event_list, kind_at, loaded_act, working_loaded, working_after, is_last}
+use Rattle.arc_view.specs.Kinds.{act_of, event_list, kind_at, loaded_act, working_loaded, working_after, is_last, when}
 use Rattle.arc_view.specs.Built.{IsAllowed}
 use Rattle.arc_view.specs.Steps.{Told}
 use Rattle.arc_view.specs.Calls.{Grew, Called}
@@ -39,6 +40,7 @@ use Rattle.arc_table.specs.Attempts.{IsLoweredInEntry, entry_down_act}
 use Rattle.arc_table.specs.Calls.{GoesOn}
 use Rattle.arc_table.specs.Runs.{MayRun, Ran}
 use Rattle.arc_view_laws.specs.Strangers.{SeesNoStranger}
+use Rattle.arc_view.proofs.Held.{strong≢weak}
 use Rattle.arc_view_laws.proofs.Counted.{told_alone}
 use Rattle.arc_view_laws.proofs.Growing.{acts_of, told_grew}
 use Rattle.arc_table.proofs.InEntry.{Holding, holds_first, holds_on, word_later, knows_entry, its_entry, counted_there}
@@ -63,14 +65,18 @@ module _ (shape : HeapShape) (k e : ℕ) (v0 : View) (lt : e < shape.entries) (f
   holding0 = holds_first shape k e v0 i o0 hand0 here0 entry0
 
   look_none : (v : View) (x : ℕ) → act_of shape v look drop x ≡ None
-  look_none v x = ap (λ (q : Place). loaded_act shape v q x drop) (place_at-number (extent_of shape) (Strong e) lt)
+  look_none v x = ap (λ (q : Place). loaded_act shape v q x drop) (place_at-number (extent_of shape) (Strong e) lt) ∙ ap (λ b. when b (acts.Drop k false)) (never (is_none v.working.access))
+    where
+      never : (b : Bool) → (b && false) ≡ false
+      never true = refl
+      never false = refl
 
   look_works : (v : View) (x : ℕ) → working_after shape v look drop x ≡ v.working
   look_works v x = ap (λ (q : Place). working_loaded v.working q x drop) (place_at-number (extent_of shape) (Strong e) lt)
 
   -- a load shows no event
   may_look : (v : View) → Holds v → IsAllowed shape v look drop
-  may_look v g = ((Strong e, refl, lt, ap (λ (w : Working). w.owes) g.working ∙ free, inl (knows_entry shape k e v0 i o0 v g)), inl (look_none v, look_works v))
+  may_look v g = ((Strong e, refl, lt, ap (λ (w : Working). w.owes) g.working ∙ free, knows_entry shape k e v0 i o0 v g, tt), inl (look_none v, look_works v))
 
   -- after the load the hand stands where it stood, and the word that was found counts it
   pub record Looked (x : ℕ) (v : View) : Type 0 where
@@ -110,7 +116,7 @@ module _ (shape : HeapShape) (k e : ℕ) (v0 : View) (lt : e < shape.entries) (f
       ap (λ (w : Working). w.owes) g.working ∙ free,
       (kinds.Strong, i, g.o, g.hand, ap (λ (w : Working). w.access) g.working ∙ no_access, g.here, counted_there shape k e v0 i o0 v g, (let some = l.some in omega (arith, some))),
     ),
-    ap kind_at g.hand,
+    λ weak. strong≢weak (sym (ap kind_at g.hand) ∙ weak),
   )
 
   -- an exchange for the count that was read found a word

@@ -71,7 +71,7 @@ module _ (shape : HeapShape) (k e : ℕ) (v0 : View) (lt : e < shape.entries) (f
 
   -- a load shows the greatest count, or no event
   may_look : (v : View) → Holds v → IsAllowed shape v look copy
-  may_look v g = ((Strong e, refl, lt, ap (λ (w : Working). w.owes) g.working ∙ free, inl (knows_entry shape k e v0 i o0 v g)), inr (ap kind_at g.hand))
+  may_look v g = ((Strong e, refl, lt, ap (λ (w : Working). w.owes) g.working ∙ free, knows_entry shape k e v0 i o0 v g, tt), inr tt)
 
   abbrev refusal : Act
   refusal = acts.CountFull kinds.Strong (origins.Hand k)
@@ -145,7 +145,7 @@ module _ (shape : HeapShape) (k e : ℕ) (v0 : View) (lt : e < shape.entries) (f
       ap (λ (w : Working). w.owes) g.working ∙ free,
       (kinds.Strong, i, g.o, (g.hand, tt), g.here, counted_there shape k e v0 i o0 v g, (l.some, (let most = l.most in omega (arith, most, ne)), refl)),
     ),
-    ap kind_at g.hand,
+    tt,
   )
 
   abbrev row : ℕ → Choice EntryUpAnswer

@@ -120,7 +120,7 @@ module _ (shape : HeapShape) (g : ℕ) (put : Option ℕ) (new : ℕ) (v0 : View
     pub alone : SeesNoStranger v
 
   may_look : IsAllowed shape v0 look intent
-  may_look = ((places.Global g, refl, within, free, tt), inl (swap_silent shape v0 cell_at (cells.Global g) put))
+  may_look = ((places.Global g, refl, within, free, tt, tt), inl (swap_silent shape v0 cell_at (cells.Global g) put))
 
   looked : (x : ℕ) (v : View) → Told shape intent look v0 x v → Looked x v
   looked x v t =

@@ -2,6 +2,7 @@
 use Rattle.std.proofs.Common.{◌≢◌, ℕ, ◌<◌, ◌+◌, false, refl, sym, subst, arith, ◌≡◌, Option, None, ◌∙◌}
 use Rattle.arc_model.specs.declared.event.Act.TheVariants.{New}
 use Rattle.arc_model.specs.Shapes.{HeapShape}
+use Rattle.arc_rule.specs.Bits.{words_of}
 use Rattle.arc_view.specs.declared.view.View.{View}
 use Rattle.arc_view.specs.Holding.{heap_of}
 use Rattle.arc_model.specs.Heaps.{Hand}
@@ -49,9 +50,9 @@ pub rest_held : (shape : HeapShape) (held t : Token) (r : Release) (v w : View) 
 rest_held shape held t r v w has other h = still_held shape (release_act held r) v w t ((release_spares held r).0 (hand_of t) Strong other) has h
 
 -- the copy of a new object's reference is another hand
-pub copy_other : (shape : HeapShape) (class : ℕ) (v u w : View) (t copy : Token) → GoesOn shape (made_act class (made.Ok t)) (shape.slots + 1) v u → IsMade shape class v u (made.Ok t) → IsUp shape t u w (ups.Ok copy) → hand_of t ≢ hand_of copy
+pub copy_other : (shape : HeapShape) (class : ℕ) (v u w : View) (t copy : Token) → GoesOn shape (made_act class (made.Ok t)) (words_of shape.slots + 3) v u → IsMade shape class v u (made.Ok t) → IsUp shape t u w (ups.Ok copy) → hand_of t ≢ hand_of copy
 copy_other shape class v u w t copy call m up same =
-    let next = next_one (New (hand_of t) class t.slot) (shape.slots + 1) v u call.called.grew refl in
+    let next = next_one (New (hand_of t) class t.slot) (words_of shape.slots + 3) v u call.called.grew refl in
     let old = m.0 in
     let new = up.0 in absurd (omega (arith, next, old, new, same))
 

@@ -1,6 +1,6 @@
 -- The plan that vacates a slot, on the shared heap.
 use Rattle.std.proofs.Common.{◌≡◌, ℕ, ◌<◌, false, cond, ◌∷◌, ◌++◌, Option, Some, None, refl, sym, ap, ◌∙◌, subst, arith, eq-eqb}
-use Rattle.std.specs.Prelude.{slice_get, is_some}
+use Rattle.std.specs.Prelude.{slice_get, is_some, ◌/◌}
 use Rattle.arc_model.specs.declared.event.Act.TheVariants as acts
 use Rattle.arc_model.specs.declared.event.Event.{Event}
 use Rattle.arc_model.specs.declared.shape.Kind.{Kind}
@@ -14,18 +14,20 @@ use Rattle.arc_model.proofs.Basics.{Some-inj}
 use Rattle.arc_model.proofs.Duties.{own_duties}
 use Rattle.arc_model.proofs.Others.{others_leave}
 use Rattle.arc_rule.specs.declared.layout.Place.{Place}
-use Rattle.arc_rule.specs.declared.layout.Place.TheVariants.{Count}
+use Rattle.arc_rule.specs.declared.layout.Place.TheVariants.{SlotBits}
 use Rattle.arc_rule.specs.declared.step.Step.{Step}
-use Rattle.arc_rule.specs.declared.step.Step.TheVariants.{Store}
+use Rattle.arc_rule.specs.declared.step.Step.TheVariants.{And}
 use Rattle.arc_rule.specs.declared.step.Intent.TheVariants as intents
 use Rattle.arc_rule.specs.declared.plan.Next.{Next}
 use Rattle.arc_rule.specs.declared.plan.Next.TheVariants as nexts
+use Rattle.arc_rule.specs.Bits.{words_of, but_bit_of}
 use Rattle.arc_rule.specs.Places.{extent_of, number}
+use Rattle.arc_rule.proofs.Bits.{thing_left_but}
 use Rattle.arc_rule.proofs.Places.{place_at-number}
 use Rattle.arc_view.specs.declared.view.View.{View}
 use Rattle.arc_view.specs.Holding.{At, HasDuty, heap_of}
 use Rattle.arc_view.specs.Rule.{IsSized}
-use Rattle.arc_view.specs.Kinds.{act_of, event_list, stored_act, working_stored}
+use Rattle.arc_view.specs.Kinds.{act_of, event_list, and_act, working_and}
 use Rattle.arc_view.specs.Built.{IsAllowed}
 use Rattle.arc_view.specs.Steps.{Told}
 use Rattle.arc_view.specs.Calls.{Grew}
@@ -46,14 +48,18 @@ use Rattle.arc_table.proofs.Invariant.{Keeps, may_run, has_run}
 
 module _ (shape : HeapShape) (s : ℕ) (m : Option ℕ) (v0 : View) (sized : IsSized shape) (lt : s < shape.slots) (free : v0.working.owes ≡ None) (i : ℕ) (o0 : Object)
     (here0 : At (heap_of v0) i o0) (duty0 : HasDuty v0 Vacating i) (slot0 : o0.slot ≡ Some s) (entry0 : o0.entry ≡ m) where
-  abbrev count_at : ℕ
-  count_at = number (extent_of shape) (Count s)
+  abbrev bits_at : ℕ
+  bits_at = number (extent_of shape) (SlotBits (s / 64))
 
   abbrev clear : Step
-  clear = Store count_at 0
+  clear = And bits_at (but_bit_of s)
+
+  -- the word that has the slot's bit
+  inside : s / 64 < words_of shape.slots
+  inside = omega (arith, lt)
 
   may_clear : IsAllowed shape v0 clear intents.Vacate
-  may_clear = ((Count s, refl, lt, (free, (s, i, o0, refl, refl, here0, slot0, duty0))), tt)
+  may_clear = ((SlotBits (s / 64), refl, inside, free, (s, i, o0, refl, lt, refl, here0, slot0, duty0)), tt)
 
   abbrev Claim : View → Type 0
   Claim w = IsLeft v0 w s m × GoesOn shape (Some (acts.Vacate s)) 1 v0 w
@@ -69,7 +75,7 @@ module _ (shape : HeapShape) (s : ℕ) (m : Option ℕ) (v0 : View) (sized : IsS
     event = record { thread = p; act = acts.Vacate s }
 
     act_is : act_of shape v0 clear intents.Vacate found ≡ Some (acts.Vacate s)
-    act_is = ap (λ (u : Place). stored_act v0 u intents.Vacate) (place_at-number (extent_of shape) (Count s) lt)
+    act_is = ap (λ (u : Place). and_act u (but_bit_of s) intents.Vacate) (place_at-number (extent_of shape) (SlotBits (s / 64)) inside) ∙ ap (λ t. Some (acts.Vacate t)) (thing_left_but s)
 
     seen_is : w.seen ≡ event ∷ h
     seen_is = ap (λ (u : View). u.seen) told.after ∙ ap (λ a. event_list p a ++ h) act_is
@@ -141,7 +147,7 @@ module _ (shape : HeapShape) (s : ℕ) (m : Option ℕ) (v0 : View) (sized : IsS
       left,
       record {
         called = record { grew = subst (λ a. Grew (acts_of a) 1 v0 w) act_is (told_grew shape intents.Vacate clear v0 found w told); legal = told.legal; in_shape = told.in_shape };
-        working = ap (λ (u : View). u.working) told.after ∙ ap (λ (u : Place). working_stored (number (extent_of shape)) v0.working u 0 intents.Vacate) (place_at-number (extent_of shape) (Count s) lt);
+        working = ap (λ (u : View). u.working) told.after ∙ ap (λ (u : Place). working_and (number (extent_of shape)) v0.working u (but_bit_of s) intents.Vacate) (place_at-number (extent_of shape) (SlotBits (s / 64)) inside);
         alone = told_alone shape intents.Vacate clear v0 found w told;
       },
     )

@@ -6,6 +6,7 @@ pub mod Invariant
 pub mod InEntry
 pub mod EntryUpping
 pub mod EntryDowning
+pub mod Lasting
 pub mod Making
 pub mod TwoParts
 pub mod StrongCalls
@@ -20,3 +21,4 @@ pub mod Closing
 pub mod Leaving
 pub mod EndCalls
 pub mod EndTokens
+pub mod Naming

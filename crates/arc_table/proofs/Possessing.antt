@@ -18,7 +18,7 @@ use Rattle.arc_model.specs.WellFormed.{IsWhole}
 use Rattle.arc_model.specs.History.{History, heap_after, is_of, share, IsLegal}
 use Rattle.arc_model.specs.Lookup.{spot, duty_of, duty_in, owed_by, owed_in, entry_in}
 use Rattle.arc_model.specs.Own.{ends, ends_hand, owed_next, claimed_next}
-use Rattle.arc_model.proofs.Basics.{None≢Some, Some-inj, true≢false, in-not_empty}
+use Rattle.arc_model.proofs.Basics.{None≢Some, Some-inj, true≢false, in-not_empty, none-strong}
 use Rattle.arc_model.proofs.Tally.{clash}
 use Rattle.arc_model.proofs.Turns.{IsLeaving}
 use Rattle.arc_model.proofs.Courses.{well_formed}
@@ -64,10 +64,10 @@ still_on (duty Gone n) o q r a b = (same_on o q r a.0 b.0, b.1 ∙ a.1)
 still_on (claim e) o q r a b = (same_on o q r a.0 b.0, b.1 ∙ a.1)
 
 -- an object that a reference or a duty leads to has a weak holder
-listed_weak : (kind : Kind) (z : Holder) (o : Object) → IsWhole o → is_in z (list_of kind o) ≡ true → is_empty o.weak ≡ false
-listed_weak Strong z o w h = busy_weak o w (inl (in-not_empty z o.strong h))
-listed_weak Unowned z o w h = busy_weak o w (inr (in-not_empty z o.unowned h))
-listed_weak Weak z o w h = in-not_empty z o.weak h
+listed_weak : (shape : HeapShape) (kind : Kind) (z : Holder) (o : Object) → IsWhole shape o → is_in z (list_of kind o) ≡ true → is_empty o.weak ≡ false
+listed_weak shape Strong z o w h = busy_weak shape o w (inl (in-not_empty z o.strong h))
+listed_weak shape Unowned z o w h = busy_weak shape o w (inr (in-not_empty z o.unowned h))
+listed_weak shape Weak z o w h = in-not_empty z o.weak h
 
 owed_of : (p : ℕ) (d : Duty) (m : Option Owed) → owed_by p m ≡ Some d → m ≡ Some (record { thread = p; duty = d })
 owed_of p d None e = absurd (None≢Some d e)
@@ -102,7 +102,7 @@ module _ (shape : HeapShape) (p : ℕ) (e : Event) (h : History) (some : 1 ≤ s
       let was = hand_listed shape h p k i kind o legal.1 at here in
       let is = hand_listed shape (e ∷ h) p k i kind s.q legal then s.here in
       let whole = (well_formed shape (e ∷ h) legal).whole i s.q s.here in
-      let same : IsSame o s.q = record { id = s.id; class = s.class; entry = λ n had. s.entry n (listed_weak kind (Hand p k) s.q whole is) had } in
+      let same : IsSame o s.q = record { id = s.id; class = s.class; entry = λ n had. s.entry n (listed_weak shape kind (Hand p k) s.q whole is) had } in
       (s.q, (i, then, s.here), by kind s.q was same s.slot)
     where
       by : (kind : Kind) (q : Object) → is_in (Hand p k) (list_of kind o) ≡ true → IsSame o q → (Busy o → q.slot ≡ o.slot) → IsStill (reference k kind) o q
@@ -128,8 +128,8 @@ module _ (shape : HeapShape) (p : ℕ) (e : Event) (h : History) (some : 1 ≤ s
       ]
 
   -- its object doesn't leave its slot by the event
-  not_leaving : (i n : ℕ) (d : Duty) (o : Object) → (e.thread ≡ p → spent (duty d n) e.act ≡ false) → duty_of p i (heap_after h) ≡ Some d → At (heap_after h) i o → named d o ≡ Some n → IsLeaving e.act o → ⊥
-  not_leaving i n Deinit o kept owed here is (s, act, slot, strong, unowned) = ⊎_elim (λ b. clash (is_empty o.strong) strong b) (λ b. clash (is_empty o.unowned) unowned b) (dying_busy shape h p i o legal.1 here owed)
+  not_leaving : (i n : ℕ) (d : Duty) (o : Object) → (e.thread ≡ p → spent (duty d n) e.act ≡ false) → duty_of p i (heap_after h) ≡ Some d → At (heap_after h) i o → named d o ≡ Some n → IsLeaving shape e.act o → ⊥
+  not_leaving i n Deinit o kept owed here is (s, act, slot, strong, unowned) = ⊎_elim (λ b. clash (is_empty o.strong) (ap is_empty (none-strong shape o strong).0) b) (λ b. clash (is_empty o.unowned) unowned b) (dying_busy shape h p i o legal.1 here owed)
   not_leaving i n Vacating o kept owed here is (s, act, slot, strong, unowned) = dite (ℕ_discrete e.thread p)
       (λ mine. true≢false (sym (eq-eqb n s (Some-inj (sym is ∙ slot))) ∙ (ap (spent (duty Vacating n)) (sym act) ∙ kept mine)))
       (λ other. not_left shape e h p i Vacating o legal here owed other (s, act, slot, strong, unowned))

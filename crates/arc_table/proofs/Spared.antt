@@ -43,6 +43,7 @@ up_spares of (ups.Again c) = (λ k kind. refl, λ s. refl, λ s. refl)
 pub made_spares : (class : ℕ) (r : Made) → SparesReferences (made_act class r) × SparesDeinits (made_act class r) × SparesVacatings (made_act class r)
 made_spares class (made.Ok t) = (λ k kind. refl, λ s. refl, λ s. refl)
 made_spares class made.NoSlot = (λ k kind. refl, λ s. refl, λ s. refl)
+made_spares class (made.Again c) = (λ k kind. refl, λ s. refl, λ s. refl)
 
 -- a release spends its reference alone
 pub release_spares : (held : Token) (r : Release) → ((k : ℕ) (kind : Kind) → k ≢ hand_of held → spends (release_act held r) (reference k kind) ≡ false) × SparesDeinits (release_act held r) × SparesVacatings (release_act held r)

@@ -12,7 +12,8 @@ use Rattle.arc_rule.specs.Places.{extent_of, number}
 use Rattle.arc_view.specs.declared.view.View.{View}
 use Rattle.arc_view.specs.Calls.{Grew, Called}
 use Rattle.arc_table.specs.declared.tokens.Strong.{Strong as Token}
-use Rattle.arc_table.specs.Causes.{ReadTwice, Loaded, LoadedFull, HasEntry, ChangedCount}
+use Rattle.arc_table.specs.Causes.{ReadTwice, Loaded, LoadedFull, HasEntry, ChangedCount, IsMortal, IsLookOfImmortal}
+use Rattle.arc_model.proofs.Basics.{true≢false}
 use Rattle.arc_table.specs.Causes.ChangedCount.{in_entry}
 use Rattle.arc_table.specs.Runs.{Walked}
 use Rattle.arc_table.specs.declared.heap.Part.{Part}
@@ -89,3 +90,7 @@ module _ (shape : HeapShape) (k s e : ℕ) (v u w : View) (walked : Walked v u) 
   -- it finds that count changed
   pub changed_on : (c : Changed) → HasEntry w k e × ReadTwice (number (extent_of shape) (places.Strong e)) c u w → ChangedCount shape k s c v w
   changed_on c d = in_entry e d.0 (read_on (number (extent_of shape) (places.Strong e)) c v u w walked d.1)
+
+-- what isn't immortal is looked at as often as need be
+pub not_immortal : (shape : HeapShape) (k s : ℕ) (v w : View) → IsMortal shape v k s → IsLookOfImmortal shape k s v w
+not_immortal shape k s v w mortal class strong lasts = absurd (true≢false (sym lasts ∙ mortal class strong))

@@ -1,5 +1,5 @@
 -- The plan that copies a strong reference by the inline word, on the shared heap.
-use Rattle.std.proofs.Common.{◌≡◌, ◌≢◌, inl, inr, ℕ, ◌<◌, ◌==◌, Bool, false, cond, [], ◌∷◌, ◌++◌, length, Option, None, Some, refl, sym, ap, ◌∙◌, subst, arith, eq-eqb, ne_eqb}
+use Rattle.std.proofs.Common.{◌≡◌, ◌≢◌, ◌⊎◌, inl, inr, ℕ, ◌<◌, ◌≤◌, ◌==◌, Bool, false, cond, [], ◌∷◌, ◌++◌, length, Option, None, Some, refl, sym, ap, ◌∙◌, subst, arith, eq-eqb, ne_eqb}
 use Rattle.std.specs.Prelude.{slice_get}
 use Rattle.std.specs.Option.{unwrap_or}
 use mathlib.Core.Logic.{dite}
@@ -10,7 +10,8 @@ use Rattle.arc_bits.specs.Words.{IsWordOf, unpacked, counts_word}
 use Rattle.arc_bits.specs.Moves.{strong_more}
 use Rattle.arc_model.specs.declared.event.Act.{Act}
 use Rattle.arc_model.specs.declared.shape.Kind.TheVariants as kinds
-use Rattle.arc_model.specs.Shapes.{HeapShape}
+use Rattle.arc_model.specs.Shapes.{HeapShape, class_at}
+use Rattle.arc_model.specs.Cells.{is_immortal}
 use Rattle.arc_model.specs.Heaps.{Hand, Object}
 use Rattle.arc_model.specs.History.{heap_after, IsLegal}
 use Rattle.arc_model.specs.Lookup.{spot}
@@ -25,7 +26,7 @@ use Rattle.arc_model.specs.declared.event.Act.TheVariants as acts
 use Rattle.arc_model.specs.declared.event.Origin.TheVariants as origins
 use Rattle.arc_model.specs.Holders.{is_number}
 use Rattle.arc_model.specs.History.{next_hand}
-use Rattle.arc_model.proofs.Basics.{None≢Some}
+use Rattle.arc_model.proofs.Basics.{None≢Some, true≢false}
 use Rattle.arc_model.proofs.Others.{others_leave}
 use Rattle.arc_rule.specs.declared.step.Step.{Step}
 use Rattle.arc_rule.specs.declared.step.Step.TheVariants.{Load, Exchange}
@@ -41,21 +42,22 @@ use Rattle.arc_view.specs.declared.view.Working.{Working}
 use Rattle.arc_view.specs.declared.view.View.{View}
 use Rattle.arc_view.specs.Views.{made_in}
 use Rattle.arc_view.specs.Holding.{heap_of}
-use Rattle.arc_view.specs.Kinds.{act_of, event_list, kind_at, loaded_act, working_loaded, working_after}
+use Rattle.arc_view.specs.Kinds.{act_of, event_list, kind_at, working_loaded, working_after}
 use Rattle.arc_view.specs.Built.{IsAllowed}
 use Rattle.arc_view.specs.Steps.{Told}
 use Rattle.arc_view.specs.Calls.{Grew, Called}
 use Rattle.arc_model.proofs.Own.{own_gains}
 use Rattle.arc_view_laws.specs.Strangers.{SeesNoStranger}
 use Rattle.arc_view_laws.specs.Having.{IsStrongOf, StandsAs}
-use Rattle.arc_table.specs.Causes.{ReadTwice, LoadedAtCap, HasEntry}
+use Rattle.arc_table.specs.Causes.{ReadTwice, LoadedAtCap, HasEntry, IsMortal, IsLookOfImmortal}
 use Rattle.arc_table.specs.Attempts.{IsRaisedInline, inline_up_act, up_steps}
 use Rattle.arc_table.specs.Calls.{GoesOn}
 use Rattle.arc_rule.specs.declared.step.Changed.{Changed}
 use Rattle.arc_view_laws.proofs.Counted.{told_alone}
-use Rattle.arc_view_laws.proofs.StrongWords.{ShowsStrong, counts, slow, shows_strong, is_count_word}
-use Rattle.arc_view_laws.proofs.Kept.{stands_as}
-use Rattle.arc_table.proofs.Making.{grew_on, next_none}
+use Rattle.arc_view_laws.proofs.StrongWords.{ShowsStrong, counts, slow, forever, one_unpacked, shows_strong, is_count_word}
+use Rattle.arc_view_laws.proofs.Kept.{strong_one, stands_as}
+use Rattle.arc_table.proofs.Making.{grew_on, grew_most, next_none}
+use Rattle.arc_table.proofs.Lasting.{copy_told, mortal}
 use Rattle.arc_view.proofs.Held.{Held, held_stays, strong≢weak}
 use Rattle.arc_plan.specs.declared.attempt.At.{At as At'}
 use Rattle.arc_plan.specs.declared.attempt.At.TheVariants as ats
@@ -63,10 +65,10 @@ use Rattle.arc_plan.specs.declared.attempt.Choice.{Choice}
 use Rattle.arc_plan.specs.declared.attempt.Choice.TheVariants.{Tell, Write}
 use Rattle.arc_plan.specs.declared.strong.StrongUpAnswer.{StrongUpAnswer}
 use Rattle.arc_plan.specs.declared.strong.StrongUpAnswer.TheVariants as ups
-use Rattle.arc_plan.specs.Attempts.{CappedAttempt, turned_at, exchanging, chosen, left_at}
+use Rattle.arc_plan.specs.Attempts.{CappedAttempt, IsCountWord, turned_at, exchanging, chosen, left_at}
 use Rattle.arc_plan.specs.Strong.{strong_up_row, strong_up_takes, strong_up_turned, strong_up_answer}
 use Rattle.arc_table.specs.Runs.{MayRun, Ran}
-use Rattle.arc_view_laws.proofs.Growing.{acts_of, told_grew}
+use Rattle.arc_view_laws.proofs.Growing.{acts_of, told_grew, grew_none}
 use Rattle.arc_table.proofs.Invariant.{Keeps, may_run, has_run}
 
 module _ (shape : HeapShape) (k s : ℕ) (v0 : View) (sized : IsSized shape) (lt : s < shape.slots) (free : v0.working.owes ≡ None) (i : ℕ) (o0 : Object)
@@ -96,12 +98,52 @@ module _ (shape : HeapShape) (k s : ℕ) (v0 : View) (sized : IsSized shape) (lt
   holding0 : Holding v0
   holding0 = record { number = refl; working = refl; o = o0; hand = hand0; here = here0; slot = slot0; is_class = refl }
 
-  -- a load of the inline word shows no event
-  may_look : (v : View) → Holding v → IsAllowed shape v look copy
-  may_look v g = ((Count s, refl, lt, ap (λ (w : Working). w.owes) g.working ∙ free, inl (i, g.o, g.here, g.slot, inl (k, kinds.Strong, g.hand))), inr (ap kind_at g.hand))
+  -- Up: one more hand of the pass, a strong one of the same object
+  pub record Copied (w : View) : Type 0 where
+    pub called : Called shape (act ∷ []) 2 v0 w
+    pub working : w.working ≡ v0.working
+    pub alone : SeesNoStranger w
+    pub strong : IsStrongOf w (next_hand v0.number v0.seen) s o0.class
 
-  look_none : (v : View) (x : ℕ) → act_of shape v look copy x ≡ None
-  look_none v x = ap (λ (q : Place). loaded_act shape v q x copy) (place_at-number (extent_of shape) (Count s) lt)
+  copied_by : (st : Step) (x : ℕ) (v w : View) → Holding v → Grew [] 1 v0 v → (t : Told shape copy st v x w) → act_of shape v st copy x ≡ Some (acts.Copy (origins.Hand k) (next_hand v.number v.seen)) → working_after shape v st copy x ≡ v.working → Copied w
+  copied_by st x v w g grew t act_is works =
+      let p = v.number in
+      let n = next_hand v.number v.seen in
+      let a : Act = acts.Copy (origins.Hand k) n in
+      let h = t.between ++ v.seen in
+      let seen_is : w.seen ≡ record { thread = p; act = a } ∷ h = ap (λ (u : View). u.seen) t.after ∙ ap (λ b. event_list p b ++ h) act_is in
+      let legal : IsLegal shape (record { thread = p; act = a } ∷ h) = subst (IsLegal shape) seen_is t.legal in
+      let held : Held kinds.Strong i g.o (heap_after h) = held_stays shape p k i kinds.Strong g.o v.seen t.between legal.1 t.others g.hand g.here in
+      let hand : spot (Hand p k) (heap_after h) ≡ Some (record { place = i; kind = kinds.Strong }) = (others_leave shape p v.seen t.between legal.1 t.others).hands k ∙ g.hand in
+      let q = stays_after shape (record { thread = p; act = a }) h legal i held.q held.here in
+      let busy = in-not_empty (Hand p k) held.q.strong (hand_listed shape h p k i kinds.Strong held.q legal.1 hand held.here) in
+      let next_is : n ≡ next_hand v0.number v0.seen = next_none 1 v0 v grew in
+      let all = grew_on [] (a ∷ []) 1 1 v0 v w grew (subst (λ b. Grew (acts_of b) 1 v w) act_is (told_grew shape copy st v x w t)) in
+      let w_is : w.number ≡ p = ap (λ (u : View). u.number) t.after in
+      let came : spot (Hand w.number n) (heap_of w) ≡ Some (record { place = i; kind = kinds.Strong }) = (λ j. spot (Hand (w_is j) n) (heap_after (seen_is j))) ∙ (own_gains shape h (record { thread = p; act = a }) n legal refl ∙ hand) in record {
+        called = record { grew = subst (λ m. Grew (acts.Copy (origins.Hand k) m ∷ []) 2 v0 w) next_is all; legal = t.legal; in_shape = t.in_shape };
+        working = ap (λ (u : View). u.working) t.after ∙ (works ∙ g.working);
+        alone = told_alone shape copy st v x w t;
+        strong = subst (λ m. IsStrongOf w m s o0.class) next_is (i, q.q, came, ap (λ l. slice_get (heap_after l).objects i) seen_is ∙ q.here, q.slot (inl busy) ∙ (held.slot strong≢weak ∙ g.slot), q.class ∙ (held.class ∙ g.is_class));
+      }
+
+  -- the load showed that the object is immortal
+  pub record Lasts (w : View) : Type 0 where
+    pub copied : Copied w
+    pub mark : Mark
+    pub trail : w.trail ≡ mark ∷ v0.trail
+    pub step : mark.step ≡ look
+    pub found : mark.found ≡ 1
+
+  -- a load of the inline word shows no event, or the copy of an immortal object
+  may_look : (v : View) → Holding v → IsAllowed shape v look copy
+  may_look v g = ((Count s, refl, lt, ap (λ (w : Working). w.owes) g.working ∙ free, (i, g.o, g.here, g.slot, inl (k, kinds.Strong, g.hand, strong≢weak)), tt), inr tt)
+
+  look_none : (x : ℕ) → x ≢ 1 → act_of shape v0 look copy x ≡ None
+  look_none x other = copy_told shape v0 k i s x o0 lt hand0 here0 slot0 ∙ ap (λ b. cond b (Some act) None) (ne_eqb x 1 other)
+
+  look_copies : (x : ℕ) → x ≡ 1 → act_of shape v0 look copy x ≡ Some act
+  look_copies x one = copy_told shape v0 k i s x o0 lt hand0 here0 slot0 ∙ ap (λ b. cond b (Some act) None) (eq-eqb x 1 one)
 
   look_works : (v : View) (x : ℕ) → working_after shape v look copy x ≡ v.working
   look_works v x = ap (λ (q : Place). working_loaded v.working q x copy) (place_at-number (extent_of shape) (Count s) lt)
@@ -113,16 +155,17 @@ module _ (shape : HeapShape) (k s : ℕ) (v0 : View) (sized : IsSized shape) (lt
     pub in_shape : InShape shape v.seen
     pub holding : Holding v
     pub shows : ShowsStrong shape holding.o x
+    pub mortal : is_immortal shape o0 ≡ false
     pub mark : Mark
     pub trail : v.trail ≡ mark ∷ v0.trail
     pub step : mark.step ≡ look
     pub found : mark.found ≡ x
     pub alone : SeesNoStranger v
 
-  looked : (x : ℕ) (v : View) → Told shape copy look v0 x v → Looked x v
-  looked x v t =
+  looked : (x : ℕ) (v : View) → x ≢ 1 → Told shape copy look v0 x v → Looked x v
+  looked x v other t =
       let h = t.between ++ v0.seen in
-      let none = look_none v0 x in
+      let none = look_none x other in
       let seen : v.seen ≡ h = ap (λ (u : View). u.seen) t.after ∙ ap (λ a. event_list v0.number a ++ h) none in
       let legal : IsLegal shape h = subst (IsLegal shape) seen t.legal in
       let within : InShape shape h = subst (InShape shape) seen t.in_shape in
@@ -144,6 +187,7 @@ module _ (shape : HeapShape) (k s : ℕ) (v0 : View) (sized : IsSized shape) (lt
           is_class = held.class;
         };
         shows = shows_strong shape h v0.number k i s x held.q sized legal within hand held.here slot says;
+        mortal = ap (λ c. (class_at shape c).immortal) (sym held.class) ∙ mortal shape h i s x held.q legal held.here slot says other;
         mark = record { step = look; found = x; length = length h; made = made_in v0.number h };
         trail = ap (λ (u : View). u.trail) t.after;
         step = refl;
@@ -151,11 +195,27 @@ module _ (shape : HeapShape) (k s : ℕ) (v0 : View) (sized : IsSized shape) (lt
         alone = told_alone shape copy look v0 x v t;
       }
 
+  lasts : (x : ℕ) (v : View) → x ≡ 1 → Told shape copy look v0 x v → Lasts v
+  lasts x v one t = record {
+    copied = copied_by look x v0 v holding0 (grew_most [] 0 1 v0 v0 (omega arith) (grew_none v0)) t (look_copies x one) (look_works v0 x);
+    mark = record { step = look; found = x; length = length (t.between ++ v0.seen); made = made_in v0.number (t.between ++ v0.seen) };
+    trail = ap (λ (u : View). u.trail) t.after;
+    step = refl;
+    found = one;
+  }
+
+  -- what the load told
+  abbrev pub After : ℕ → View → Type 0
+  After x v = ((x ≡ 1) × Lasts v) ⊎ Looked x v
+
+  after : (x : ℕ) (v : View) → Told shape copy look v0 x v → After x v
+  after x v t = dite (ℕ_discrete x 1) (λ one. inl (one, lasts x v one t)) (λ other. inr (looked x v other t))
+
   -- the counts that were read have room
   may_copy : (x : ℕ) (v : View) (c : Inline) → Looked x v → IsWordOf (Counts c) x → c.deiniting ≡ false → c.strong_extra < shape.caps.strong → IsAllowed shape v (Exchange count_at x (counts_word (strong_more c))) copy
   may_copy x v c l word lives room = let g = l.holding in (
     (Count s, refl, lt, ap (λ (w : Working). w.owes) g.working ∙ free, (kinds.Strong, i, g.o, (g.hand, tt), g.here, ap (λ m. is_number m s) g.slot ∙ eq-eqb s s refl, (c, word, lives, room, refl))),
-    ap kind_at g.hand,
+    tt,
   )
 
   abbrev row : ℕ → Choice StrongUpAnswer
@@ -178,6 +238,7 @@ module _ (shape : HeapShape) (k s : ℕ) (v0 : View) (sized : IsSized shape) (lt
           (λ e. capped c word lives e (ap (strong_up_row shape.caps.strong) is ∙ (λ j. by (lives j) (eq-eqb c.strong_extra shape.caps.strong e j) c)))
           (λ ne. copies c word lives (omega (arith, cap, ne)) (ap (strong_up_row shape.caps.strong) is ∙ (λ j. by (lives j) (ne_eqb c.strong_extra shape.caps.strong ne j) c)))
       go (slow e is entry within) = aside e entry within (ap (strong_up_row shape.caps.strong) is)
+      go (forever one is immortal) = absurd (true≢false (sym immortal ∙ (ap (λ c. (class_at shape c).immortal) l.holding.is_class ∙ l.mortal)))
 
   abbrev swap : ℕ → Inline → Step
   swap x c = Exchange count_at x (counts_word (strong_more c))
@@ -190,7 +251,7 @@ module _ (shape : HeapShape) (k s : ℕ) (v0 : View) (sized : IsSized shape) (lt
     pub told : Told shape copy (swap seen c) v found w
 
   abbrev pub Outcome : StrongUpAnswer → View → Type 0
-  Outcome ups.Up w = (seen : ℕ) × Tried seen seen w
+  Outcome ups.Up w = ((seen : ℕ) × Tried seen seen w) ⊎ Lasts w
   Outcome ups.Dead w = ⊥
   Outcome ups.AtCap w = (x : ℕ) × (c : Inline) × Looked x w × IsWordOf (Counts c) x × (c.deiniting ≡ false) × (c.strong_extra ≡ shape.caps.strong)
   Outcome (ups.Slow e) w = (x : ℕ) × (l : Looked x w) × (l.holding.o.entry ≡ Some e) × (e < shape.entries)
@@ -199,7 +260,7 @@ module _ (shape : HeapShape) (k s : ℕ) (v0 : View) (sized : IsSized shape) (lt
   abbrev IsAt : At' → Option ℕ → View → Type 0
   IsAt ats.Start last v = (last ≡ None) × (v ≡ v0)
   IsAt ats.Loading None v = ⊥
-  IsAt ats.Loading (Some x) v = Looked x v
+  IsAt ats.Loading (Some x) v = After x v
   IsAt (ats.Exchanging seen new) None v = ⊥
   IsAt (ats.Exchanging seen new) (Some f) v = Tried seen f v
   IsAt ats.Ended last v = ⊥
@@ -213,7 +274,8 @@ module _ (shape : HeapShape) (k s : ℕ) (v0 : View) (sized : IsSized shape) (lt
   takes_it : (m : At') (last : Option ℕ) (v : View) → IsAt m last v → strong_up_takes (plan m) last
   takes_it ats.Start last v i = i.0
   takes_it ats.Loading None v i = absurd (i)
-  takes_it ats.Loading (Some x) v l = is_count_word shape l.holding.o x l.shows
+  takes_it ats.Loading (Some x) v (inl (one, l)) = subst (IsCountWord shape.entries (λ c. c.strong_extra ≤ shape.caps.strong)) (sym (ap unpacked one ∙ one_unpacked)) tt
+  takes_it ats.Loading (Some x) v (inr l) = is_count_word shape l.holding.o x l.shows
   takes_it (ats.Exchanging seen new) None v i = absurd (i)
   takes_it (ats.Exchanging seen new) (Some f) v i = λ e. absurd (None≢Some f (sym e))
   takes_it ats.Ended last v i = absurd (i)
@@ -234,10 +296,14 @@ module _ (shape : HeapShape) (k s : ℕ) (v0 : View) (sized : IsSized shape) (lt
   Stepping m v n a = IsAllowed shape v a copy × (left_at n < left_at m) × ((found : ℕ) (w : View) → Told shape copy a v found w → Is (plan n) (Some found) w)
 
   looks : Stepping ats.Start v0 ats.Loading look
-  looks = (may_look v0 holding0, omega arith, λ found w told. (ats.Loading, refl, looked found w told))
+  looks = (may_look v0 holding0, omega arith, λ found w told. (ats.Loading, refl, after found w told))
 
-  after_look : (x : ℕ) (v : View) (a : Step) → Looked x v → chosen count_at x (row x) ≡ nexts.Step a → Stepping ats.Loading v (exchanging x (row x)) a
-  after_look x v a l = elim (row_of x v l) [
+  one_row : (x : ℕ) → x ≡ 1 → row x ≡ Tell ups.Up
+  one_row x one = ap (strong_up_row shape.caps.strong) (ap unpacked one ∙ one_unpacked)
+
+  after_look : (x : ℕ) (v : View) (a : Step) → After x v → chosen count_at x (row x) ≡ nexts.Step a → Stepping ats.Loading v (exchanging x (row x)) a
+  after_look x v a (inl (one, l)) = subst (λ r. chosen count_at x r ≡ nexts.Step a → Stepping ats.Loading v (exchanging x r) a) (sym (one_row x one)) (λ e. done≢step e)
+  after_look x v a (inr l) = elim (row_of x v l) [
     | capped c word lives full is ↦ subst (λ r. chosen count_at x r ≡ nexts.Step a → Stepping ats.Loading v (exchanging x r) a) (sym is) (λ e. done≢step e)
     | aside e entry within is ↦ subst (λ r. chosen count_at x r ≡ nexts.Step a → Stepping ats.Loading v (exchanging x r) a) (sym is) (λ e. done≢step e)
     | copies c word lives room is ↦ subst (λ r. chosen count_at x r ≡ nexts.Step a → Stepping ats.Loading v (exchanging x r) a) (sym is)
@@ -245,8 +311,9 @@ module _ (shape : HeapShape) (k s : ℕ) (v0 : View) (sized : IsSized shape) (lt
         (may_copy x v c l word lives room, omega arith, λ found w told. (ats.Exchanging x (counts_word (strong_more c)), refl, record { v = v; c = c; l = l; told = told })))
   ]
 
-  look_ends : (x : ℕ) (v : View) (a : StrongUpAnswer) → Looked x v → chosen count_at x (row x) ≡ nexts.Done a → Outcome a v
-  look_ends x v a l = elim (row_of x v l) [
+  look_ends : (x : ℕ) (v : View) (a : StrongUpAnswer) → After x v → chosen count_at x (row x) ≡ nexts.Done a → Outcome a v
+  look_ends x v a (inl (one, l)) = subst (λ r. chosen count_at x r ≡ nexts.Done a → Outcome a v) (sym (one_row x one)) (λ e. subst (λ b. Outcome b v) (done_inj e) (inr l))
+  look_ends x v a (inr l) = elim (row_of x v l) [
     | capped c word lives full is ↦ subst (λ r. chosen count_at x r ≡ nexts.Done a → Outcome a v) (sym is) (λ e. subst (λ b. Outcome b v) (done_inj e) (x, c, l, word, lives, full))
     | aside e entry within is ↦ subst (λ r. chosen count_at x r ≡ nexts.Done a → Outcome a v) (sym is) (λ d. subst (λ b. Outcome b v) (done_inj d) (x, l, entry, within))
     | copies c word lives room is ↦ subst (λ r. chosen count_at x r ≡ nexts.Done a → Outcome a v) (sym is) (λ e. step≢done e)
@@ -254,7 +321,7 @@ module _ (shape : HeapShape) (k s : ℕ) (v0 : View) (sized : IsSized shape) (lt
 
   swap_ends : (seen f : ℕ) (v : View) → Tried seen f v → Outcome (cond (f == seen) ups.Up (ups.Again (record { seen = seen; found = f }))) v
   swap_ends seen f v t = dite (ℕ_discrete f seen)
-      (λ e. subst (λ b. Outcome (cond b ups.Up (ups.Again (record { seen = seen; found = f }))) v) (sym (eq-eqb f seen e)) (seen, subst (λ g. Tried seen g v) e t))
+      (λ e. subst (λ b. Outcome (cond b ups.Up (ups.Again (record { seen = seen; found = f }))) v) (sym (eq-eqb f seen e)) (inl (seen, subst (λ g. Tried seen g v) e t)))
       (λ ne. subst (λ b. Outcome (cond b ups.Up (ups.Again (record { seen = seen; found = f }))) v) (sym (ne_eqb f seen ne)) (t, ne))
 
   steps_at : (m : At') (last : Option ℕ) (v : View) (a : Step) → IsAt m last v → strong_up_answer (plan m) last ≡ nexts.Step a → Stepping m v (turned_at row m (unwrap_or last 0)) a
@@ -289,38 +356,11 @@ module _ (shape : HeapShape) (k s : ℕ) (v0 : View) (sized : IsSized shape) (lt
   pub has_upped : (a : StrongUpAnswer) (w : View) → Ran strong_up_turned strong_up_answer shape copy (plan ats.Start) None v0 a w → Outcome a w
   has_upped a w ran = has_run strong_up_takes strong_up_turned strong_up_answer shape copy Is Outcome (λ p. left_at p.at) up_keeps (plan ats.Start) None v0 a w ran (ats.Start, refl, (refl, refl))
 
-  -- Up: one more hand of the pass, a strong one of the same object
-  pub record Copied (w : View) : Type 0 where
-    pub called : Called shape (acts.Copy (origins.Hand k) (next_hand v0.number v0.seen) ∷ []) 2 v0 w
-    pub working : w.working ≡ v0.working
-    pub alone : SeesNoStranger w
-    pub strong : IsStrongOf w (next_hand v0.number v0.seen) s o0.class
-
-  pub has_copied : (seen : ℕ) (w : View) → Tried seen seen w → Copied w
+  has_copied : (seen : ℕ) (w : View) → Tried seen seen w → Copied w
   has_copied seen w t =
       let v = t.v in
-      let l = t.l in
-      let p = v.number in
-      let n = next_hand v.number v.seen in
-      let a : Act = acts.Copy (origins.Hand k) n in
-      let st = swap seen t.c in
-      let h = t.told.between ++ v.seen in
-      let act_is : act_of shape v st copy seen ≡ Some a = ap (λ b. cond b (Some a) None) (eq-eqb seen seen refl) in
-      let seen_is : w.seen ≡ record { thread = p; act = a } ∷ h = ap (λ (u : View). u.seen) t.told.after ∙ ap (λ b. event_list p b ++ h) act_is in
-      let legal : IsLegal shape (record { thread = p; act = a } ∷ h) = subst (IsLegal shape) seen_is t.told.legal in
-      let held : Held kinds.Strong i l.holding.o (heap_after h) = held_stays shape p k i kinds.Strong l.holding.o v.seen t.told.between legal.1 t.told.others l.holding.hand l.holding.here in
-      let hand : spot (Hand p k) (heap_after h) ≡ Some (record { place = i; kind = kinds.Strong }) = (others_leave shape p v.seen t.told.between legal.1 t.told.others).hands k ∙ l.holding.hand in
-      let q = stays_after shape (record { thread = p; act = a }) h legal i held.q held.here in
-      let busy = in-not_empty (Hand p k) held.q.strong (hand_listed shape h p k i kinds.Strong held.q legal.1 hand held.here) in
-      let next_is : n ≡ next_hand v0.number v0.seen = next_none 1 v0 v l.grew in
-      let g = grew_on [] (a ∷ []) 1 1 v0 v w l.grew (subst (λ b. Grew (acts_of b) 1 v w) act_is (told_grew shape copy st v seen w t.told)) in
-      let w_is : w.number ≡ p = ap (λ (u : View). u.number) t.told.after in
-      let came : spot (Hand w.number n) (heap_of w) ≡ Some (record { place = i; kind = kinds.Strong }) = (λ j. spot (Hand (w_is j) n) (heap_after (seen_is j))) ∙ (own_gains shape h (record { thread = p; act = a }) n legal refl ∙ hand) in record {
-        called = record { grew = subst (λ m. Grew (acts.Copy (origins.Hand k) m ∷ []) 2 v0 w) next_is g; legal = t.told.legal; in_shape = t.told.in_shape };
-        working = ap (λ (u : View). u.working) t.told.after ∙ (ap (λ b. cond b v.working v.working) (eq-eqb seen seen refl) ∙ l.holding.working);
-        alone = told_alone shape copy st v seen w t.told;
-        strong = subst (λ m. IsStrongOf w m s o0.class) next_is (i, q.q, came, ap (λ l. slice_get (heap_after l).objects i) seen_is ∙ q.here, q.slot (inl busy) ∙ (held.slot strong≢weak ∙ l.holding.slot), q.class ∙ (held.class ∙ l.holding.is_class));
-      }
+      let hit = eq-eqb seen seen refl in
+      copied_by (swap seen t.c) seen v w t.l.holding t.l.grew t.told (ap (λ b. cond b (Some (acts.Copy (origins.Hand k) (next_hand v.number v.seen))) None) hit) (ap (λ b. cond b v.working v.working) hit)
 
   -- what the hand was
   stood : IsStrongOf v0 k s o0.class
@@ -369,12 +409,28 @@ module _ (shape : HeapShape) (k s : ℕ) (v0 : View) (sized : IsSized shape) (lt
         ap (λ (u : View). u.working) t.told.after ∙ (ap (λ b. cond b v.working v.working) miss ∙ t.l.holding.working),
       )
 
+  is_mortal : (x : ℕ) (w : View) → Looked x w → IsMortal shape v0 k s
+  is_mortal x w l class strong = ap (λ c. (class_at shape c).immortal) (strong_one v0 k s s class o0.class strong stood).1 ∙ l.mortal
+
+  -- what is looked at once only
+  dies : (x : ℕ) (u w : View) → Looked x u → IsLookOfImmortal shape k s v0 w
+  dies x u w l class strong lasts = absurd (true≢false (sym lasts ∙ is_mortal x u l class strong))
+
+  pub look_of_immortal : (a : StrongUpAnswer) (w : View) → Outcome a w → IsLookOfImmortal shape k s v0 w
+  look_of_immortal ups.Up w (inl (seen, t)) = dies seen t.v w t.l
+  look_of_immortal ups.Up w (inr l) = λ class strong is. (l.mark, l.trail, l.step, l.found)
+  look_of_immortal ups.Dead w none = absurd (none)
+  look_of_immortal ups.AtCap w (x, c, l, word, lives, full) = dies x w w l
+  look_of_immortal (ups.Slow e) w (x, l, entry, within) = dies x w w l
+  look_of_immortal (ups.Again c) w (t, differ) = dies c.seen t.v w t.l
+
   -- what each answer tells
   pub raised_inline : (a : StrongUpAnswer) (w : View) → Outcome a w → IsRaisedInline shape k s v0 w a × GoesOn shape (inline_up_act k v0 a) (up_steps a) v0 w
-  raised_inline ups.Up w (seen, t) = let c = has_copied seen w t in (stands_as v0 w k (next_hand v0.number v0.seen) s o0.class stood c.strong, record { called = c.called; working = c.working; alone = c.alone })
+  raised_inline ups.Up w (inl (seen, t)) = let c = has_copied seen w t in (stands_as v0 w k (next_hand v0.number v0.seen) s o0.class stood c.strong, record { called = c.called; working = c.working; alone = c.alone })
+  raised_inline ups.Up w (inr l) = let c = l.copied in (stands_as v0 w k (next_hand v0.number v0.seen) s o0.class stood c.strong, record { called = c.called; working = c.working; alone = c.alone })
   raised_inline ups.Dead w none = absurd (none)
   raised_inline ups.AtCap w (x, c, l, word, lives, full) = (look_capped x c w l word lives full, record { called = look_called x w l; working = l.holding.working; alone = l.alone })
-  raised_inline (ups.Slow e) w (x, l, entry, within) = ((look_stands x w l, look_has x e w l entry, within), record { called = look_called x w l; working = l.holding.working; alone = l.alone })
+  raised_inline (ups.Slow e) w (x, l, entry, within) = ((look_stands x w l, look_has x e w l entry, within, is_mortal x w l), record { called = look_called x w l; working = l.holding.working; alone = l.alone })
   raised_inline (ups.Again c) w (t, differ) =
       let missed = has_missed c w t differ in
       (read_twice c w t differ, record { called = missed.0; working = missed.1; alone = told_alone shape copy (swap c.seen t.c) t.v c.found w t.told })
@@ -386,5 +442,7 @@ may_raise shape k s v sized (lt, (class, (i, o, hand, here, slot, is))) free = m
 
 pub has_raised : (shape : HeapShape) (k s : ℕ) (v : View) → IsSized shape → (s < shape.slots) × ((class : ℕ) × IsStrongOf v k s class) → v.working.owes ≡ None → (a : StrongUpAnswer) (w : View)
     → Ran strong_up_turned strong_up_answer shape (intents.Copy (origins.Hand k)) (record { layout = extent_of shape; slot = s; cap = shape.caps.strong; at = ats.Start }) None v a w
-    → IsRaisedInline shape k s v w a × GoesOn shape (inline_up_act k v a) (up_steps a) v w
-has_raised shape k s v sized (lt, (class, (i, o, hand, here, slot, is))) free a w ran = raised_inline shape k s v sized lt free i o hand here slot a w (has_upped shape k s v sized lt free i o hand here slot a w ran)
+    → IsRaisedInline shape k s v w a × GoesOn shape (inline_up_act k v a) (up_steps a) v w × IsLookOfImmortal shape k s v w
+has_raised shape k s v sized (lt, (class, (i, o, hand, here, slot, is))) free a w ran =
+    let out = has_upped shape k s v sized lt free i o hand here slot a w ran in
+    let told = raised_inline shape k s v sized lt free i o hand here slot a w out in (told.0, told.1, look_of_immortal shape k s v sized lt free i o hand here slot a w out)

@@ -17,15 +17,15 @@ use Rattle.arc_side.specs.declared.up.EntryUpAnswer.{EntryUpAnswer}
 use Rattle.arc_side.specs.declared.up.EntryUpAnswer.TheVariants as entry_ups
 use Rattle.arc_side.specs.declared.down.EntryDownAnswer.{EntryDownAnswer}
 use Rattle.arc_side.specs.declared.down.EntryDownAnswer.TheVariants as entry_downs
-use Rattle.arc_table.specs.Causes.{ReadTwice, Loaded, LoadedAtCap, HasEntry}
+use Rattle.arc_table.specs.Causes.{ReadTwice, Loaded, LoadedAtCap, HasEntry, IsMortal}
 use Rattle.arc_view_laws.specs.Having.{StandsAs}
 
--- the copy of hand k of an object in slot s by the inline word; a slow word names the object's entry
+-- The copy of hand k of an object in slot s by the inline word. A slow word names the object's entry, which no immortal object has.
 abbrev pub IsRaisedInline : HeapShape → ℕ → ℕ → View → View → StrongUpAnswer → Type 0
 IsRaisedInline shape k s v w inline_ups.Up = StandsAs v k w (next_hand v.number v.seen)
 IsRaisedInline shape k s v w inline_ups.Dead = ⊥
 IsRaisedInline shape k s v w inline_ups.AtCap = LoadedAtCap shape s v w
-IsRaisedInline shape k s v w (inline_ups.Slow e) = StandsAs v k w k × HasEntry w k e × (e < shape.entries)
+IsRaisedInline shape k s v w (inline_ups.Slow e) = StandsAs v k w k × HasEntry w k e × (e < shape.entries) × IsMortal shape v k s
 IsRaisedInline shape k s v w (inline_ups.Again c) = ReadTwice (number (extent_of shape) (places.Count s)) c v w
 
 -- its act, and how many steps it takes at most
@@ -57,8 +57,8 @@ entry_up_steps _ = 2
 -- the drop of hand k of an object in slot s by the inline word
 abbrev pub IsLoweredInline : HeapShape → ℕ → ℕ → View → View → StrongDownAnswer → Type 0
 IsLoweredInline shape k s v w inline_downs.More = ⊤
-IsLoweredInline shape k s v w inline_downs.Last = ⊤
-IsLoweredInline shape k s v w (inline_downs.Slow e) = StandsAs v k w k × HasEntry w k e × (e < shape.entries)
+IsLoweredInline shape k s v w inline_downs.Last = IsMortal shape v k s
+IsLoweredInline shape k s v w (inline_downs.Slow e) = StandsAs v k w k × HasEntry w k e × (e < shape.entries) × IsMortal shape v k s
 IsLoweredInline shape k s v w (inline_downs.Again c) = ReadTwice (number (extent_of shape) (places.Count s)) c v w
 
 abbrev pub inline_down_act : ℕ → StrongDownAnswer → Option Act

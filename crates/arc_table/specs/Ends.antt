@@ -1,8 +1,8 @@
 -- What ends an object: the tokens of its last duties, and what the calls answer.
-use Rattle.std.specs.Prelude.{ℕ, ◌≡◌, ◌<◌, true, false, [], Option, None, Some, slice_get, ⊤}
+use Rattle.std.specs.Prelude.{ℕ, ◌≡◌, ◌<◌, true, false, [], Option, None, Some, ⊤}
 use Rattle.arc_model.specs.declared.event.Act.{Act}
 use Rattle.arc_model.specs.declared.event.Act.TheVariants as acts
-use Rattle.arc_model.specs.Shapes.{HeapShape}
+use Rattle.arc_model.specs.Shapes.{HeapShape, class_at}
 use Rattle.arc_model.specs.Heaps.{Deinit, Vacating, Gone, Object}
 use Rattle.arc_model.specs.Holders.{is_slot_taken}
 use Rattle.arc_model.specs.Lookup.{duty_of}
@@ -27,15 +27,15 @@ use Rattle.arc_view_laws.specs.Having.{IsDyingOf, IsFreedOf}
 
 -- the class of the object in the slot, whose deinit the view owes, has no field
 abbrev pub HasNoField : HeapShape → View → ℕ → Type 0
-HasNoField shape v s = (class : ℕ) → IsDyingOf v s class → slice_get shape.classes class ≡ Some []
+HasNoField shape v s = (class : ℕ) → IsDyingOf v s class → (class_at shape class).fields ≡ []
 
 -- the view owes the deinit of the object in the slot, which has no field
 abbrev pub IsBareDying : HeapShape → View → ℕ → Type 0
-IsBareDying shape v s = (i : ℕ) × (o : Object) × At (heap_of v) i o × HasDuty v Deinit i × (o.slot ≡ Some s) × (slice_get shape.classes o.class ≡ Some [])
+IsBareDying shape v s = (i : ℕ) × (o : Object) × At (heap_of v) i o × HasDuty v Deinit i × (o.slot ≡ Some s) × ((class_at shape o.class).fields ≡ [])
 
 -- and has this entry
 abbrev pub IsBareDyingWith : HeapShape → View → ℕ → ℕ → Type 0
-IsBareDyingWith shape v s e = (i : ℕ) × (o : Object) × At (heap_of v) i o × HasDuty v Deinit i × (o.slot ≡ Some s) × (slice_get shape.classes o.class ≡ Some []) × (o.entry ≡ Some e)
+IsBareDyingWith shape v s e = (i : ℕ) × (o : Object) × At (heap_of v) i o × HasDuty v Deinit i × (o.slot ≡ Some s) × ((class_at shape o.class).fields ≡ []) × (o.entry ≡ Some e)
 
 -- the view owes the deinit of the object in the slot, which has the entry
 abbrev pub IsDyingWith : View → ℕ → ℕ → Type 0

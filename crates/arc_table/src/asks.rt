@@ -1,5 +1,5 @@
 //! What a step is made for, which proofs alone see.
-ghost use Rattle.arc_rule.specs.declared.step.Step.TheVariants.{Load, Exchange, Store};
+ghost use Rattle.arc_rule.specs.declared.step.Step.TheVariants.{Load, Exchange, Store, Or, And};
 ghost use Rattle.arc_rule.specs.declared.step.Intent.TheVariants.{Look};
 ghost use Rattle.arc_view.specs.Steps.{Tells};
 
@@ -47,4 +47,22 @@ pub struct Storing<J: Asks> {
 
 impl<S, J: Asks> Play<S, View> for Storing<J> {
     ghost then = { λ s me found after. Tells J.shape J.intent (Store s.word s.first) me found after };
+}
+
+/// An Or sets bits.
+pub struct Setting<J: Asks> {
+    of: PhantomData<J>,
+}
+
+impl<S, J: Asks> Play<S, View> for Setting<J> {
+    ghost then = { λ s me found after. Tells J.shape J.intent (Or s.word s.first) me found after };
+}
+
+/// An And clears bits.
+pub struct Clearing<J: Asks> {
+    of: PhantomData<J>,
+}
+
+impl<S, J: Asks> Play<S, View> for Clearing<J> {
+    ghost then = { λ s me found after. Tells J.shape J.intent (And s.word s.first) me found after };
 }

@@ -1,11 +1,8 @@
 //! The end of a heap.
 ghost use Rattle.std.specs.Prelude.{◌≡◌};
-ghost use Rattle.arc_model.specs.History.{heap_after, IsLegal};
-ghost use Rattle.arc_rule.specs.Shown.{Shows};
 ghost use Rattle.arc_view.specs.Passes.{IsFirst, IsWhole, HoldsNothing};
-ghost use Rattle.arc_view.specs.Rule.{InShape};
 ghost use Rattle.arc_table.specs.Seats.{heap_id, shape_of, pass_id, view_of};
-ghost use Rattle.arc_table.specs.Ending.{last_seen, IsAllQuiet};
+ghost use Rattle.arc_table.specs.Ending.{last_seen, IsClosed};
 
 use crate::heap::{Heap, Part, Pass};
 use arc_model::Shape;
@@ -36,12 +33,9 @@ impl Heap {
         requires first { IsFirst (view_of pass) }
         requires whole { IsWhole (view_of pass) }
         requires nothing { HoldsNothing (view_of pass) }
-        ensures pass { last_seen result ≡ (view_of pass).seen }
-        ensures legal { IsLegal (shape_of self) (last_seen result) }
-        ensures in_shape { InShape (shape_of self) (last_seen result) }
-        ensures words { Shows (shape_of self) (heap_after (last_seen result)) result.words.items }
+        ensures history { last_seen result ≡ (view_of pass).seen }
         ensures shape { result.shape ≡ shape_of self }
-        ensures quiet { IsAllQuiet (heap_after (last_seen result)) }
+        ensures closed { IsClosed (shape_of self) result }
     {
         let Pass {
             part,

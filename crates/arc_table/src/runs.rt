@@ -24,6 +24,8 @@ impl Heap {
                 self.store_as::<J>(part, place, new);
                 0
             }
+            Step::Or { place, bits } => self.or_as::<J>(part, place, bits),
+            Step::And { place, bits } => self.and_as::<J>(part, place, bits),
         }
     }
 

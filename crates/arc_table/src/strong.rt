@@ -5,7 +5,7 @@ ghost use Rattle.arc_rule.specs.declared.step.Intent.TheVariants.{Copy as copy_i
 ghost use Rattle.arc_view.specs.Admission.{OwesNoName};
 ghost use Rattle.arc_table.specs.Attempts.{IsRaisedInline, inline_up_act, up_steps, IsRaisedInEntry, entry_up_act, entry_up_steps, IsLoweredInline, inline_down_act, down_steps, IsLoweredInEntry, entry_down_act};
 ghost use Rattle.arc_table.specs.Calls.{IsFree, IsCall};
-ghost use Rattle.arc_table.specs.Causes.{HasEntry};
+ghost use Rattle.arc_table.specs.Causes.{HasEntry, IsLookOfImmortal};
 ghost use Rattle.arc_table.specs.Possessions.{StillHas};
 ghost use Rattle.arc_table.specs.Runs.{Walked};
 ghost use Rattle.arc_table.specs.Seats.{heap_id, shape_of, part_id, part_view, pass_id, view_of};
@@ -48,6 +48,7 @@ impl Heap {
         ensures called { IsCall (shape_of self.now) (inline_up_act (hand_of of.now) (part_view part.old) result) (up_steps result) part.old part.new }
         ensures walked { Walked (part_view part.old) (part_view part.new) }
         ensures raised { IsRaisedInline (shape_of self.now) (hand_of of.now) of.now.slot (part_view part.old) (part_view part.new) result }
+        ensures immortal { IsLookOfImmortal (shape_of self.now) (hand_of of.now) of.now.slot (part_view part.old) (part_view part.new) }
     {
         let plan = StrongUp::start(&self.layout, of.slot, self.shape.caps().strong());
         self.run_as::<J, StrongUp>(part, plan)
@@ -75,6 +76,7 @@ impl Heap {
         requires free { OwesNoName (part_view part.old) }
         ensures called { IsCall (shape_of self.now) (raised_act (hand_of of.now) (part_view part.old) result) 3 part.old part.new }
         ensures raised { IsRaised (shape_of self.now) (hand_of of.now) of.now.slot (part_view part.old) (part_view part.new) result }
+        ensures immortal { IsLookOfImmortal (shape_of self.now) (hand_of of.now) of.now.slot (part_view part.old) (part_view part.new) }
     {
         match self.raise_inline::<J>(part, of) {
             StrongUpAnswer::Up => Raised::Up,
@@ -93,12 +95,14 @@ impl Heap {
     /// One more strong reference to an object of which the pass has one. At most three steps; it takes no memory and waits for nobody.
     /// `AtCap` where the inline word that was read counts as many strong references as it can, `CountFull` where the object's entry does,
     /// `Again` where the count has changed between two reads of this call: then the pass has what it had. RefCount.h (increment).
+    /// Of an object of an immortal class it is one load, which shows that word, and no word changes.
     pub fn retain(&self, pass: &mut Pass, of: &Strong) -> Up<Strong>
         requires own { pass_id pass.old ≡ heap_id self.now }
         requires held { IsHeld (shape_of self.now) (view_of pass.old) of.now }
         requires free { OwesNoName (view_of pass.old) }
         ensures called { IsCall (shape_of self.now) (up_act of.now result) 3 pass.old.part pass.new.part }
         ensures up { IsUp (shape_of self.now) of.now (view_of pass.old) (view_of pass.new) result }
+        ensures immortal { IsLookOfImmortal (shape_of self.now) (hand_of of.now) of.now.slot (view_of pass.old) (view_of pass.new) }
         ensures has { StillHas (up_act of.now result) (view_of pass.old) (view_of pass.new) }
     {
         match self.raise::<Brand>(&mut pass.part, of) {
@@ -121,6 +125,7 @@ impl Heap {
         ensures called { IsCall (shape_of self.now) (inline_down_act (hand_of held.now) result) (down_steps result) part.old part.new }
         ensures walked { Walked (part_view part.old) (part_view part.new) }
         ensures lowered { IsLoweredInline (shape_of self.now) (hand_of held.now) held.now.slot (part_view part.old) (part_view part.new) result }
+        ensures immortal { IsLookOfImmortal (shape_of self.now) (hand_of held.now) held.now.slot (part_view part.old) (part_view part.new) }
     {
         let plan = StrongDown::start(&self.layout, held.slot);
         self.run_as::<J, StrongDown>(part, plan)
@@ -148,6 +153,7 @@ impl Heap {
         requires free { IsFree (part_view part.old) }
         ensures called { IsCall (shape_of self.now) (lowered_act (hand_of held.now) result) 3 part.old part.new }
         ensures lowered { IsLowered (shape_of self.now) (hand_of held.now) held.now.slot (part_view part.old) (part_view part.new) result }
+        ensures immortal { IsLookOfImmortal (shape_of self.now) (hand_of held.now) held.now.slot (part_view part.old) (part_view part.new) }
     {
         match self.lower_inline::<J>(part, held) {
             StrongDownAnswer::More => Lowered::More,
@@ -163,13 +169,15 @@ impl Heap {
 
     /// A strong reference is given up. Where it was the last one the object is deiniting from the very step that takes the count down, and
     /// the pass owes its deinit. At most three steps; it takes no memory and waits for nobody. `Again` where the count has changed between two
-    /// reads of this call: then nothing was given up. RefCount.h (doDecrement).
+    /// reads of this call: then nothing was given up. RefCount.h (doDecrement). Of an object of an immortal class it is one load, which
+    /// shows that word; no word changes, and it is never the last one.
     pub fn release(&self, pass: &mut Pass, held: Strong) -> Release
         requires own { pass_id pass.old ≡ heap_id self.now }
         requires held { IsHeld (shape_of self.now) (view_of pass.old) held }
         requires free { IsFree (view_of pass.old) }
         ensures called { IsCall (shape_of self.now) (release_act held result) 3 pass.old.part pass.new.part }
         ensures released { IsReleased (shape_of self.now) held (view_of pass.old) (view_of pass.new) result }
+        ensures immortal { IsLookOfImmortal (shape_of self.now) (hand_of held) held.slot (view_of pass.old) (view_of pass.new) }
         ensures has { StillHas (release_act held result) (view_of pass.old) (view_of pass.new) }
     {
         match self.lower::<Brand>(&mut pass.part, &held) {

@@ -1,9 +1,13 @@
-ghost use Rattle.std.specs.Prelude.{◌≡◌, ◌+◌, ◌<◌, ◌≤◌, [], ◌∷◌, length, IfSome};
+//! Tests of the shared heap's calls, on one thread.
+
+ghost use Rattle.std.specs.Prelude.{◌≡◌, ◌+◌, ◌<◌, ◌≤◌, false, [], ◌∷◌, length, IfSome};
 ghost use Rattle.arc_model.specs.declared.shape.Kind.TheVariants.{Strong as strong_kind};
 ghost use Rattle.arc_view.specs.Admission.{OwesNoName};
 ghost use Rattle.arc_view.specs.Rule.{news};
 ghost use Rattle.arc_view.specs.Views.{first_view};
+ghost use Rattle.arc_table.specs.Calls.{IsFree};
 ghost use Rattle.arc_table.specs.Seats.{heap_id, shape_of, pass_id, view_of};
+ghost use Rattle.arc_table.specs.Tokens.{IsHeld};
 ghost use Rattle.arc_table.specs.declared.tokens.Made.TheVariants as created;
 ghost use Rattle.arc_table.specs.declared.tokens.Up.TheVariants as ups;
 ghost use Rattle.arc_table.specs.declared.tokens.Any.TheVariants as anys;
@@ -40,12 +44,13 @@ fn passes_meet(rt: HostRuntime) {
 
 /// Two slots, one entry, and one class without fields.
 fn classed_heap(alloc: Global) -> Option<(Heap, Pass)>
-    ensures { IfSome result (λ r. (pass_id r.1 ≡ heap_id r.0) × (view_of r.1 ≡ first_view) × ((shape_of r.0).classes ≡ [] ∷ [])) }
+    ensures { IfSome result (λ r. (pass_id r.1 ≡ heap_id r.0) × (view_of r.1 ≡ first_view) × ((shape_of r.0).classes ≡ record { fields = []; immortal = false } ∷ [])) }
 {
     let caps = Caps::new(5, 6, 7).ok()?;
     let mut classes = Vec::new(alloc);
     let class = ClassShape {
         fields: Vec::new(alloc),
+        immortal: false,
     };
     classes.push(class).ok()?;
     let shape = Shape::new(2, 1, caps, classes, Vec::new(alloc)).ok()?;
@@ -68,6 +73,7 @@ fn fill(heap: &Heap, pass: &mut Pass) -> Option<u32>
             Some(slot)
         }
         Made::NoSlot => None,
+        Made::Again(_) => None,
     }
 }
 
@@ -77,7 +83,7 @@ fn made(answer: Made) -> Option<Strong>
 {
     match answer {
         Made::Ok(token) => Some(token),
-        Made::NoSlot => None,
+        Made::NoSlot | Made::Again(_) => None,
     }
 }
 
@@ -116,14 +122,15 @@ fn object_dies(rt: HostRuntime) {
     assert_eq!(rt; was_last(heap.release(&mut first, token)), Some(true));
 }
 
-/// A heap of which a pass was split off is closed once the first pass took it in: its words, one and eleven a slot, four an entry, are all 0.
+/// A heap of which a pass was split off is closed once the first pass took it in: its words, one and eleven a slot, four an entry, and
+/// one of the bits of each, are all 0.
 #[test]
 fn heap_closes_after_a_join(rt: HostRuntime) {
     let (heap, mut first) = small_heap(rt.alloc()).expect(&rt, "a heap");
     let second = heap.split(&mut first);
     heap.join(&mut first, second);
     let closed = heap.close(first);
-    assert_eq!(rt; closed.words.as_slice(), [0u64; 27].as_slice());
+    assert_eq!(rt; closed.words.as_slice(), [0u64; 29].as_slice());
     assert_eq!(rt; closed.shape.slots(), 2);
 }
 
@@ -135,6 +142,7 @@ fn heap_with_global(alloc: Global) -> Option<(Heap, Pass)>
     let mut classes = Vec::new(alloc);
     let class = ClassShape {
         fields: Vec::new(alloc),
+        immortal: false,
     };
     classes.push(class).ok()?;
     let mut globals = Vec::new(alloc);
@@ -232,4 +240,106 @@ fn slot_is_free_again(rt: HostRuntime) {
     let freed = freed(heap.finish(&mut first, dying)).expect(&rt, "no unowned reference");
     assert!(rt; heap.vacate(&mut first, freed).is_none());
     assert_eq!(rt; fill(&heap, &mut first), Some(0));
+}
+
+/// A reference to a new object, where the pass may make one.
+fn made_in(heap: &Heap, pass: &mut Pass) -> Option<Strong>
+    requires own { pass_id pass.old ≡ heap_id heap.now }
+    requires class { length (shape_of heap.now).classes ≡ 1 }
+    requires free { OwesNoName (view_of pass.old) }
+    ensures same { pass_id pass.new ≡ pass_id pass.old }
+    ensures working { (view_of pass.new).working ≡ (view_of pass.old).working }
+    ensures held { IfSome result (λ t. IsHeld (shape_of heap.now) (view_of pass.new) t) }
+{
+    if pass.objects_made() >= 100_000 {
+        return None;
+    }
+    match heap.new_object(pass, 0) {
+        Made::Ok(token) => Some(token),
+        Made::NoSlot => None,
+        Made::Again(_) => None,
+    }
+}
+
+/// Whether a new object finds no slot.
+fn is_full(heap: &Heap, pass: &mut Pass) -> bool
+    requires own { pass_id pass.old ≡ heap_id heap.now }
+    requires class { length (shape_of heap.now).classes ≡ 1 }
+    requires free { OwesNoName (view_of pass.old) }
+{
+    if pass.objects_made() >= 100_000 {
+        return false;
+    }
+    match heap.new_object(pass, 0) {
+        Made::Ok(token) => {
+            let Strong { slot: _, at: _ } = token;
+            false
+        }
+        Made::NoSlot => true,
+        Made::Again(_) => false,
+    }
+}
+
+/// A reference is copied, and both are given up: which of the two releases was the last one's.
+fn copied_and_dropped(heap: &Heap, pass: &mut Pass, token: Strong) -> Option<(bool, bool)>
+    requires own { pass_id pass.old ≡ heap_id heap.now }
+    requires held { IsHeld (shape_of heap.now) (view_of pass.old) token }
+    requires free { IsFree (view_of pass.old) }
+    ensures same { pass_id pass.new ≡ pass_id pass.old }
+    ensures working { (view_of pass.new).working ≡ (view_of pass.old).working }
+{
+    match heap.retain(pass, &token) {
+        Up::Ok(copy) => {
+            let one = was_last(heap.release(pass, copy));
+            let two = was_last(heap.release(pass, token));
+            Some((one?, two?))
+        }
+        Up::Again(_) | Up::AtCap | Up::CountFull => {
+            let Strong { slot: _, at: _ } = token;
+            None
+        }
+    }
+}
+
+/// With ample memory a heap is made. Two passes make an object each, and give up what they have of it; until it ends its slot is taken.
+#[test]
+fn two_passes_fill_two_slots(rt: HostRuntime) {
+    let (heap, mut first) = classed_heap(rt.alloc()).expect(&rt, "a heap");
+    let mut second = heap.split(&mut first);
+    let one = made_in(&heap, &mut first);
+    let token = one.expect(&rt, "an object");
+    let two = made_in(&heap, &mut second);
+    let other = two.expect(&rt, "an object");
+    let ends = copied_and_dropped(&heap, &mut first, token);
+    assert_eq!(rt; ends, Some((false, true)));
+    let others = copied_and_dropped(&heap, &mut second, other);
+    assert_eq!(rt; others, Some((false, true)));
+    assert!(rt; is_full(&heap, &mut first));
+    assert!(rt; is_full(&heap, &mut second));
+}
+
+/// One slot, one entry, and one class without fields, which is immortal.
+fn immortal_heap(alloc: Global) -> Option<(Heap, Pass)>
+    ensures { IfSome result (λ r. (pass_id r.1 ≡ heap_id r.0) × (view_of r.1 ≡ first_view) × (length (shape_of r.0).classes ≡ 1)) }
+{
+    let caps = Caps::new(5, 6, 7).ok()?;
+    let mut classes = Vec::new(alloc);
+    let class = ClassShape {
+        fields: Vec::new(alloc),
+        immortal: true,
+    };
+    classes.push(class).ok()?;
+    let shape = Shape::new(1, 1, caps, classes, Vec::new(alloc)).ok()?;
+    Heap::make(alloc, shape).ok()
+}
+
+/// With ample memory a heap is made. No release of an object of an immortal class is the last, and its slot stays taken.
+#[test]
+fn immortal_object_stays(rt: HostRuntime) {
+    let (heap, mut first) = immortal_heap(rt.alloc()).expect(&rt, "a heap");
+    let one = made_in(&heap, &mut first);
+    let token = one.expect(&rt, "an object");
+    let ends = copied_and_dropped(&heap, &mut first, token);
+    assert_eq!(rt; ends, Some((false, false)));
+    assert!(rt; is_full(&heap, &mut first));
 }

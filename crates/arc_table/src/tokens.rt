@@ -27,6 +27,8 @@ pub enum Made {
     Ok(Strong),
     /// Each slot was found taken in this call.
     NoSlot,
+    /// A word read in this call showed a slot free, and then the slot was found taken: the two words.
+    Again(Changed),
 }
 
 /// What one more reference comes to, of the kind `T`.

@@ -1,3 +1,5 @@
+//! The lines of a text.
+
 ghost use Rattle.std.specs.Prelude.{◌≡◌, [], ◌∷◌, ◌<◌, length, position, MatchOption};
 ghost use Rattle.std.specs.List.{after_first};
 ghost use Rattle.std.specs.Iterator.{YieldsFirstRef, item_count};

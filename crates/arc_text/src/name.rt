@@ -1,3 +1,5 @@
+//! A name: a letter, and at most 31 letters, digits and underscores behind it.
+
 ghost use Rattle.std.specs.Prelude.{◌≡◌, ◌↔◌, IsTrue, IsSome, IfSome, IfOk};
 ghost use Rattle.arc_text.specs.Words.{is_name};
 

@@ -1,6 +1,6 @@
 -- What a kind of step owes, with no seat in it, and the law that such a step keeps the rule.
-use Rattle.std.proofs.Common.{◌≡◌, ◌≢◌, ◌⊎◌, inl, inr, ⊎_elim, ℕ, zero, suc, ◌<◌, Bool, true, false, cond, List, [], ◌∷◌, ◌++◌, length, get_or, set, Option, Some, None, refl, sym, ap, ◌∙◌, subst, arith, le_refl, get_or-set_other, eq-eqb}
-use Rattle.std.specs.Prelude.{slice_get, slice_index, find, is_some, ⊤}
+use Rattle.std.proofs.Common.{◌≡◌, ◌≢◌, ◌⊎◌, inl, inr, ⊎_elim, ℕ, zero, suc, ◌/◌, ◌<◌, true, false, cond, List, [], ◌∷◌, ◌++◌, length, get_or, set, Option, Some, None, refl, sym, ap, ◌∙◌, subst, arith, le_refl, get_or-set_other}
+use Rattle.std.specs.Prelude.{slice_index, ⊤}
 use Rattle.std.proofs.lemmas.List.{set-get_or}
 use mathlib.Core.Logic.{dite}
 use mathlib.Core.Option.{some, some-injective, some-ne-none}
@@ -10,11 +10,12 @@ use Rattle.atomic_table.specs.Table.{State, stepped, keeps}
 use Rattle.atomic_table.proofs.Lists.{at_set, set_here, set_else}
 use Rattle.arc_model.specs.declared.event.Act.{Act}
 use Rattle.arc_model.specs.declared.event.CellName.{CellName}
+use Rattle.arc_model.specs.declared.event.Event.{Event}
 use Rattle.arc_model.specs.declared.event.CellName.TheVariants as cells
-use Rattle.arc_model.specs.Shapes.{HeapShape}
+use Rattle.arc_model.specs.Shapes.{HeapShape, class_at}
 use Rattle.arc_model.specs.declared.shape.Kind.TheVariants.{Strong}
 use Rattle.arc_model.specs.Heaps.{Hand, Object, Heap}
-use Rattle.arc_model.specs.Holders.{is_empty, is_number, in_slot, is_slot_taken, is_entry_taken}
+use Rattle.arc_model.specs.Holders.{is_empty, at_slot, in_slot, is_slot_taken, is_entry_taken}
 use Rattle.arc_model.specs.Cells.{cell}
 use Rattle.arc_model.specs.Others.{IsQuiet}
 use Rattle.arc_model.specs.History.{History, heap_after, share, IsLegal}
@@ -23,24 +24,26 @@ use Rattle.arc_model.proofs.Basics.{None≢Some, Some-inj, true≢false, in-not_
 use Rattle.arc_model.proofs.Others.{others_leave}
 use Rattle.arc_rule.specs.declared.step.Step.{Step}
 use Rattle.arc_rule.specs.declared.layout.Place.{Place}
-use Rattle.arc_rule.specs.declared.layout.Place.TheVariants.{Count, Link}
+use Rattle.arc_rule.specs.declared.layout.Place.TheVariants.{Count, SlotBits, EntryBits}
 use Rattle.arc_rule.specs.Places.{IsPlace, extent_of, number}
-use Rattle.arc_rule.specs.Shown.{Says, ShowsBut}
+use Rattle.arc_rule.specs.Bits.{is_set}
+use Rattle.arc_rule.specs.Shown.{Says, ShowsBut, word_at}
 use Rattle.arc_rule.specs.Steps.{place_of}
 use Rattle.arc_view.specs.declared.view.Role.TheVariants.{Pass}
 use Rattle.arc_view.specs.declared.view.Stored.{Stored}
 use Rattle.arc_view.specs.declared.view.Begun.{Begun}
 use Rattle.arc_view.specs.declared.view.Working.{Working}
 use Rattle.arc_view.specs.declared.view.View.{View}
-use Rattle.arc_view.specs.Views.{StartsWith, Each, within, made_in, cell_place, private_words, Excepts}
+use Rattle.arc_view.specs.Views.{StartsWith, Each, within, made_in, cell_place, private_words, first_word, Excepts}
 use Rattle.arc_view.specs.Holding.{At, CanReach, Owns}
-use Rattle.arc_view.specs.Rule.{MarkFits, IsMine, WorkFits, Fits, Lies, AccessFits, Lying, Excepted, InShape, AccessApart, IsKept}
+use Rattle.arc_view.specs.Rule.{MarkFits, IsMine, WorkFits, Fits, Lies, AccessFits, Lying, IsFirst, Excepted, InShape, IsNew, AccessApart, IsKept}
 use Rattle.arc_view.specs.Kinds.{event_list}
 use Rattle.arc_view.specs.Steps.{moved}
 use Rattle.arc_view.proofs.Lists.{each_more, starts_self, share_more, others_came, share_of_other}
-use Rattle.arc_view.proofs.Words.{shows_to}
-use Rattle.arc_view.proofs.Held.{hand_listed}
-use Rattle.arc_view.proofs.Keeps.{mark_more, fits_carry, owner_stays, reach_stays, stays_more}
+use Rattle.arc_view.proofs.Words.{number_same, shows_to, word_changes, word_set, slot_found}
+pub use Rattle.arc_view.proofs.Words.{found_some, slot_is}
+use Rattle.arc_view.proofs.Held.{hand_listed, stays_after, new_stays}
+use Rattle.arc_view.proofs.Keeps.{legal_left, mark_more, fits_carry, owner_stays, reach_stays, stays_more}
 
 -- the owner of the cell is in its slot and live: no other object's field is reached
 abbrev pub IsThere : Heap → CellName → Type 0
@@ -115,18 +118,6 @@ excepted_again views id v w at pl = ⊎_elim
     (λ e. (id, w, set_here views id w (at_below views id v at), e))
     (λ o. (o.0, o.1, set_else views id o.0 w o.2 ∙ o.3, o.4))
 
-pub found_some : (test : Object → Bool) (os : List Object) (i : ℕ) (o : Object) → slice_get os i ≡ Some o → test o ≡ true → is_some (find test os) ≡ true
-found_some test [] i o at passes = absurd (None≢Some o at)
-found_some test (r ∷ os) zero o at passes = ap (λ b. is_some (cond b (Some r) (find test os))) (ap test (Some-inj at) ∙ passes)
-found_some test (r ∷ os) (suc i) o at passes = go (test r) (found_some test os i o at passes)
-  where
-    go : (b : Bool) → is_some (find test os) ≡ true → is_some (cond b (Some r) (find test os)) ≡ true
-    go true ih = refl
-    go false ih = ih
-
-pub slot_is : (m : Option ℕ) (s : ℕ) → m ≡ Some s → is_number m s ≡ true
-slot_is m s e = ap (λ n. is_number n s) e ∙ eq-eqb s s refl
-
 pub reach_there : (shape : HeapShape) (h : History) (p : ℕ) (c : CellName) → IsLegal shape h → CanReach shape (heap_after h) p c → IsThere (heap_after h) c
 reach_there shape h p (cells.Global g) legal r = tt
 reach_there shape h p (cells.Field s f) legal (k, i, o, at, here, slot, has) = (i, o, here, slot, in-not_empty (Hand p k) o.strong (hand_listed shape h p k i Strong o legal at here))
@@ -179,8 +170,12 @@ access_stays shape h seen words p i y act a Own since inside there other (inr ca
 
 -- what a mark of a step shows where it met the history h
 pub record Sees (shape : HeapShape) (h : History) (st : Step) (found : ℕ) : Type 0 where
-  pub slot : (s : ℕ) → s < shape.slots → place_of st ≡ number (extent_of shape) (Count s) → found ≢ 0 → is_slot_taken s (heap_after h) ≡ true
-  pub entry : (e : ℕ) → e < shape.entries → place_of st ≡ number (extent_of shape) (Link e) → found ≢ 0 → is_entry_taken e (heap_after h) ≡ true
+  pub slot : (s : ℕ) → s < shape.slots → place_of st ≡ number (extent_of shape) (SlotBits (s / 64)) → is_set s found ≡ true → is_slot_taken s (heap_after h) ≡ true
+  pub entry : (e : ℕ) → e < shape.entries → place_of st ≡ number (extent_of shape) (EntryBits (e / 64)) → is_set e found ≡ true → is_entry_taken e (heap_after h) ≡ true
+
+-- a step at an inline word is at one that no other pass has still to store
+abbrev pub Settled : HeapShape → History → View → Step → Type 0
+Settled shape h v st = (s : ℕ) → s < shape.slots → place_of st ≡ number (extent_of shape) (Count s) → (q : ℕ) → IsNew (heap_after h) q s → q ≡ v.number
 
 -- the view of the pass that steps
 moved_fits : (shape : HeapShape) (h more : History) (splits : ℕ) (taken : List ℕ) (v : View) (st : Step) (found : ℕ) (work : Working) → v.role ≡ Pass → Sees shape h st found → WorkFits shape v.number (more ++ h) work
@@ -208,11 +203,107 @@ moved_fits shape h more splits taken v st found work pass sees work_fits f =
       working = inl pass;
     }
 
+-- two passes don't have one unshared object
+pub new_once : (shape : HeapShape) (h : History) (p q s : ℕ) → IsLegal shape h → IsNew (heap_after h) p s → IsNew (heap_after h) q s → p ≡ q
+new_once shape h p q s legal (i, o, k, at, slot, u) (j, r, m, bt, tlot, w) =
+    let same : o ≡ r = Some-inj (sym (slot_found shape h i s o legal at slot) ∙ slot_found shape h j s r legal bt tlot) in
+    one_hand (sym u.strong ∙ (ap (λ (x : Object). x.strong) same ∙ w.strong))
+  where
+    one_hand : Hand p k ∷ [] ≡ Hand q m ∷ [] → p ≡ q
+    one_hand e = cc
+
+-- no private word lies at an inline word
+inline_shared : (shape : HeapShape) (heap : Heap) (p s : ℕ) → s < shape.slots → (pl : Place) → IsPlace (extent_of shape) pl → number (extent_of shape) pl ≡ number (extent_of shape) (Count s) → Owns heap p pl → ⊥
+inline_shared shape heap p s lt pl inside is owned = subst (λ (q : Place). Owns heap p q) (number_same (extent_of shape) pl (Count s) inside lt is) owned
+
+-- nor is it that of a cell
+inline_no_cell : (shape : HeapShape) (c : CellName) (s : ℕ) → IsPlace (extent_of shape) (cell_place c) → s < shape.slots → number (extent_of shape) (cell_place c) ≡ number (extent_of shape) (Count s) → ⊥
+inline_no_cell shape c s inside lt is = apart c (number_same (extent_of shape) (cell_place c) (Count s) inside lt is)
+  where
+    apart : (c : CellName) → cell_place c ≡ Count s → ⊥
+    apart (cells.Field t f) e = cc
+    apart (cells.Global g) e = cc
+
+-- an object that pass q alone holds, in slot s, after an act of p
+record NewAfter (shape : HeapShape) (h new : History) (s : ℕ) : Type 0 where
+  was : Object
+  old : at_slot s (heap_after h) ≡ Some was
+  is : Object
+  found : at_slot s (heap_after new) ≡ Some is
+  class : is.class ≡ was.class
+
+new_after : (shape : HeapShape) (h : History) (p q s : ℕ) (act : Option Act) → IsLegal shape (event_list p act ++ h) → IsNew (heap_after h) q s → NewAfter shape h (event_list p act ++ h) s
+new_after shape h p q s None legal (i, o, k, at, slot, u) = let found = slot_found shape h i s o legal at slot in record { was = o; old = found; is = o; found = found; class = refl }
+new_after shape h p q s (Some a) legal (i, o, k, at, slot, u) =
+    let event : Event = record { thread = p; act = a } in
+    let stays = stays_after shape event h legal i o at in record {
+      was = o;
+      old = slot_found shape h i s o legal.1 at slot;
+      is = stays.q;
+      found = slot_found shape (event ∷ h) i s stays.q legal stays.here (stays.slot (inl (ap is_empty u.strong)) ∙ slot);
+      class = stays.class;
+    }
+
+pub first_same : (shape : HeapShape) (o q : Object) → q.class ≡ o.class → first_word shape q ≡ first_word shape o
+first_same shape o q class = ap (λ c. cond (class_at shape c).immortal 1 2) class
+
+-- What another pass has still to store as the inline word of its new object stays what the heap says, where the step is at another word.
+naming_stays : (shape : HeapShape) (h : History) (v : View) (i x y : ℕ) (act : Option Act) (work : Working) (Others : Place → Type 0) (ws : List ℕ) (q s : ℕ) → Good shape v h i x y act work
+    → s < shape.slots → (q ≡ v.number → ⊥) → IsNew (heap_after h) q s → IsNew (heap_after (event_list v.number act ++ h)) q s → (number (extent_of shape) (Count s) ≡ i → ⊥)
+    → Each (IsMine shape (heap_after h) v.number) (private_words v.working) → ((a : Begun) → v.working.access ≡ Some a → IsPlace (extent_of shape) (cell_place a.cell))
+    → ShowsBut (λ pl. Excepts v.working pl ⊎ Others pl) shape (heap_after h) ws → Lying shape h v.seen ws v.working → x ≡ slice_index ws i
+    → IsFirst shape (heap_after h) s → IsFirst shape (heap_after (event_list v.number act ++ h)) s
+naming_stays shape h v i x y act work Others ws q s g lt apart new later ne mine inside shown lie found first = (
+  n.is,
+  n.found,
+  subst (Says shape (heap_after (event_list v.number act ++ h)) (Count s)) here (after.says (Count s) lt not_excepted),
+)
+  where
+    c : ℕ
+    c = number (extent_of shape) (Count s)
+
+    word : ℕ
+    word = first_word shape first.0
+
+    n : NewAfter shape h (event_list v.number act ++ h) s
+    n = new_after shape h v.number q s act g.may new
+
+    Now : Place → Type 0
+    Now pl = Excepts v.working pl ⊎ Others pl
+
+    But : Place → Type 0
+    But pl = Others pl × (pl ≢ Count s)
+
+    stored : ShowsBut (λ pl. Excepts v.working pl ⊎ But pl) shape (heap_after h) (set ws c word)
+    stored = word_changes shape Now (λ pl. Excepts v.working pl ⊎ But pl) (heap_after h) (heap_after h) ws (Count s) word lt shown (λ _. first.2)
+        (λ r other not e. not (⊎_elim (λ mine. inl mine) (λ others. inr (others, other)) e)) (λ r _ _ _ w says. says)
+
+    lies : Lying shape h v.seen (set ws c word) v.working
+    lies = record {
+      private = lies_stay shape (heap_after h) ws c word v.number (private_words v.working) mine lie.private (inr (inline_shared shape (heap_after h) v.number s lt));
+      access = λ a ea. let f = lie.access a ea in record {
+        busy = get_or-set_other ws c (number (extent_of shape) (cell_place a.cell)) word 0 (inline_no_cell shape a.cell s (inside a ea) lt) ∙ f.busy;
+        value = f.value;
+        stays = f.stays;
+      };
+      naming = lie.naming;
+    }
+
+    after : ShowsBut (λ pl. Excepts work pl ⊎ But pl) shape (heap_after (event_list v.number act ++ h)) (set (set ws c word) i y)
+    after = g.words But (set ws c word) stored lies (found ∙ sym (get_or-set_other ws c i word 0 (λ e. ne (sym e))))
+
+    not_excepted : Excepts work (Count s) ⊎ But (Count s) → ⊥
+    not_excepted = ⊎_elim (λ owed. apart (new_once shape (event_list v.number act ++ h) q v.number s g.may later (g.fits.owing (record { slot = s; counted = false }) owed).1)) (λ o. o.1 refl)
+
+    here : word_at shape (set (set ws c word) i y) (Count s) ≡ first_word shape n.is
+    here = get_or-set_other (set ws c word) i c y 0 ne ∙ word_set shape Now (heap_after h) ws (Count s) word lt shown
+        ∙ ap (first_word shape) (Some-inj (sym first.1 ∙ n.old)) ∙ sym (first_same shape n.was n.is n.class)
+
 -- a step of the pass v, which does this act, keeps the rule
 pub advance : {S : Type 0} (shape : HeapShape) (s : State S View) (k : IsKept shape s) (id : ℕ) (v : View) (y : ℕ) (act : Option Act) (st : Step) (found : ℕ) (work : Working) (c : List (ℕ × S)) → get_elem? s.views id ≡ some v → v.role ≡ Pass
-    → Sees shape k.log st found → Good shape v k.log (place_of st) (slice_index s.words (place_of st)) y act work
+    → Sees shape k.log st found → Settled shape k.log v st → Good shape v k.log (place_of st) (slice_index s.words (place_of st)) y act work
     → IsKept shape (stepped s (place_of st) y id c (moved v k.log (event_list v.number act ++ k.log) st found work) keeps)
-advance shape s k id v y act st found work c at pass sees g =
+advance shape s k id v y act st found work c at pass sees settled g =
     let i = place_of st in
     let more = event_list v.number act in
     let mine = k.fits id v at in
@@ -261,6 +352,18 @@ advance shape s k id v y act st found work c at pass sees g =
         let since : k.log ≡ rest ++ u.seen = f.begins.1 in record {
           private = lies_stay shape (heap_after k.log) s.words (place_of st) y u.number (private_words u.working) (mine_now shape k.log k.splits k.taken u k.legal up f) (k.lying j u e).private
               (⊎_elim (λ same. inl same) (λ only. inr (λ pl inside is owned. ne (k.apart j id u v e at up pass (only pl inside is u.number owned)))) g.safe);
+          naming = λ t owed.
+              let owing = f.work.owing (record { slot = t; counted = false }) owed in
+              let none = others_came u.number k.log u.seen rest since (f.own up) in
+              let legal = subst (IsLegal shape) since k.legal in
+              let new : IsNew (heap_after k.log) u.number t = subst (λ l. IsNew (heap_after l) u.number t) (sym since) (new_stays shape u.number t u.seen rest legal none (legal_left shape rest u.seen legal) owing.1) in
+              let other : u.number ≡ v.number → ⊥ = λ same. ne (k.apart j id u v e at up pass same) in
+              naming_stays shape k.log v (place_of st) (slice_index s.words (place_of st)) y act work (ByOthers s.views id) s.words u.number t g owing.0 other new
+              (new_stays shape u.number t k.log (event_list v.number act) g.may (share_of_other v.number u.number act other) k.legal new)
+              (λ is. other (settled t owing.0 (sym is) u.number new))
+              (mine_now shape k.log k.splits k.taken v k.legal pass (k.fits id v at)) (λ a va. ((k.fits id v at).work.reaches a va).0)
+              (shows_to shape (Excepted s.views) (λ pl. Excepts v.working pl ⊎ ByOthers s.views id pl) (heap_after k.log) s.words (excepted_apart s.views id v at) k.words) (k.lying id v at) refl
+              ((k.lying j u e).naming t owed);
           access = λ a ua. let r = f.work.reaches a ua in access_stays shape k.log u.seen s.words v.number (place_of st) y act a (λ c. (b : Begun) × (v.working.access ≡ Some b) × (b.cell ≡ c)) f.begins r.0
               (reach_there shape k.log u.number a.cell k.legal (subst (λ l. CanReach shape (heap_after l) u.number a.cell) (sym since) (reach_stays shape u.seen rest a.cell u.number (subst (IsLegal shape) since k.legal) (others_came u.number k.log u.seen rest since (f.own up)) r.1)))
               (λ own. ne (k.accesses j id u v a own.0 e at ua own.1 (sym own.2))) g.calm g.cells ((k.lying j u e).access a ua);
@@ -268,11 +371,12 @@ advance shape s k id v y act st found work c at pass sees g =
         (λ (idle : (u.working.owes ≡ None) × (u.working.access ≡ None) × (private_words u.working ≡ [])). record {
           private = subst (Each (Lies shape (set s.words (place_of st) y))) (sym idle.2) tt;
           access = λ a ua. absurd (None≢Some a (sym idle.1 ∙ ua));
+          naming = λ t owed. absurd (None≢Some (record { slot = t; counted = false }) (sym idle.0 ∙ owed));
         })
         (k.fits j u e).working
 
 -- the history has the step's event more
 pub advance_log : {S : Type 0} (shape : HeapShape) (s : State S View) (k : IsKept shape s) (id : ℕ) (v : View) (y : ℕ) (act : Option Act) (st : Step) (found : ℕ) (work : Working) (c : List (ℕ × S)) (at : get_elem? s.views id ≡ some v) (pass : v.role ≡ Pass)
-    (sees : Sees shape k.log st found) (g : Good shape v k.log (place_of st) (slice_index s.words (place_of st)) y act work) → (advance shape s k id v y act st found work c at pass sees g).log ≡ event_list v.number act ++ k.log
+    (sees : Sees shape k.log st found) (settled : Settled shape k.log v st) (g : Good shape v k.log (place_of st) (slice_index s.words (place_of st)) y act work) → (advance shape s k id v y act st found work c at pass sees settled g).log ≡ event_list v.number act ++ k.log
 unfolding advance
-advance_log shape s k id v y act st found work c at pass sees g = refl
+advance_log shape s k id v y act st found work c at pass sees settled g = refl

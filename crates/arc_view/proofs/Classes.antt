@@ -2,7 +2,7 @@
 use Rattle.arc_model.specs.History.{sight}
 use Rattle.arc_view.proofs.Within.{is_claim, within_after}
 use Rattle.std.proofs.Common.{◌≡◌, ◌⊎◌, inl, inr, ℕ, zero, suc, ◌+◌, ◌<◌, ◌≤◌, ◌==◌, Bool, true, false, cond, List, [], ◌∷◌, ◌++◌, map, length, Option, Some, None, refl, sym, ap, ◌∙◌, subst, arith}
-use Rattle.std.specs.Prelude.{slice_get, slice_index_or, ◌&&◌, ◌^◌}
+use Rattle.std.specs.Prelude.{slice_get, ◌&&◌, ◌^◌}
 use Rattle.std.proofs.lemmas.List.Sums.{sum_by-cons}
 use mathlib.Core.List.{map-append}
 use Rattle.arc_model.specs.declared.event.Act.{Act}
@@ -15,7 +15,7 @@ use Rattle.arc_model.specs.declared.event.ObjectId.{ObjectId}
 use Rattle.arc_model.specs.declared.shape.Kind.{Kind}
 use Rattle.arc_model.specs.declared.shape.Kind.TheVariants.{Strong, Unowned, Weak}
 use Rattle.arc_model.specs.declared.shape.RefShape.{RefShape}
-use Rattle.arc_model.specs.Shapes.{HeapShape}
+use Rattle.arc_model.specs.Shapes.{HeapShape, class_at}
 use Rattle.arc_model.specs.Heaps.{Holder, Hand, Field, Global, Strongs, Unowneds, Object, Heap}
 use Rattle.arc_model.specs.Holders.{at_first, same_holder, holds, in_slot, has_entry, held_by, lists, gains, with_list, with_last, without, renamed, change, made_by, kind_in}
 use Rattle.arc_model.specs.Cells.{cell, origin, field_shape}
@@ -132,7 +132,7 @@ cell_after p (acts.Take s f k) z heap e = go (same_holder z (cell heap (cells.Fi
 cell_after p _ z heap e = inl refl
 
 pub field_named : (shape : HeapShape) (f : ℕ) (r o : Object) → name_of r ≡ name_of o → field_shape shape f (Some r) ≡ field_shape shape f (Some o)
-field_named shape f r o e = ap (λ (n : ObjectName). slice_get (slice_index_or shape.classes n.class []) f) e
+field_named shape f r o e = ap (λ (n : ObjectName). slice_get (class_at shape n.class).fields f) e
 
 pub id_named : (r o : Object) → name_of r ≡ name_of o → r.id ≡ o.id
 id_named r o e = ap (λ (n : ObjectName). record { thread = n.thread; number = n.number }) e

@@ -123,6 +123,7 @@ module _ (shape : HeapShape) (h : History) (legal : IsLegal shape h) (splits : �
   lying_grown words f = let l = longer_is h v.seen w.seen fv.begins fw.begins in record {
     private = f.private;
     access = λ a e. let g = f.access a e in record { busy = g.busy; value = g.value; stays = stays_later h (longer v.seen w.seen) v.seen a.cell l.begins l.left g.stays };
+    naming = f.naming;
   }
 
 not_spent : {A : Type 0} → Spent ≡ Pass → A
@@ -131,14 +132,16 @@ not_spent e = absurd (cc)
 no_exception : (v : View) → v.working.owes ≡ None → v.working.access ≡ None → (pl : Place) → Excepts v.working pl → ⊥
 no_exception v owes access places.Zero e = e
 no_exception v owes access (places.Global g) e = None≢Some e.0 (sym access ∙ e.1)
-no_exception v owes access (places.Count s) e = e
-no_exception v owes access (places.Isa s) e = None≢Some s (sym owes ∙ e)
+no_exception v owes access (places.Count s) e = None≢Some (record { slot = s; counted = false }) (sym owes ∙ e)
+no_exception v owes access (places.Isa s) e = None≢Some e.0 (sym owes ∙ e.1)
 no_exception v owes access (places.Next s) e = e
 no_exception v owes access (places.Field s f) e = None≢Some e.0 (sym access ∙ e.1)
 no_exception v owes access (places.Link n) e = e
 no_exception v owes access (places.Strong n) e = e
 no_exception v owes access (places.Unowned n) e = e
 no_exception v owes access (places.Weak n) e = e
+no_exception v owes access (places.SlotBits n) e = e
+no_exception v owes access (places.EntryBits n) e = e
 
 -- a view that had nothing under way is spent
 excepted_spent : (views : List View) (id : ℕ) (w : View) → get_elem? views id ≡ some w → w.working.owes ≡ None → w.working.access ≡ None → (pl : Place) → Excepted views pl → Excepted (set views id spent_view) pl

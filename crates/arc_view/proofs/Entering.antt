@@ -1,7 +1,6 @@
 -- The deinit of an object is entered: the rule allows the store of its next word.
-use Rattle.std.proofs.Common.{◌≡◌, ◌≢◌, ◌⊎◌, inl, inr, ℕ, zero, suc, ◌+◌, ◌*◌, ◌/◌, ◌%◌, ◌<◌, ◌≤◌, ◌==◌, Bool, true, false, cond, List, [], ◌∷◌, ◌++◌, map, set, Option, Some, None, refl, sym, ap, ◌∙◌, subst, arith, get_or-set_other, get_or-set_same}
+use Rattle.std.proofs.Common.{◌≡◌, ◌≢◌, ◌⊎◌, inl, inr, ℕ, zero, suc, ◌+◌, ◌*◌, ◌/◌, ◌%◌, ◌<◌, ◌≤◌, ◌==◌, Bool, true, false, cond, List, [], ◌∷◌, ◌++◌, map, set, Option, Some, None, refl, sym, ap, ◌∙◌, subst, arith, eq-eqb, get_or-set_other, get_or-set_same}
 use Rattle.std.specs.Prelude.{slice_get}
-use Rattle.std.proofs.lemmas.List.{length-set}
 use Rattle.std.proofs.lemmas.Bool.{eqb-true}
 use Rattle.arc_model.specs.declared.event.CellName.{CellName}
 use Rattle.arc_model.specs.declared.event.CellName.TheVariants as cells
@@ -12,25 +11,28 @@ use Rattle.arc_model.specs.Holders.{in_slot}
 use Rattle.arc_model.specs.WellFormed.{more, total, in_slot_times}
 use Rattle.arc_model.specs.History.{History, heap_after, IsLegal}
 use Rattle.arc_model.specs.Lookup.{duty_of, duty_in, owed_by}
-use Rattle.arc_model.proofs.Basics.{None≢Some, Some-inj}
+use Rattle.arc_model.proofs.Basics.{None≢Some, Some-inj, true≢false}
 use Rattle.arc_model.proofs.Courses.{well_formed}
 use Rattle.arc_model.proofs.Others.{others_leave}
 use Rattle.arc_rule.specs.Places.{IsPlace, extent_of, number, place_at}
-use Rattle.arc_rule.specs.Shown.{Says, ShowsBut, word_at}
+use Rattle.arc_rule.specs.Shown.{ShowsBut}
 use Rattle.arc_rule.proofs.Places.{place_at-number}
 use Rattle.arc_rule.specs.declared.layout.Place.{Place}
-use Rattle.arc_rule.specs.declared.layout.Place.TheVariants.{Zero, Global, Count, Isa, Next, Field, Link, Strong, Unowned, Weak}
+use Rattle.arc_rule.specs.declared.layout.Place.TheVariants.{Zero, Global, Count, Isa, Next, Field, Link, Strong, Unowned, Weak, SlotBits, EntryBits}
 use Rattle.arc_rule.specs.declared.step.Step.TheVariants.{Store}
 use Rattle.arc_rule.specs.declared.step.Intent.TheVariants as intents
 use Rattle.arc_view.specs.declared.view.Parent.{Parent}
+use Rattle.arc_view.specs.declared.view.Stored.{Stored}
 use Rattle.arc_view.specs.declared.view.Entered.{Entered}
 use Rattle.arc_view.specs.declared.view.Working.{Working}
 use Rattle.arc_view.specs.declared.view.View.{View}
 use Rattle.arc_view.specs.Views.{Each, cell_place, next_word, kept_next, private_words, Excepts}
 use Rattle.arc_view.specs.Holding.{At, HasDuty, Owns, heap_of}
 use Rattle.arc_view.specs.Rule.{EnteredFits, IsMine, IsWithin, Lies}
-use Rattle.arc_view.specs.Kinds.{act_of, stored_act, parent_of, working_stored, working_after}
+use Rattle.arc_view.specs.Kinds.{act_of, stored_act, but_at, parent_of, working_stored, working_after}
 use Rattle.arc_view.specs.Admission.{HasEntered, IsParent, MayStoreIn, Admits}
+use Rattle.arc_view.proofs.Lists.{each_cut, each_join}
+use Rattle.arc_view.proofs.Words.{word_changes}
 use Rattle.arc_view.proofs.Within.{each_at}
 use Rattle.arc_view.proofs.Keeps.{stays_self}
 use Rattle.arc_view.proofs.Owed.{OwedLater, owed_stays}
@@ -77,12 +79,21 @@ each_apart : (s : ℕ) (es : List Entered) → ((e : Entered) (j : ℕ) → slic
 each_apart s [] none = tt
 each_apart s (e ∷ es) none = (none e 0 refl, each_apart s es (λ x j at. none x (suc j) at))
 
+-- the words that are kept private, but the one of a place
+pub but_kept : (at : Place → ℕ) (i : ℕ) (P Q : Stored → Type 0) → ((k : Stored) → at k.place ≢ i → P k → Q k) → (ks : List Stored) → Each P ks → Each Q (but_at at i ks)
+but_kept at i P Q keep [] h = tt
+but_kept at i P Q keep (k ∷ ks) h = go (at k.place == i) refl (but_kept at i P Q keep ks h.1)
+  where
+    go : (b : Bool) → (at k.place == i) ≡ b → Each Q (but_at at i ks) → Each Q (cond b (but_at at i ks) (k ∷ but_at at i ks))
+    go true is ih = ih
+    go false is ih = (keep k (λ same. true≢false (sym (eq-eqb (at k.place) i same) ∙ is)) h.0, ih)
+
 -- an entered deinit of the view is of an object in a slot of the shape
 entered_at : (shape : HeapShape) (p : ℕ) (h : History) (es : List Entered) (j : ℕ) (e : Entered) → Each (EnteredFits shape p h) es → slice_get es j ≡ Some e → EnteredFits shape p h e
 entered_at shape p h es j e fits at = each_at (EnteredFits shape p h) es j e fits at
 
 module _ (shape : HeapShape) (v : View) (h : History) (b : Before shape v h) (s i new x : ℕ) (o : Object) (q : Option Parent) (lt : s < shape.slots) (here0 : At (heap_of v) i o) (slot0 : o.slot ≡ Some s) (duty0 : HasDuty v Deinit i)
-    (never : HasEntered v s → ⊥) (parent : IsParent v q) (word : new ≡ next_word q) (alone : v.working.stored ≡ []) where
+    (never : HasEntered v s → ⊥) (parent : IsParent v q) (word : new ≡ next_word q) (free : v.working.owes ≡ None) where
   abbrev at : ℕ
   at = number (extent_of shape) (Next s)
 
@@ -90,7 +101,7 @@ module _ (shape : HeapShape) (v : View) (h : History) (b : Before shape v h) (s 
   now = record { slot = s; parent = q; next_field = 0 }
 
   abbrev work : Working
-  work = record v.working { entered = now ∷ v.working.entered }
+  work = record v.working { stored = but_at (number (extent_of shape)) at v.working.stored; entered = now ∷ v.working.entered }
 
   since : IsLegal shape (b.rest ++ v.seen)
   since = subst (IsLegal shape) b.is b.legal
@@ -128,29 +139,18 @@ module _ (shape : HeapShape) (v : View) (h : History) (b : Before shape v h) (s 
     others_lie ws es apart.1 fits.1 lies.1,
   )
 
-  private_is : private_words v.working ≡ map kept_next v.working.entered
-  private_is = ap (λ ks. ks ++ map kept_next v.working.entered) alone
-
-  private_then : private_words work ≡ kept_next now ∷ map kept_next v.working.entered
-  private_then = ap (λ ks. ks ++ kept_next now ∷ map kept_next v.working.entered) alone
+  -- what is private then, from what was private elsewhere
+  private_then : (P Q : Stored → Type 0) → ((k : Stored) → number (extent_of shape) k.place ≢ at → P k → Q k) → Q (kept_next now) → (Each P (map kept_next v.working.entered) → Each Q (map kept_next v.working.entered))
+      → Each P (private_words v.working) → Each Q (private_words work)
+  private_then P Q keep its others private =
+      let t = each_cut P v.working.stored (map kept_next v.working.entered) private in
+      each_join Q (but_at (number (extent_of shape)) at v.working.stored) (kept_next now ∷ map kept_next v.working.entered) (but_kept (number (extent_of shape)) at P Q keep v.working.stored t.0) (its, others t.1)
 
   apart : Each (λ (e : Entered). e.slot ≢ s) v.working.entered
   apart = each_apart s v.working.entered (λ e j at same. never (e, j, at, same))
 
   kept : (Others : Place → Type 0) (ws : List ℕ) → ShowsBut (λ pl. Excepts v.working pl ⊎ Others pl) shape (heap_after h) ws → ShowsBut (λ pl. Excepts work pl ⊎ Others pl) shape (heap_after h) (set ws at new)
-  kept Others ws shows = record { whole = length-set ws at new ∙ shows.whole; says = says }
-    where
-      says : (pl : Place) → IsPlace (extent_of shape) pl → (Excepts work pl ⊎ Others pl → ⊥) → Says shape (heap_after h) pl (word_at shape (set ws at new) pl)
-      says Zero inside not = subst (Says shape (heap_after h) Zero) (sym (get_or-set_other ws at (number (extent_of shape) Zero) new 0 (elsewhere Zero inside (λ e. cc)))) (shows.says Zero inside not)
-      says (Global g) inside not = subst (Says shape (heap_after h) (Global g)) (sym (get_or-set_other ws at (number (extent_of shape) (Global g)) new 0 (elsewhere (Global g) inside (λ e. cc)))) (shows.says (Global g) inside not)
-      says (Count n) inside not = subst (Says shape (heap_after h) (Count n)) (sym (get_or-set_other ws at (number (extent_of shape) (Count n)) new 0 (elsewhere (Count n) inside (λ e. cc)))) (shows.says (Count n) inside not)
-      says (Isa n) inside not = subst (Says shape (heap_after h) (Isa n)) (sym (get_or-set_other ws at (number (extent_of shape) (Isa n)) new 0 (elsewhere (Isa n) inside (λ e. cc)))) (shows.says (Isa n) inside not)
-      says (Next n) inside not = tt
-      says (Field n f) inside not = subst (Says shape (heap_after h) (Field n f)) (sym (get_or-set_other ws at (number (extent_of shape) (Field n f)) new 0 (elsewhere (Field n f) inside (λ e. cc)))) (shows.says (Field n f) inside not)
-      says (Link n) inside not = subst (Says shape (heap_after h) (Link n)) (sym (get_or-set_other ws at (number (extent_of shape) (Link n)) new 0 (elsewhere (Link n) inside (λ e. cc)))) (shows.says (Link n) inside not)
-      says (Strong n) inside not = subst (Says shape (heap_after h) (Strong n)) (sym (get_or-set_other ws at (number (extent_of shape) (Strong n)) new 0 (elsewhere (Strong n) inside (λ e. cc)))) (shows.says (Strong n) inside not)
-      says (Unowned n) inside not = subst (Says shape (heap_after h) (Unowned n)) (sym (get_or-set_other ws at (number (extent_of shape) (Unowned n)) new 0 (elsewhere (Unowned n) inside (λ e. cc)))) (shows.says (Unowned n) inside not)
-      says (Weak n) inside not = subst (Says shape (heap_after h) (Weak n)) (sym (get_or-set_other ws at (number (extent_of shape) (Weak n)) new 0 (elsewhere (Weak n) inside (λ e. cc)))) (shows.says (Weak n) inside not)
+  kept Others ws shows = word_changes shape (λ pl. Excepts v.working pl ⊎ Others pl) (λ pl. Excepts work pl ⊎ Others pl) (heap_after h) (heap_after h) ws (Next s) new lt shows (λ _. tt) (λ u ne notF e. notF e) (λ u iu ne _ w t. t)
 
   pub enter_good : Good shape v h at x new None work
   enter_good = record {
@@ -164,16 +164,17 @@ module _ (shape : HeapShape) (v : View) (h : History) (b : Before shape v h) (s 
     fits = record {
       owing = b.work.owing;
       reaches = b.work.reaches;
-      private = subst (Each (IsMine shape (heap_after h) v.number)) (sym private_then) ((lt, (i, later.q, later.here, slot_is later.q.slot s slot, duty)), subst (Each (IsMine shape (heap_after h) v.number)) private_is b.work.private);
+      private = private_then (IsMine shape (heap_after h) v.number) (IsMine shape (heap_after h) v.number) (λ k ne m. m) (lt, (i, later.q, later.here, slot_is later.q.slot s slot, duty)) (λ m. m) b.work.private;
       entered = (enters, b.work.entered);
     };
     lying = λ Others ws shows l e. record {
-      private = subst (Each (Lies shape (set ws at new))) (sym private_then) (its ws shows, others_lie ws v.working.entered apart b.work.entered (subst (Each (Lies shape ws)) private_is l.private));
+      private = private_then (Lies shape ws) (Lies shape (set ws at new)) (λ k ne lies. get_or-set_other ws at (number (extent_of shape) k.place) new 0 ne ∙ lies) (its ws shows) (others_lie ws v.working.entered apart b.work.entered) l.private;
       access = λ a ea. let f = l.access a ea in let r = b.work.reaches a ea in record {
         busy = get_or-set_other ws at (number (extent_of shape) (cell_place a.cell)) new 0 (elsewhere (cell_place a.cell) r.0 (not_cell a.cell)) ∙ f.busy;
         value = f.value;
         stays = stays_self h a.cell;
       };
+      naming = λ t owed. absurd (None≢Some (record { slot = t; counted = false }) (sym free ∙ owed));
     };
   }
     where
@@ -206,10 +207,12 @@ next_of shape v (Link n) new s may e = absurd may
 next_of shape v (Strong n) new s may e = absurd may
 next_of shape v (Unowned n) new s may e = absurd may
 next_of shape v (Weak n) new s may e = absurd may
+next_of shape v (SlotBits n) new s may e = absurd may
+next_of shape v (EntryBits n) new s may e = absurd may
 
-pub enter_admitted : (shape : HeapShape) (v : View) (place new s : ℕ) → Admits shape v (Store place new) (intents.Deinit s) → place ≡ number (extent_of shape) (Next s) → v.working.stored ≡ [] → (h : History) → Before shape v h → (x : ℕ)
+pub enter_admitted : (shape : HeapShape) (v : View) (place new s : ℕ) → Admits shape v (Store place new) (intents.Deinit s) → place ≡ number (extent_of shape) (Next s) → (h : History) → Before shape v h → (x : ℕ)
     → Good shape v h place x new (act_of shape v (Store place new) (intents.Deinit s) 0) (working_after shape v (Store place new) (intents.Deinit s) 0)
-enter_admitted shape v place new s (pl, at, inside, (owes, may)) is alone h b x = go (subst (λ (p : Place). MayStoreIn shape v p new s) same may)
+enter_admitted shape v place new s (pl, at, inside, (owes, may)) is h b x = go (subst (λ (p : Place). MayStoreIn shape v p new s) same may)
   where
     same : pl ≡ Next s
     same = next_of shape v pl new s may (sym at ∙ is)
@@ -219,8 +222,8 @@ enter_admitted shape v place new s (pl, at, inside, (owes, may)) is alone h b x 
 
     go : MayStoreIn shape v (Next s) new s → Good shape v h place x new (act_of shape v (Store place new) (intents.Deinit s) 0) (working_after shape v (Store place new) (intents.Deinit s) 0)
     go (i, o, q, _, here, slot, duty, never, parent, word) =
-        let g = enter_good shape v h b s i new x o q lt here slot duty never parent word alone in
+        let g = enter_good shape v h b s i new x o q lt here slot duty never parent word owes in
         let back : parent_of new ≡ q = ap parent_of word ∙ parent_back q (small_field v q parent) in
         let there : place_at (extent_of shape) place ≡ Next s = ap (place_at (extent_of shape)) is ∙ place_at-number (extent_of shape) (Next s) lt in
         subst (λ (t : ℕ × Option Act × Working). Good shape v h t.0 x new t.1 t.2)
-        (λ j. (sym is j, (sym (ap (λ (u : Place). stored_act v u (intents.Deinit s)) there)) j, sym (ap (λ (u : Place). working_stored (number (extent_of shape)) v.working u new (intents.Deinit s)) there ∙ ap (λ (r : Option Parent). record v.working { entered = record { slot = s; parent = r; next_field = 0 } ∷ v.working.entered }) back) j)) g
+        (λ j. (sym is j, (sym (ap (λ (u : Place). stored_act v u (intents.Deinit s)) there)) j, sym (ap (λ (u : Place). working_stored (number (extent_of shape)) v.working u new (intents.Deinit s)) there ∙ ap (λ (r : Option Parent). record v.working { stored = but_at (number (extent_of shape)) (number (extent_of shape) (Next s)) v.working.stored; entered = record { slot = s; parent = r; next_field = 0 } ∷ v.working.entered }) back) j)) g

@@ -15,7 +15,7 @@ use Rattle.arc_model.specs.Shapes.{HeapShape}
 use Rattle.arc_model.specs.Heaps.{Holder, Hand, Strongs, Deinit, Vacating, Object, Heap}
 use Rattle.arc_model.specs.Heaps as holders
 use Rattle.arc_model.specs.Holders.{same_holder, is_in, is_empty, is_alone, is_number, without, kind_in, list_of, in_slot, at_slot, at_entry, owes_to}
-use Rattle.arc_model.specs.Cells.{are_all_nil}
+use Rattle.arc_model.specs.Cells.{is_immortal, are_all_nil}
 use Rattle.arc_model.specs.Effects.{finished}
 use Rattle.arc_model.specs.Needs.{needs, passes, same_bool}
 use Rattle.arc_model.specs.History.{History, heap_after, sight, IsLegal}
@@ -30,7 +30,7 @@ use Rattle.arc_rule.specs.declared.layout.Place.{Place}
 use Rattle.arc_rule.specs.declared.layout.Place.TheVariants as places
 use Rattle.arc_rule.specs.declared.layout.Place.TheVariants.{Count, Next}
 use Rattle.arc_rule.specs.Places.{IsPlace, extent_of, number}
-use Rattle.arc_rule.specs.Shown.{Says, IsHeader, ShowsCounts, ShowsHolders, counts_in}
+use Rattle.arc_rule.specs.Shown.{Says, IsHeader, IsInline, ShowsCounts, ShowsHolders, counts_in}
 use Rattle.arc_view.specs.declared.view.Stored.{Stored}
 use Rattle.arc_view.specs.declared.view.Entered.{Entered}
 use Rattle.arc_view.specs.declared.view.Working.{Working}
@@ -39,12 +39,14 @@ use Rattle.arc_view.specs.Views.{Each, kept_next, cell_place, Excepts}
 use Rattle.arc_view.specs.Holding.{At}
 use Rattle.arc_view.specs.Rule.{IsMine, EnteredFits, WorkFits}
 use Rattle.arc_view.specs.Kinds.{but_at, without_slot, without_next}
+use Rattle.arc_view.proofs.Lists.{each_cut, each_join}
 use Rattle.arc_view.proofs.Words.{find_put, word_changes}
 use Rattle.arc_view.proofs.Advance.{IsThere, CellKept, Good}
 use Rattle.arc_view.proofs.Bridge.{Before}
 use Rattle.arc_view.proofs.Classes.{in_shape_stays}
 use Rattle.arc_view.proofs.Own.{entered_after, owner_after, reach_own}
-use Rattle.arc_view.proofs.Counting.{Counted, header_counts}
+use Rattle.arc_view.proofs.Lasting.{immortal_same, header_inline}
+use Rattle.arc_view.proofs.Counting.{Counted, counts_mortal, inline_counts}
 use Rattle.arc_view.proofs.Plain.{IsPlain, plain_count, plain_fewer}
 use Rattle.arc_view.proofs.Put.{is_number_some, place_same}
 use Rattle.arc_view.proofs.Strongs.{none_fails, slot_found, entry_found, entry_unclaimed, put_there, in_without, length_without, same_true, alone_one}
@@ -73,15 +75,7 @@ module _ (at : Place → ℕ) (s : ℕ) (P Q : Stored → Type 0) (keep : (k : S
       go false is ih = (keep (kept_next e) (λ same. true≢false (sym (eq-eqb e.slot s (slot_same e.slot s same)) ∙ is)) h.0, ih)
 
   kept_both : (ks : List Stored) (es : List Entered) → Each P (ks ++ map kept_next es) → Each Q (but_at at (at (Next s)) ks ++ map kept_next (without_slot s es))
-  kept_both ks es h = let t = cut ks h in join (but_at at (at (Next s)) ks) (kept_stored ks t.0) (kept_entered es t.1)
-    where
-      cut : (ks : List Stored) → Each P (ks ++ map kept_next es) → Each P ks × Each P (map kept_next es)
-      cut [] h = (tt, h)
-      cut (k ∷ ks) h = let t = cut ks h.1 in ((h.0, t.0), t.1)
-
-      join : (ks : List Stored) → Each Q ks → Each Q (map kept_next (without_slot s es)) → Each Q (ks ++ map kept_next (without_slot s es))
-      join [] h g = g
-      join (k ∷ ks) h g = (h.0, join ks h.1 g)
+  kept_both ks es h = let t = each_cut P ks (map kept_next es) h in each_join Q (but_at at (at (Next s)) ks) (map kept_next (without_slot s es)) (kept_stored ks t.0) (kept_entered es t.1)
 
 -- the deinits that stay entered: those of other slots
 kept_deinits : (s : ℕ) (P Q : Entered → Type 0) → ((e : Entered) → e.slot ≢ s → P e → Q e) → (es : List Entered) → Each P es → Each Q (without_slot s es)
@@ -104,6 +98,8 @@ kept_exceptions at s w (places.Link n) e = e
 kept_exceptions at s w (places.Strong n) e = e
 kept_exceptions at s w (places.Unowned n) e = e
 kept_exceptions at s w (places.Weak n) e = e
+kept_exceptions at s w (places.SlotBits n) e = e
+kept_exceptions at s w (places.EntryBits n) e = e
 
 -- the object after the finish
 no_strongs : (z : Holder) → is_cell z ≡ true → same_holder z Strongs ≡ false
@@ -112,6 +108,7 @@ no_strongs (holders.Field id f) c = refl
 no_strongs (holders.Global g) c = refl
 no_strongs Strongs c = absurd (true≢false (sym c))
 no_strongs holders.Unowneds c = refl
+no_strongs holders.Forever c = refl
 
 record Finished (o q : Object) : Type 0 where
   pub slot : q.slot ≡ o.slot
@@ -202,6 +199,8 @@ module _ (shape : HeapShape) (v : View) (h : History) (b : Before shape v h) (i 
   found_all (places.Strong n) = tt
   found_all (places.Unowned n) = tt
   found_all (places.Weak n) = tt
+  found_all (places.SlotBits k) = λ t _. slot_put t
+  found_all (places.EntryBits k) = tt
 
   kept : (c : CellName) → IsThere heap c → CellKept shape heap new c
   kept (cells.Field t f) there = field_kept shape heap new o q put refl is.relisted t f (slot_put t)
@@ -238,7 +237,7 @@ module _ (shape : HeapShape) (v : View) (h : History) (b : Before shape v h) (i 
   finish_at : (pl : Place) (x w : ℕ) → IsPlain heap pl → IsPlace (extent_of shape) pl → last ≡ is_alone o.unowned → v.working.owes ≡ None
       → ((u : Place) → u ≢ pl → Lasts shape heap new o q put refl is.relisted u) → Says shape new pl w
       → Good shape v h (number (extent_of shape) pl) x w (Some (acts.Finish s last)) work
-  finish_at pl x w plain inside last_is owes elsewhere says = plain_fewer shape v h b pl plain inside x w (Some (acts.Finish s last)) work refl
+  finish_at pl x w plain inside last_is owes elsewhere says = plain_fewer shape v h b pl plain inside x w (Some (acts.Finish s last)) work refl owes
       (λ P. kept_both (number (extent_of shape)) s P P (λ k ne p. p) v.working.stored v.working.entered)
       (legal last_is)
       (in_shape_stays shape event h (legal last_is) refl refl refl b.in_shape)
@@ -250,8 +249,14 @@ module _ (shape : HeapShape) (v : View) (h : History) (b : Before shape v h) (i 
 
   -- the object has no entry, and its inline word shows these counts
   module _ (c : Inline) (x : ℕ) (lt : s < shape.slots) (word : IsWordOf (Counts c) x) (says : Says shape (heap_after h) (Count s) x) (is_last : last ≡ (c.unowned == 1)) where
+    inline : IsInline (is_immortal shape o) shape o x
+    inline = subst (λ m. ShowsCounts shape m x) found says
+
+    mortal : is_immortal shape q ≡ false
+    mortal = immortal_same shape o q is.relisted.class ∙ counts_mortal shape o c x inline word
+
     counted : Counted shape o c
-    counted = header_counts shape o c x b.sized (subst (λ m. ShowsCounts shape m x) found says) word
+    counted = inline_counts shape o c x b.sized inline word
 
     unowned_is : length o.unowned ≡ c.unowned
     unowned_is = ap (λ (d : Inline). d.unowned) counted.counts
@@ -266,10 +271,12 @@ module _ (shape : HeapShape) (v : View) (h : History) (b : Before shape v h) (i 
     elsewhere (places.Isa t) ne = tt
     elsewhere (Next t) ne = tt
     elsewhere (places.Field t f) ne = tt
-    elsewhere (places.Link n) ne = tt
+    elsewhere (places.Link n) ne = inl is.slot
     elsewhere (places.Strong n) ne = λ has. absurd (None≢Some n (sym counted.entry ∙ has))
     elsewhere (places.Unowned n) ne = λ has. absurd (None≢Some n (sym counted.entry ∙ has))
     elsewhere (places.Weak n) ne = λ has. absurd (None≢Some n (sym counted.entry ∙ has))
+    elsewhere (places.SlotBits n) ne = tt
+    elsewhere (places.EntryBits n) ne = tt
 
     counts_after : counts_in q ≡ unowned_less c
     counts_after = λ j. record {
@@ -290,7 +297,7 @@ module _ (shape : HeapShape) (v : View) (h : History) (b : Before shape v h) (i 
         let t = put_there heap.objects new.objects o q put in
         let there : at_slot s new ≡ Some q = slot_found shape (event ∷ h) t.0 s q (legal last_is) t.1 (is.slot ∙ slot) in
         finish_at (Count s) x (counts_word (unowned_less c)) (plain_count heap s) lt last_is owes elsewhere
-        (subst (λ m. ShowsCounts shape m (counts_word (unowned_less c))) (sym there) (subst (λ m. IsHeader shape q m (counts_word (unowned_less c))) (sym (is.entry ∙ counted.entry)) header_after))
+        (subst (λ m. ShowsCounts shape m (counts_word (unowned_less c))) (sym there) (header_inline shape q (counts_word (unowned_less c)) mortal (subst (λ m. IsHeader shape q m (counts_word (unowned_less c))) (sym (is.entry ∙ counted.entry)) header_after)))
 
   -- the object has an entry, whose unowned word counts the list
   module _ (e x : ℕ) (entry : o.entry ≡ Some e) (lt : e < shape.entries) (says : Says shape (heap_after h) (places.Unowned e) x) (is_last : last ≡ (x == 1)) where
@@ -303,14 +310,16 @@ module _ (shape : HeapShape) (v : View) (h : History) (b : Before shape v h) (i 
     elsewhere_entry : (u : Place) → u ≢ places.Unowned e → Lasts shape heap new o q put refl is.relisted u
     elsewhere_entry places.Zero ne = tt
     elsewhere_entry (places.Global g) ne = tt
-    elsewhere_entry (Count t) ne = λ in_it. (e, entry)
+    elsewhere_entry (Count t) ne = λ in_it. inl (e, entry)
     elsewhere_entry (places.Isa t) ne = tt
     elsewhere_entry (Next t) ne = tt
     elsewhere_entry (places.Field t f) ne = tt
-    elsewhere_entry (places.Link n) ne = tt
+    elsewhere_entry (places.Link n) ne = inl is.slot
     elsewhere_entry (places.Strong n) ne = λ has. ap length is.strong
     elsewhere_entry (places.Unowned n) ne = λ has. absurd (ne (ap places.Unowned (Some-inj (sym has ∙ entry))))
     elsewhere_entry (places.Weak n) ne = λ has. ap length is.weak
+    elsewhere_entry (places.SlotBits n) ne = tt
+    elsewhere_entry (places.EntryBits n) ne = tt
 
     plain_entry : IsPlain heap (places.Unowned e)
     plain_entry = record { unowned = λ r claim. entry_unclaimed shape h i e r o b.legal here entry claim; cell = no_cell }

@@ -11,10 +11,11 @@ use Rattle.arc_model.specs.Shapes.{HeapShape}
 use Rattle.arc_model.specs.Heaps.{Holder, Hand, Strongs, Unowneds, Deinit, Owed, Object, Heap}
 use Rattle.arc_model.specs.Holders.{is_in, is_empty, list_of, is_duty}
 use Rattle.arc_model.specs.Effects.{made}
+use Rattle.arc_model.specs.Cells.{strong_holders}
 use Rattle.arc_model.specs.WellFormed.{tally, IsWhole, live, deiniting, deinited, vacating, going, freed, dead}
 use Rattle.arc_model.specs.Lookup.{spot, duty_of, duty_in, owed_by}
 use Rattle.arc_model.specs.History.{History, heap_after, next_hand, brings, share, IsLegal}
-use Rattle.arc_model.proofs.Basics.{None≢Some, Some-inj, in-not_empty}
+use Rattle.arc_model.proofs.Basics.{None≢Some, Some-inj, in-not_empty, some-strong}
 use Rattle.arc_model.proofs.Tally.{clash, same-refl, tally-in}
 use Rattle.arc_model.proofs.Turns.{old-put, IsLeaving, Turn}
 use Rattle.arc_model.proofs.Keeps.{end-at, Course, still, makes, turn, turns}
@@ -31,17 +32,17 @@ abbrev pub Busy : Object → Type 0
 Busy o = (is_empty o.strong ≡ false) ⊎ (is_empty o.unowned ≡ false)
 
 -- it has a weak holder, too
-pub busy_weak : (o : Object) → IsWhole o → Busy o → is_empty o.weak ≡ false
-busy_weak o w b = go w b
+pub busy_weak : (shape : HeapShape) (o : Object) → IsWhole shape o → Busy o → is_empty o.weak ≡ false
+busy_weak shape o w b = go w b
   where
     held : tally Unowneds o.weak ≡ 1 → is_empty o.weak ≡ false
     held t = in-not_empty Unowneds o.weak (tally-in Unowneds o.weak (omega (arith, t)))
 
-    none : {A : Type 0} → is_empty o.strong ≡ true → is_empty o.unowned ≡ true → Busy o → A
-    none s u (inl b) = clash (is_empty o.strong) s b
+    none : {A : Type 0} → is_empty (strong_holders shape o) ≡ true → is_empty o.unowned ≡ true → Busy o → A
+    none s u (inl b) = clash (is_empty (strong_holders shape o)) s (some-strong shape o b)
     none s u (inr b) = clash (is_empty o.unowned) u b
 
-    go : IsWhole o → Busy o → is_empty o.weak ≡ false
+    go : IsWhole shape o → Busy o → is_empty o.weak ≡ false
     go (live s d l a b p) _ = held b
     go (deiniting s d l a b p) _ = held b
     go (deinited s d l a u b p) _ = held b
@@ -67,7 +68,7 @@ same_stays : (i : ℕ) (o : Object) (new : Heap) → At new i o → Stays i o ne
 same_stays i o new here = record { q = o; here = here; id = refl; class = refl; slot = λ b. refl; entry = λ n w e. e; weak = λ w. w }
 
 turn_stays : {shape : HeapShape} (p : ℕ) (act : Act) (next since : ℕ → ℕ) (old new : Heap) → Turn shape p act next since old new → (i : ℕ) (o : Object) → At old i o → Stays i o new
-turn_stays p act next since old new t i o h =
+turn_stays {shape = shape} p act next since old new t i o h =
     elim (old-put old.objects new.objects t.o t.q t.put i o h) [
       | inl same ↦ same_stays i o new same
       | inr turned ↦ subst (λ r. Stays i r new) (sym turned.0) (record {
@@ -75,24 +76,24 @@ turn_stays p act next since old new t i o h =
         here = turned.1;
         id = t.id;
         class = t.class;
-        slot = λ b. ⊎_elim (λ s. s) (λ (l : IsLeaving act t.o). absurd (left b l.3 l.4)) t.place;
+        slot = λ b. ⊎_elim (λ s. s) (λ (l : IsLeaving shape act t.o). absurd (left b l.3 l.4)) t.place;
         entry = λ n w e. ⊎_elim (λ s. s) (λ none. clash (is_empty t.q.weak) none w) (t.entry_stays n e);
         weak = t.weak_stays;
       })
     ]
   where
-    left : Busy t.o → is_empty t.o.strong ≡ true → is_empty t.o.unowned ≡ true → ⊥
-    left (inl b) s u = clash (is_empty t.o.strong) s b
+    left : Busy t.o → is_empty (strong_holders shape t.o) ≡ true → is_empty t.o.unowned ≡ true → ⊥
+    left (inl b) s u = clash (is_empty (strong_holders shape t.o)) s (some-strong shape t.o b)
     left (inr b) s u = clash (is_empty t.o.unowned) u b
 
 -- of two turns, the two of a swap, neither leaves a slot
 swap_turn : {shape : HeapShape} (p : ℕ) (act : Act) (next since : ℕ → ℕ) (old new : Heap) → ((s : ℕ) → act ≡ acts.Vacate s → ⊥) → Turn shape p act next since old new → (i : ℕ) (o : Object) → At old i o → (s : Stays i o new) × (s.q.slot ≡ o.slot)
 unfolding same_stays
-swap_turn p act next since old new other t i o h =
+swap_turn {shape = shape} p act next since old new other t i o h =
     elim (old-put old.objects new.objects t.o t.q t.put i o h) [
       | inl same ↦ (same_stays i o new same, refl)
       | inr turned ↦
-          let slot : t.q.slot ≡ t.o.slot = ⊎_elim (λ s. s) (λ (l : IsLeaving act t.o). absurd (other l.0 l.1)) t.place in
+          let slot : t.q.slot ≡ t.o.slot = ⊎_elim (λ s. s) (λ (l : IsLeaving shape act t.o). absurd (other l.0 l.1)) t.place in
           subst (λ r. (s : Stays i r new) × (s.q.slot ≡ r.slot)) (sym turned.0) (
             record {
               q = t.q;
@@ -147,15 +148,15 @@ pub record Held (kind : Kind) (i : ℕ) (o : Object) (new : Heap) : Type 0 where
 pub strong≢weak : Strong ≡ Weak → ⊥
 strong≢weak e = cc
 
-listed_busy : (kind : Kind) (z : Holder) (o : Object) → is_in z (list_of kind o) ≡ true → (kind ≡ Weak → ⊥) → Busy o
+pub listed_busy : (kind : Kind) (z : Holder) (o : Object) → is_in z (list_of kind o) ≡ true → (kind ≡ Weak → ⊥) → Busy o
 listed_busy Strong z o h ne = inl (in-not_empty z o.strong h)
 listed_busy Unowned z o h ne = inr (in-not_empty z o.unowned h)
 listed_busy Weak z o h ne = absurd (ne refl)
 
-listed_weak : (kind : Kind) (z : Holder) (o : Object) → IsWhole o → is_in z (list_of kind o) ≡ true → is_empty o.weak ≡ false
-listed_weak Strong z o w h = busy_weak o w (inl (in-not_empty z o.strong h))
-listed_weak Unowned z o w h = busy_weak o w (inr (in-not_empty z o.unowned h))
-listed_weak Weak z o w h = in-not_empty z o.weak h
+listed_weak : (shape : HeapShape) (kind : Kind) (z : Holder) (o : Object) → IsWhole shape o → is_in z (list_of kind o) ≡ true → is_empty o.weak ≡ false
+listed_weak shape Strong z o w h = busy_weak shape o w (inl (in-not_empty z o.strong h))
+listed_weak shape Unowned z o w h = busy_weak shape o w (inr (in-not_empty z o.unowned h))
+listed_weak shape Weak z o w h = in-not_empty z o.weak h
 
 -- a hand is in the list of the object that it stands at
 pub hand_listed : (shape : HeapShape) (h : History) (p k i : ℕ) (kind : Kind) (o : Object) → IsLegal shape h → spot (Hand p k) (heap_after h) ≡ Some (record { place = i; kind = kind }) → At (heap_after h) i o → is_in (Hand p k) (list_of kind o) ≡ true
@@ -183,7 +184,7 @@ held_stays shape p k i kind o before (e ∷ after) legal none at here =
       id = s.id ∙ ih.id;
       class = s.class ∙ ih.class;
       slot = λ ne. s.slot (listed_busy kind (Hand p k) ih.q was ne) ∙ ih.slot ne;
-      entry = λ n e. s.entry n (listed_weak kind (Hand p k) s.q whole is) (ih.entry n e);
+      entry = λ n e. s.entry n (listed_weak shape kind (Hand p k) s.q whole is) (ih.entry n e);
     }
 
 pub owed_duty : (p : ℕ) (m : Option Owed) → owed_by p m ≡ Some Deinit → is_duty Deinit m ≡ true

@@ -13,7 +13,7 @@ use Rattle.arc_model.specs.History.{History, heap_after, share, IsLegal}
 use Rattle.arc_model.specs.Lookup.{spot}
 use Rattle.arc_model.proofs.Others.{others_leave}
 use Rattle.arc_rule.specs.declared.layout.Place.{Place}
-use Rattle.arc_rule.specs.declared.layout.Place.TheVariants.{Zero, Global, Count, Isa, Next, Field, Link, Strong, Unowned, Weak}
+use Rattle.arc_rule.specs.declared.layout.Place.TheVariants.{Zero, Global, Count, Isa, Next, Field, Link, Strong, Unowned, Weak, SlotBits, EntryBits}
 use Rattle.arc_view.specs.declared.view.Role.TheVariants.{Pass}
 use Rattle.arc_view.specs.declared.view.Mark.{Mark}
 use Rattle.arc_view.specs.declared.view.Old.{Old}
@@ -77,6 +77,8 @@ owner_stays shape before after (Link e) p legal none o = (others_leave shape p b
 owner_stays shape before after (Strong e) p legal none o = (others_leave shape p before after legal none).claims e ∙ o
 owner_stays shape before after (Unowned e) p legal none o = (others_leave shape p before after legal none).claims e ∙ o
 owner_stays shape before after (Weak e) p legal none o = (others_leave shape p before after legal none).claims e ∙ o
+owner_stays shape before after (SlotBits k) p legal none o = absurd (o)
+owner_stays shape before after (EntryBits k) p legal none o = absurd (o)
 
 strong≢weak : kinds.Strong ≡ kinds.Weak → ⊥
 strong≢weak e = cc

@@ -72,3 +72,12 @@ tails (x ∷ xs) (y ∷ ys) p q e le = tails xs ys p q (cons_inj x y (xs ++ p) (
 
 pub shorter_begins : (h a b : History) → StartsWith h a → StartsWith h b → length a ≤ length b → StartsWith b a
 shorter_begins h a b ha hb le = tails ha.0 hb.0 a b (sym ha.1 ∙ hb.1) le
+
+-- of two lists
+pub each_cut : {A : Type 0} (P : A → Type 0) (xs ys : List A) → Each P (xs ++ ys) → Each P xs × Each P ys
+each_cut P [] ys h = (tt, h)
+each_cut P (x ∷ xs) ys h = let t = each_cut P xs ys h.1 in ((h.0, t.0), t.1)
+
+pub each_join : {A : Type 0} (P : A → Type 0) (xs ys : List A) → Each P xs → Each P ys → Each P (xs ++ ys)
+each_join P [] ys h g = g
+each_join P (x ∷ xs) ys h g = (h.0, each_join P xs ys h.1 g)

@@ -19,7 +19,7 @@ use Rattle.arc_model.proofs.Steps.{step_after}
 use Rattle.arc_model.proofs.Others.{others_leave, not-among}
 use Rattle.arc_view.specs.Holding.{At}
 use Rattle.arc_view.proofs.Held.{stays_after}
-use Rattle.arc_view.proofs.Strongs.{slot_found}
+use Rattle.arc_view.proofs.Words.{slot_found}
 
 same_duty_self : (d : Duty) → same_duty d d ≡ true
 same_duty_self Deinit = refl
@@ -42,7 +42,7 @@ pub owes_it : (h : History) (p i : ℕ) (d : Duty) (o : Object) → At (heap_aft
 owes_it h p i d o here duty = let t = duty_parts h p i d o here duty in both (is_by p o.owed) (is_duty d o.owed) t.0 t.1
 
 -- it has a weak holder, since Unowneds is one until the last duty ends
-pub owed_weak : (d : Duty) (o : Object) → IsWhole o → is_duty d o.owed ≡ true → is_empty o.weak ≡ false
+pub owed_weak : {shape : HeapShape} (d : Duty) (o : Object) → IsWhole shape o → is_duty d o.owed ≡ true → is_empty o.weak ≡ false
 owed_weak d o whole duty = in-not_empty Unowneds o.weak (tally-in Unowneds o.weak (let one = by d duty in omega (arith, one)))
   where
     by : (d : Duty) → is_duty d o.owed ≡ true → tally Unowneds o.weak ≡ 1
@@ -58,7 +58,7 @@ one_thread p q None mine its = absurd (no_true mine)
 one_thread p q (Some d) mine its = sym (eqb-true d.thread q its) ∙ eqb-true d.thread p mine
 
 -- the object is in the slot that another thread's event is said to vacate
-pub not_left : (shape : HeapShape) (e : Event) (h : History) (p i : ℕ) (d : Duty) (o : Object) → IsLegal shape (e ∷ h) → At (heap_after h) i o → duty_of p i (heap_after h) ≡ Some d → (e.thread ≡ p → ⊥) → IsLeaving e.act o → ⊥
+pub not_left : (shape : HeapShape) (e : Event) (h : History) (p i : ℕ) (d : Duty) (o : Object) → IsLegal shape (e ∷ h) → At (heap_after h) i o → duty_of p i (heap_after h) ≡ Some d → (e.thread ≡ p → ⊥) → IsLeaving shape e.act o → ⊥
 not_left shape e h p i d o legal here duty other (s, act, slot, strong, unowned) =
     let ns = met (needs shape (sight e.thread h) e.thread (acts.Vacate s)) (ap (λ a. first_failing (needs shape (sight e.thread h) e.thread a)) (sym act) ∙ legal.0) in
     let its : owes_to e.thread Vacating o ≡ true = ap (passes (owes_to e.thread Vacating)) (sym (slot_found shape h i s o legal.1 here slot)) ∙ ns.1.0 in

@@ -16,10 +16,10 @@ use Rattle.arc_model.proofs.Basics.{None≢Some, Some-inj, true≢false, in-not_
 use Rattle.arc_model.proofs.Others.{own_leave, duties_last}
 use Rattle.arc_model.proofs.Fields.{nil_fields_stay}
 use Rattle.arc_rule.specs.declared.layout.Place.{Place}
-use Rattle.arc_rule.specs.declared.layout.Place.TheVariants.{Zero, Global, Count, Isa, Next, Field, Link, Strong, Unowned, Weak}
+use Rattle.arc_rule.specs.declared.layout.Place.TheVariants.{Zero, Global, Count, Isa, Next, Field, Link, Strong, Unowned, Weak, SlotBits, EntryBits}
 use Rattle.arc_view.specs.declared.view.Entered.{Entered}
 use Rattle.arc_view.specs.declared.view.Working.{Working}
-use Rattle.arc_view.specs.Views.{private_words}
+use Rattle.arc_view.specs.Views.{Each, private_words}
 use Rattle.arc_view.specs.Holding.{At, CanReach, Owns}
 use Rattle.arc_view.specs.Rule.{IsMine, EnteredFits, WorkFits}
 use Rattle.arc_view.proofs.Lists.{each_more}
@@ -64,6 +64,8 @@ owner_after shape e h p (Link n) legal duties claims o = claims n o
 owner_after shape e h p (Strong n) legal duties claims o = claims n o
 owner_after shape e h p (Unowned n) legal duties claims o = claims n o
 owner_after shape e h p (Weak n) legal duties claims o = claims n o
+owner_after shape e h p (SlotBits k) legal duties claims o = absurd (o)
+owner_after shape e h p (EntryBits k) legal duties claims o = absurd (o)
 
 pub owner_own : (shape : HeapShape) (e : Event) (h : History) (p : ℕ) (pl : Place) → IsLegal shape (e ∷ h) → ends Deinit e.act ≡ false → ((n : ℕ) → is_claimed_by p n (heap_after h) ≡ true → is_claimed_by p n (heap_after (e ∷ h)) ≡ true)
     → Owns (heap_after h) p pl → Owns (heap_after (e ∷ h)) p pl
@@ -100,14 +102,20 @@ entered_after shape e h p z legal f duty =
 pub entered_own : (shape : HeapShape) (e : Event) (h : History) (p : ℕ) (z : Entered) → IsLegal shape (e ∷ h) → ends Deinit e.act ≡ false → EnteredFits shape p h z → EnteredFits shape p (e ∷ h) z
 entered_own shape e h p z legal still f = entered_after shape e h p z legal f (duty_own shape e h p f.place legal still f.duty)
 
--- What a pass has under way stays where its event ends no hand while it has an access, ends no deinit and gives up no claim.
-pub work_own : (shape : HeapShape) (e : Event) (h : History) (w : Working) → IsLegal shape (e ∷ h) → ends Deinit e.act ≡ false → ((n : ℕ) → is_claimed_by e.thread n (heap_after h) ≡ true → is_claimed_by e.thread n (heap_after (e ∷ h)) ≡ true)
-    → (w.access ≡ None) ⊎ ((k : ℕ) → ends_hand k e.act ≡ true → ⊥) → w.owes ≡ None → WorkFits shape e.thread h w → WorkFits shape e.thread (e ∷ h) w
-work_own shape e h w legal still claims hands free f = record {
-  owing = λ s owed. absurd (None≢Some s (sym free ∙ owed));
+-- What a pass has under way stays where its event ends no hand while it has an access, and ends no deinit; it still alone writes what it keeps private.
+pub work_kept : (shape : HeapShape) (e : Event) (h : History) (w : Working) → IsLegal shape (e ∷ h) → ends Deinit e.act ≡ false → (w.access ≡ None) ⊎ ((k : ℕ) → ends_hand k e.act ≡ true → ⊥) → w.owes ≡ None
+    → Each (IsMine shape (heap_after (e ∷ h)) e.thread) (private_words w) → WorkFits shape e.thread h w → WorkFits shape e.thread (e ∷ h) w
+work_kept shape e h w legal still hands free mine f = record {
+  owing = λ n owed. absurd (None≢Some n (sym free ∙ owed));
   reaches = λ a begun. ⊎_elim
       (λ none. absurd (None≢Some a (sym none ∙ begun)))
       (λ keeps. let r = f.reaches a begun in (r.0, reach_own shape e h a.cell legal keeps r.1)) hands;
-  private = each_more (IsMine shape (heap_after h) e.thread) (IsMine shape (heap_after (e ∷ h)) e.thread) (λ k m. (m.0, owner_own shape e h e.thread k.place legal still claims m.1)) (private_words w) f.private;
+  private = mine;
   entered = each_more (EnteredFits shape e.thread h) (EnteredFits shape e.thread (e ∷ h)) (λ z m. entered_own shape e h e.thread z legal still m) w.entered f.entered;
 }
+
+-- It does so where the event gives up no claim.
+pub work_own : (shape : HeapShape) (e : Event) (h : History) (w : Working) → IsLegal shape (e ∷ h) → ends Deinit e.act ≡ false → ((n : ℕ) → is_claimed_by e.thread n (heap_after h) ≡ true → is_claimed_by e.thread n (heap_after (e ∷ h)) ≡ true)
+    → (w.access ≡ None) ⊎ ((k : ℕ) → ends_hand k e.act ≡ true → ⊥) → w.owes ≡ None → WorkFits shape e.thread h w → WorkFits shape e.thread (e ∷ h) w
+work_own shape e h w legal still claims hands free f = work_kept shape e h w legal still hands free
+    (each_more (IsMine shape (heap_after h) e.thread) (IsMine shape (heap_after (e ∷ h)) e.thread) (λ k m. (m.0, owner_own shape e h e.thread k.place legal still claims m.1)) (private_words w) f.private) f

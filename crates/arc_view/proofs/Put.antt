@@ -9,18 +9,18 @@ use Rattle.arc_model.specs.declared.shape.Kind.TheVariants as kinds
 use Rattle.arc_model.specs.Shapes.{HeapShape}
 use Rattle.arc_model.specs.Heaps.{Holder, Object, Heap}
 use Rattle.arc_model.specs.Heaps as holders
-use Rattle.arc_model.specs.Holders.{is_in, is_number, in_slot, has_entry, holds, kind_in, list_of, at_slot, at_entry, claims_it, is_entry_taken}
+use Rattle.arc_model.specs.Holders.{is_in, is_number, in_slot, has_entry, holds, kind_in, list_of, at_slot, at_entry, claims_it, is_slot_taken, is_entry_taken}
 use Rattle.arc_model.specs.Cells.{cell, id_of, has_field}
 use Rattle.arc_model.specs.Lookup.{spot, spot_in, is_cell}
 use Rattle.arc_model.specs.SpellingTies.{reference_in, reference_of, reference_to, place_of, name_of}
-use Rattle.arc_model.proofs.Basics.{Some-inj}
 use Rattle.arc_model.proofs.Turns.{IsPut, spot-append}
 use Rattle.arc_model.proofs.Builds.{find-passes}
 use Rattle.arc_rule.specs.Isa.{isa_word_of}
 use Rattle.arc_rule.specs.declared.layout.Place.{Place}
-use Rattle.arc_rule.specs.declared.layout.Place.TheVariants.{Zero, Global, Count, Isa, Next, Field, Link, Strong, Unowned, Weak}
-use Rattle.arc_rule.specs.Shown.{Says, IsHeader, ShowsCounts, ShowsName, ShowsLink, ShowsHolders, cell_word, field_word, field_word_if}
+use Rattle.arc_rule.specs.declared.layout.Place.TheVariants.{Zero, Global, Count, Isa, Next, Field, Link, Strong, Unowned, Weak, SlotBits, EntryBits}
+use Rattle.arc_rule.specs.Shown.{Says, ShowsCounts, ShowsName, IsLink, ShowsLink, ShowsHolders, cell_word, field_word, field_word_if}
 use Rattle.arc_view.proofs.Words.{find_put}
+use Rattle.arc_view.proofs.Lasting.{IsFixed, inline_lasts, bits_last}
 use Rattle.arc_view.proofs.Advance.{CellKept}
 
 -- o becomes q: its strong list changes by holders that are no cells, and perhaps what is owed to it
@@ -76,18 +76,17 @@ module _ (shape : HeapShape) (old new : Heap) (o q : Object) (put : IsPut old.ob
   name_same : name_of q ≡ name_of o
   name_same = λ i. record { class = r.class i; thread = ap (λ (d : _). d.thread) r.id i; number = ap (λ (d : _). d.number) r.id i }
 
-  -- Which counts the change leaves: an inline word that names the object's entry, and an entry's strong count that isn't the object's.
+  -- Which counts the change leaves: an inline word that doesn't depend on the object's lists, and an entry's strong count that isn't the object's.
   abbrev pub Leaves : Place → Type 0
-  Leaves (Count t) = o.slot ≡ Some t → (e : ℕ) × (o.entry ≡ Some e)
+  Leaves (Count t) = o.slot ≡ Some t → IsFixed shape o
   Leaves (Strong e) = o.entry ≡ Some e → ⊥
   Leaves _ = Unit {0}
 
   count_says : (t w : ℕ) → Leaves (Count t) → ShowsCounts shape (at_slot t old) w → ShowsCounts shape (at_slot t new) w
   count_says t w leaves says = ⊎_elim
       (λ (f : (at_slot t old ≡ Some o) × (at_slot t new ≡ Some q)).
-      let e = leaves (is_number_some o.slot t (find-passes (in_slot t) old.objects o f.0)) in
-      let was : IsHeader shape o (Some e.0) w = subst (λ m. IsHeader shape o m w) e.1 (subst (λ m. ShowsCounts shape m w) f.0 says) in
-      subst (λ m. ShowsCounts shape m w) (sym f.1) (subst (λ m. IsHeader shape q m w) (sym (r.entry ∙ e.1)) was))
+      let fixed = leaves (is_number_some o.slot t (find-passes (in_slot t) old.objects o f.0)) in
+      subst (λ m. ShowsCounts shape m w) (sym f.1) (inline_lasts shape o q w r.class r.entry fixed (subst (λ m. ShowsCounts shape m w) f.0 says)))
       (λ same. subst (λ m. ShowsCounts shape m w) (sym same) says)
       (at_slot_put t)
 
@@ -122,15 +121,18 @@ module _ (shape : HeapShape) (old new : Heap) (o q : Object) (put : IsPut old.ob
   taken_same : (e : ℕ) → is_entry_taken e new ≡ is_entry_taken e old
   taken_same e = ap (λ cs. list_any (claims_it e) cs || is_some (at_entry e new)) claims ∙ ap (λ b. list_any (claims_it e) old.claims || b) (some_same e)
 
-  link_says : (e w : ℕ) → ShowsLink shape old e w → ShowsLink shape new e w
-  link_says e w f = record {
-    free = ((λ z. taken_same e ∙ f.free.0 z), λ t. f.free.1 (sym (taken_same e) ∙ t));
-    within = f.within;
-    leads = λ u s at slot. ⊎_elim
-        (λ (g : (at_entry e old ≡ Some o) × (at_entry e new ≡ Some q)). let same : q ≡ u = Some-inj (sym g.1 ∙ at) in f.leads o s g.0 (sym r.slot ∙ (ap (λ (z : Object). z.slot) same ∙ slot)))
-        (λ same. f.leads u s (sym same ∙ at) slot)
-        (at_entry_put e);
-  }
+  slot_taken_same : (s : ℕ) → is_slot_taken s new ≡ is_slot_taken s old
+  slot_taken_same s = ⊎_elim
+      (λ (f : (at_slot s old ≡ Some o) × (at_slot s new ≡ Some q)). ap is_some f.1 ∙ sym (ap is_some f.0))
+      (λ same. ap is_some same)
+      (at_slot_put s)
+
+  link_says : (e w : ℕ) → ShowsLink shape (at_entry e old) w → ShowsLink shape (at_entry e new) w
+  link_says e w says = ⊎_elim
+      (λ (f : (at_entry e old ≡ Some o) × (at_entry e new ≡ Some q)).
+      let was : ShowsLink shape (Some o) w = subst (λ m. ShowsLink shape m w) f.0 says in subst (λ m. ShowsLink shape m w) (sym f.1) (subst (λ m. IsLink shape m w) (sym r.slot) was))
+      (λ same. subst (λ m. ShowsLink shape m w) (sym same) says)
+      (at_entry_put e)
 
   holders_says : (k : Kind) (e w : ℕ) → (o.entry ≡ Some e → length (list_of k q) ≡ length (list_of k o)) → ShowsHolders shape k (at_entry e old) w → ShowsHolders shape k (at_entry e new) w
   holders_says k e w same_list says = ⊎_elim
@@ -152,6 +154,8 @@ module _ (shape : HeapShape) (old new : Heap) (o q : Object) (put : IsPut old.ob
   recount_says (Strong e) leaves w says = holders_says kinds.Strong e w (λ is. absurd (leaves is)) says
   recount_says (Unowned e) leaves w says = holders_says kinds.Unowned e w (λ _. ap length r.unowned) says
   recount_says (Weak e) leaves w says = holders_says kinds.Weak e w (λ _. ap length r.weak) says
+  recount_says (SlotBits k) leaves w says = bits_last shape.slots k (λ s. is_slot_taken s old) (λ s. is_slot_taken s new) w (λ s _. slot_taken_same s) says
+  recount_says (EntryBits k) leaves w says = bits_last shape.entries k (λ e. is_entry_taken e old) (λ e. is_entry_taken e new) w (λ e _. taken_same e) says
 
   spot_same : (z : Holder) → is_cell z ≡ true → spot z new ≡ spot z old
   spot_same z c = ap (spot_in z) put.new ∙ (spot-append z put.before put.after o q (holds_same z c) (kind_same z c) ∙ sym (ap (spot_in z) put.old))

@@ -1,5 +1,5 @@
 -- What the words show of everything else, where one object's lists lose or gain holders that are no cells, and where it leaves its slot.
-use Rattle.std.proofs.Common.{◌≡◌, ◌⊎◌, inl, inr, ⊎_elim, ℕ, Bool, true, false, cond, length, Option, Some, None, refl, sym, ap, ◌∙◌, subst}
+use Rattle.std.proofs.Common.{◌≡◌, ◌⊎◌, inl, inr, ⊎_elim, ℕ, ◌/◌, ◌<◌, Bool, true, false, cond, length, Option, Some, None, refl, sym, ap, ◌∙◌, subst}
 use Rattle.std.specs.Prelude.{find, is_some, ◌||◌}
 use Rattle.std.specs.List.{list_any}
 use Rattle.arc_model.specs.declared.event.CellName.TheVariants as cells
@@ -8,18 +8,18 @@ use Rattle.arc_model.specs.declared.shape.Kind.TheVariants as kinds
 use Rattle.arc_model.specs.Shapes.{HeapShape}
 use Rattle.arc_model.specs.Heaps.{Holder, Object, Heap}
 use Rattle.arc_model.specs.Heaps as holders
-use Rattle.arc_model.specs.Holders.{is_in, is_number, in_slot, has_entry, holds, kind_in, list_of, at_slot, at_entry, claims_it, is_entry_taken}
+use Rattle.arc_model.specs.Holders.{is_in, is_number, in_slot, has_entry, holds, kind_in, list_of, at_slot, at_entry, claims_it, is_slot_taken, is_entry_taken}
 use Rattle.arc_model.specs.Cells.{cell, id_of, has_field}
 use Rattle.arc_model.specs.Lookup.{spot, spot_in, is_cell}
 use Rattle.arc_model.specs.SpellingTies.{reference_in, reference_of, reference_to, place_of, name_of}
-use Rattle.arc_model.proofs.Basics.{Some-inj}
 use Rattle.arc_model.proofs.Turns.{IsPut, spot-append}
 use Rattle.arc_model.proofs.Builds.{find-passes}
 use Rattle.arc_rule.specs.Isa.{isa_word_of}
 use Rattle.arc_rule.specs.declared.layout.Place.{Place}
-use Rattle.arc_rule.specs.declared.layout.Place.TheVariants.{Zero, Global, Count, Isa, Next, Field, Link, Strong, Unowned, Weak}
-use Rattle.arc_rule.specs.Shown.{Says, IsHeader, ShowsCounts, ShowsName, ShowsLink, ShowsHolders, cell_word, field_word, field_word_if}
+use Rattle.arc_rule.specs.declared.layout.Place.TheVariants.{Zero, Global, Count, Isa, Next, Field, Link, Strong, Unowned, Weak, SlotBits, EntryBits}
+use Rattle.arc_rule.specs.Shown.{Says, ShowsCounts, ShowsName, ShowsLink, ShowsHolders, cell_word, field_word, field_word_if}
 use Rattle.arc_view.proofs.Words.{find_put}
+use Rattle.arc_view.proofs.Lasting.{IsFixed, inline_lasts, link_lasts, bits_last}
 use Rattle.arc_view.proofs.Advance.{CellKept}
 use Rattle.arc_view.proofs.Put.{is_number_some}
 
@@ -68,14 +68,17 @@ module _ (shape : HeapShape) (old new : Heap) (o q : Object) (put : IsPut old.ob
   IsFound (Count t) = SlotStays t
   IsFound (Isa t) = SlotStays t
   IsFound (Field t f) = SlotStays t
+  IsFound (SlotBits k) = (s : ℕ) → s / 64 ≡ k → SlotStays s
   IsFound _ = Unit {0}
 
   abbrev SameLength : Kind → ℕ → Type 0
   SameLength k e = o.entry ≡ Some e → length (list_of k q) ≡ length (list_of k o)
 
-  -- Which counts the change leaves: an inline word that names the object's entry, and an entry's count of a list that stays as long.
+  -- Which counts the change leaves: an inline word that doesn't depend on the object's lists, and an entry's count of a list that stays as long.
+  -- A link stays, since the object stays in its slot, or leaves one of the shape.
   abbrev pub Lasts : Place → Type 0
-  Lasts (Count t) = o.slot ≡ Some t → (e : ℕ) × (o.entry ≡ Some e)
+  Lasts (Count t) = o.slot ≡ Some t → IsFixed shape o
+  Lasts (Link e) = (q.slot ≡ o.slot) ⊎ ((s : ℕ) → o.slot ≡ Some s → s < shape.slots)
   Lasts (Strong e) = SameLength kinds.Strong e
   Lasts (Unowned e) = SameLength kinds.Unowned e
   Lasts (Weak e) = SameLength kinds.Weak e
@@ -84,9 +87,8 @@ module _ (shape : HeapShape) (old new : Heap) (o q : Object) (put : IsPut old.ob
   count_says : (t w : ℕ) → SlotStays t → Lasts (Count t) → ShowsCounts shape (at_slot t old) w → ShowsCounts shape (at_slot t new) w
   count_says t w found lasts says = ⊎_elim
       (λ (f : (at_slot t old ≡ Some o) × (at_slot t new ≡ Some q)).
-      let e = lasts (is_number_some o.slot t (find-passes (in_slot t) old.objects o f.0)) in
-      let was : IsHeader shape o (Some e.0) w = subst (λ m. IsHeader shape o m w) e.1 (subst (λ m. ShowsCounts shape m w) f.0 says) in
-      subst (λ m. ShowsCounts shape m w) (sym f.1) (subst (λ m. IsHeader shape q m w) (sym (r.entry ∙ e.1)) was))
+      let fixed = lasts (is_number_some o.slot t (find-passes (in_slot t) old.objects o f.0)) in
+      subst (λ m. ShowsCounts shape m w) (sym f.1) (inline_lasts shape o q w r.class r.entry fixed (subst (λ m. ShowsCounts shape m w) f.0 says)))
       (λ same. subst (λ m. ShowsCounts shape m w) (sym same) says)
       found
 
@@ -122,15 +124,16 @@ module _ (shape : HeapShape) (old new : Heap) (o q : Object) (put : IsPut old.ob
       some (inl f) = ap is_some f.1 ∙ sym (ap is_some f.0)
       some (inr same) = ap is_some same
 
-  link_says : (e w : ℕ) → ShowsLink shape old e w → ShowsLink shape new e w
-  link_says e w f = record {
-    free = ((λ z. taken_same e ∙ f.free.0 z), λ t. f.free.1 (sym (taken_same e) ∙ t));
-    within = f.within;
-    leads = λ u s at slot. ⊎_elim
-        (λ (g : (at_entry e old ≡ Some o) × (at_entry e new ≡ Some q)). let same : q ≡ u = Some-inj (sym g.1 ∙ at) in f.leads o s g.0 (r.slot s (ap (λ (z : Object). z.slot) same ∙ slot)))
-        (λ same. f.leads u s (sym same ∙ at) slot)
-        (entry_put e);
-  }
+  pub slot_taken_same : (s : ℕ) → SlotStays s → is_slot_taken s new ≡ is_slot_taken s old
+  slot_taken_same s (inl f) = ap is_some f.1 ∙ sym (ap is_some f.0)
+  slot_taken_same s (inr same) = ap is_some same
+
+  link_says : (e w : ℕ) → Lasts (Link e) → ShowsLink shape (at_entry e old) w → ShowsLink shape (at_entry e new) w
+  link_says e w lasts says = ⊎_elim
+      (λ (f : (at_entry e old ≡ Some o) × (at_entry e new ≡ Some q)).
+      let was : ShowsLink shape (Some o) w = subst (λ m. ShowsLink shape m w) f.0 says in subst (λ m. ShowsLink shape m w) (sym f.1) (link_lasts shape o.slot q.slot w lasts r.slot was))
+      (λ same. subst (λ m. ShowsLink shape m w) (sym same) says)
+      (entry_put e)
 
   holders_says : (k : Kind) (e w : ℕ) → SameLength k e → ShowsHolders shape k (at_entry e old) w → ShowsHolders shape k (at_entry e new) w
   holders_says k e w same_list says = ⊎_elim
@@ -148,10 +151,12 @@ module _ (shape : HeapShape) (old new : Heap) (o q : Object) (put : IsPut old.ob
   relist_says (Isa t) found lasts w says = isa_says t w found says
   relist_says (Next t) found lasts w says = tt
   relist_says (Field t f) found lasts w says = says ∙ sym (field_same t f found)
-  relist_says (Link e) found lasts w says = link_says e w says
+  relist_says (Link e) found lasts w says = link_says e w lasts says
   relist_says (Strong e) found lasts w says = holders_says kinds.Strong e w lasts says
   relist_says (Unowned e) found lasts w says = holders_says kinds.Unowned e w lasts says
   relist_says (Weak e) found lasts w says = holders_says kinds.Weak e w lasts says
+  relist_says (SlotBits k) found lasts w says = bits_last shape.slots k (λ s. is_slot_taken s old) (λ s. is_slot_taken s new) w (λ s at. slot_taken_same s (found s at)) says
+  relist_says (EntryBits k) found lasts w says = bits_last shape.entries k (λ e. is_entry_taken e old) (λ e. is_entry_taken e new) w (λ e _. taken_same e) says
 
   id_same : (m n : Option Object) → Found m n → id_of n ≡ id_of m
   id_same m n (inl f) = ap id_of f.1 ∙ (r.id ∙ sym (ap id_of f.0))

@@ -1,18 +1,22 @@
 -- A new heap, and splitting off passes and notes.
-use Rattle.std.proofs.Common.{◌≡◌, ◌≢◌, ◌⊎◌, inl, inr, ⊎_elim, ℕ, zero, suc, ◌<◌, ◌≤◌, Bool, true, false, List, [], ◌∷◌, ◌++◌, get_or, set, replicate, length, Some, None, refl, sym, ap, ◌∙◌, subst, arith, le_refl}
+use Rattle.std.proofs.Common.{◌≡◌, ◌≢◌, ◌⊎◌, inl, inr, ⊎_elim, ℕ, zero, suc, ◌%◌, ◌<◌, ◌≤◌, eqb, Bool, true, false, List, [], ◌∷◌, ◌++◌, get_or, set, replicate, length, Some, None, refl, sym, ap, ◌∙◌, subst, arith, le_refl}
 use Rattle.std.proofs.lemmas.List.{length-replicate}
+use Rattle.std.proofs.lemmas.Nat.Bits.{bit_at-zero}
 use mathlib.Core.Option.{some, some-injective, some-ne-none}
 use lib.ListN.{get_elem?}
 use Rattle.atomic_table.specs.Table.{Splits, opening}
 use Rattle.atomic_table.proofs.Lists.{at_longer}
 use Rattle.arc_model.specs.Shapes.{HeapShape}
 use Rattle.arc_model.specs.Heaps.{empty}
+use Rattle.arc_model.specs.Holders.{is_slot_taken, is_entry_taken}
 use Rattle.arc_model.specs.History.{History, heap_after, share}
 use Rattle.arc_model.proofs.Basics.{None≢Some, true≢false}
 use Rattle.arc_rule.specs.declared.layout.Place.{Place}
-use Rattle.arc_rule.specs.declared.layout.Place.TheVariants.{Zero, Global, Count, Isa, Next, Field, Link, Strong, Unowned, Weak}
+use Rattle.arc_rule.specs.declared.layout.Place.TheVariants.{Zero, Global, Count, Isa, Next, Field, Link, Strong, Unowned, Weak, SlotBits, EntryBits}
 use Rattle.arc_rule.specs.Places.{extent_of, number, word_count}
+use Rattle.arc_rule.specs.Bits.{is_set}
 use Rattle.arc_rule.specs.Shown.{Says}
+use Rattle.arc_rule.proofs.Bits.{shows_none}
 use Rattle.arc_view.specs.declared.view.Role.TheVariants.{Pass}
 use Rattle.arc_view.specs.declared.view.View.{View}
 use Rattle.arc_view.specs.Views.{StartsWith, within, idle, first_view, Excepts}
@@ -39,20 +43,22 @@ only x v (suc i) e = absurd (some-ne-none v (sym e))
 bare : (shape : HeapShape) (pl : Place) → Says shape empty pl 0
 bare shape Zero = refl
 bare shape (Global g) = refl
-bare shape (Count s) = refl
+bare shape (Count s) = tt
 bare shape (Isa s) = tt
 bare shape (Next s) = tt
 bare shape (Field s f) = refl
-bare shape (Link e) = record { free = ((λ z. refl), λ t. refl); within = omega arith; leads = λ o s at. absurd (None≢Some o at) }
+bare shape (Link e) = tt
 bare shape (Strong e) = tt
 bare shape (Unowned e) = tt
 bare shape (Weak e) = tt
+bare shape (SlotBits k) = shows_none shape.slots k (λ s. is_slot_taken s empty) (λ s. refl)
+bare shape (EntryBits k) = shows_none shape.entries k (λ e. is_entry_taken e empty) (λ e. refl)
 
 pub idle_fits : (shape : HeapShape) (p : ℕ) (seen : History) → WorkFits shape p seen idle
 idle_fits shape p seen = record { owing = λ s e. absurd (None≢Some s e); reaches = λ a e. absurd (None≢Some a e); private = tt; entered = tt }
 
 pub idle_lies : (shape : HeapShape) (h seen : History) (words : List ℕ) → Lying shape h seen words idle
-idle_lies shape h seen words = record { private = tt; access = λ a e. absurd (None≢Some a e) }
+idle_lies shape h seen words = record { private = tt; access = λ a e. absurd (None≢Some a e); naming = λ s e. absurd (None≢Some (record { slot = s; counted = false }) e) }
 
 -- the first pass of a new heap
 pub begins : {S : Type 0} (shape : HeapShape) (words : List ℕ) → IsSized shape → words ≡ replicate (word_count (extent_of shape)) 0 → IsKept shape (opening {S = S} words [] first_view)
@@ -137,7 +143,10 @@ pub access_same : (views : List View) (id : ℕ) (v w : View) → get_elem? view
 access_same views id v w at same apart = access_apart_set views id w (λ b wb j u a ne e ua is. ne (apart j id u v a b e at ua (ap (λ r. r.access) (sym same) ∙ wb) is)) apart
 
 pub glance_fits : (shape : HeapShape) (v : View) → MarkFits shape v.number v.seen (glance v)
-glance_fits shape v = record { later = []; earlier = v.seen; split = refl; at = refl; made = refl; slot = λ s lt is ne. absurd (ne refl); entry = λ e lt is ne. absurd (ne refl) }
+glance_fits shape v = record { later = []; earlier = v.seen; split = refl; at = refl; made = refl; slot = λ s lt is set. absurd (true≢false (sym set ∙ none_set s)); entry = λ e lt is set. absurd (true≢false (sym set ∙ none_set e)) }
+  where
+    none_set : (x : ℕ) → is_set x 0 ≡ false
+    none_set x = ap (λ b. eqb b 1) (bit_at-zero (x % 64))
 
 -- who has no event in the history has none in what was seen
 none_seen : (p : ℕ) (h seen : History) → StartsWith h seen → share h p ≡ [] → share seen p ≡ []

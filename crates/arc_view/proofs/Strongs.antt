@@ -1,4 +1,4 @@
--- Strong up and strong down on an inline word.
+-- What a drop of a strong hand does, on an inline word or in an entry; and lemmas of lists and needs that all counts share.
 use Rattle.arc_rule.specs.Places.{IsPlace}
 use Rattle.arc_view.proofs.Plain.{IsPlain}
 use Rattle.arc_view.specs.Views.{cell_place}
@@ -8,47 +8,48 @@ use Rattle.arc_rule.specs.Shown.{ShowsHolders}
 use Rattle.arc_model.specs.WellFormed.{has_entry_times}
 use Rattle.arc_model.specs.Holders.{has_entry, at_entry}
 use Rattle.arc_model.proofs.Courses.{claim-counts}
-use Rattle.std.proofs.Common.{◌≡◌, ◌≢◌, ◌⊎◌, inl, inr, ℕ, zero, suc, ◌+◌, ◌-◌, ◌<◌, ◌≤◌, ◌==◌, Bool, true, false, cond, List, [], ◌∷◌, ◌++◌, length, Some, None, refl, sym, ap, ◌∙◌, subst, arith, eq-eqb, ne_eqb, length-append, set, le_trans}
-use Rattle.std.specs.Prelude.{slice_get, find, is_some, ◌||◌}
+use Rattle.std.proofs.Common.{◌≡◌, ◌≢◌, ◌⊎◌, inl, ℕ, zero, suc, ◌-◌, ◌<◌, ◌≤◌, ◌==◌, Bool, true, false, cond, List, [], ◌∷◌, ◌++◌, length, Some, None, refl, sym, ap, ◌∙◌, subst, arith, ne_eqb, set}
+use Rattle.std.specs.Prelude.{slice_get, find, is_some, nat_lt, ◌||◌}
 use Rattle.std.proofs.lemmas.Bool.{lt-ltb}
 use Rattle.arc_bits.specs.declared.packing.Inline.{Inline}
 use Rattle.arc_bits.specs.declared.packing.Word.TheVariants.{Counts}
 use Rattle.arc_bits.specs.Words.{counts_word, IsWordOf}
-use Rattle.arc_bits.specs.Moves.{strong_more, strong_less}
+use Rattle.arc_bits.specs.Moves.{strong_less}
 use Rattle.arc_model.specs.declared.event.Act.TheVariants as acts
 use Rattle.arc_model.specs.declared.event.Event.{Event}
-use Rattle.arc_model.specs.declared.event.Origin.TheVariants as origins
 use Rattle.arc_model.specs.declared.shape.Kind.TheVariants as kinds
 use Rattle.arc_model.specs.Shapes.{HeapShape}
 use Rattle.arc_model.specs.Heaps.{Holder, Hand, Object, Heap}
-use Rattle.arc_model.specs.Holders.{same_holder, is_in, is_empty, is_alone, gains, lists, without, holds, kind_in, list_of, list_with, in_slot, at_slot, at_first, is_claimed_by, change, with_list}
+use Rattle.arc_model.specs.Holders.{same_holder, is_in, is_empty, is_alone, without, holds, kind_in, list_of, list_with, at_slot, is_claimed_by, change, with_list}
+use Rattle.arc_model.specs.Cells.{forever_if, is_immortal, strong_holders, holders_of, holders_with}
 use Rattle.arc_model.specs.Needs.{Need, first_failing, needs, passes, has_room, same_bool}
 use Rattle.arc_model.specs.Effects.{ended_if, given_up, entry_left, entry_of_last, entry_to}
-use Rattle.arc_model.specs.WellFormed.{more, held, total}
-use Rattle.arc_model.specs.History.{History, heap_after, next_hand, sight, IsLegal}
+use Rattle.arc_model.specs.WellFormed.{more, total}
+use Rattle.arc_model.specs.History.{History, heap_after, sight, IsLegal}
 use Rattle.arc_model.specs.Lookup.{spot, is_cell}
 use Rattle.arc_model.specs.Heaps as holders
 use Rattle.arc_rule.specs.declared.layout.Place.TheVariants as places
 use Rattle.arc_view.proofs.Held.{hand_listed}
-use Rattle.arc_model.proofs.Basics.{AreMet, None≢Some, Some-inj, true≢false, empty-push}
-use Rattle.arc_model.proofs.Tally.{in-tally, tally-out, gains-present, gains-absent, same-eq}
+use Rattle.arc_model.proofs.Basics.{AreMet, None≢Some, Some-inj, true≢false}
+use Rattle.arc_model.proofs.Tally.{same-eq}
 use Rattle.arc_model.proofs.Turns.{IsPut, put-found, place-put}
-use Rattle.arc_model.proofs.Builds.{total-holds}
 use Rattle.arc_model.proofs.Courses.{well_formed}
 use Rattle.arc_model.proofs.Others.{lookup_after}
 use Rattle.arc_rule.specs.declared.layout.Place.{Place}
 use Rattle.arc_rule.specs.declared.layout.Place.TheVariants.{Count}
 use Rattle.arc_rule.specs.Places.{extent_of, number}
-use Rattle.arc_rule.specs.Shown.{Says, ShowsBut, IsHeader, ShowsCounts, counts_in}
+use Rattle.arc_rule.specs.Shown.{Says, ShowsBut, IsHeader, IsInline, ShowsCounts, counts_in}
 use Rattle.arc_view.specs.declared.view.View.{View}
 use Rattle.arc_view.specs.Views.{Excepts}
 use Rattle.arc_view.specs.Holding.{At}
 use Rattle.arc_view.proofs.Advance.{CellKept, Good, slot_is}
+pub use Rattle.arc_view.proofs.Words.{unique_found, slot_found}
 use Rattle.arc_view.proofs.Words.{word_changes}
-use Rattle.arc_view.proofs.Bridge.{Before, next_same}
+use Rattle.arc_view.proofs.Bridge.{Before}
 use Rattle.arc_view.proofs.Classes.{in_shape_stays}
 use Rattle.arc_view.proofs.Own.{work_own}
-use Rattle.arc_view.proofs.Counting.{Counted, header_counts}
+use Rattle.arc_view.proofs.Lasting.{immortal_same, header_inline}
+use Rattle.arc_view.proofs.Counting.{Counted, counts_mortal, inline_counts, strong_mortal}
 use Rattle.arc_view.proofs.Plain.{plain_count, plain_good}
 use Rattle.arc_view.proofs.Put.{IsRecount, Leaves, recount_says, recount_cells}
 
@@ -56,24 +57,6 @@ use Rattle.arc_view.proofs.Put.{IsRecount, Leaves, recount_says, recount_cells}
 pub none_fails : (ns : List Need) → AreMet ns → first_failing ns ≡ None
 none_fails [] m = refl
 none_fails (n ∷ ns) m = ap (λ c. cond c (first_failing ns) (Some n.1)) m.0 ∙ none_fails ns m.1
-
--- the one object that passes, where no more do
-pub unique_found : (test : Object → Bool) (os : List Object) (i : ℕ) (o : Object) → total (λ r. more (test r) zero) os ≤ 1 → slice_get os i ≡ Some o → test o ≡ true → find test os ≡ Some o
-unique_found test [] i o once at passes = absurd (None≢Some o at)
-unique_found test (r ∷ os) zero o once at passes = ap (λ b. cond b (Some r) (find test os)) (ap test (Some-inj at) ∙ passes) ∙ at
-unique_found test (r ∷ os) (suc i) o once at passes = go (test r) refl once (unique_found test os i o)
-  where
-    some_at : (qs : List Object) (j : ℕ) → slice_get qs j ≡ Some o → 1 ≤ total (λ r. more (test r) zero) qs
-    some_at [] j at = absurd (None≢Some o at)
-    some_at (q ∷ qs) zero at = let e : more (test q) zero ≡ suc zero = ap (λ b. more b zero) (ap test (Some-inj at) ∙ passes) in omega (arith, e)
-    some_at (q ∷ qs) (suc j) at = let ih = some_at qs j at in omega (arith, ih)
-
-    go : (b : Bool) → test r ≡ b → more (test r) zero + total (λ r. more (test r) zero) os ≤ 1 → (total (λ r. more (test r) zero) os ≤ 1 → slice_get os i ≡ Some o → test o ≡ true → find test os ≡ Some o) → cond (test r) (Some r) (find test os) ≡ Some o
-    go true is once ih = let e : more (test r) zero ≡ suc zero = ap (λ b. more b zero) is in let later = some_at os i at in absurd (omega (arith, e, later, once))
-    go false is once ih = ap (λ b. cond b (Some r) (find test os)) is ∙ ih (let e : more (test r) zero ≡ zero = ap (λ b. more b zero) is in omega (arith, e, once)) at passes
-
-pub slot_found : (shape : HeapShape) (h : History) (i s : ℕ) (o : Object) → IsLegal shape h → At (heap_after h) i o → o.slot ≡ Some s → at_slot s (heap_after h) ≡ Some o
-slot_found shape h i s o legal at slot = unique_found (in_slot s) (heap_after h).objects i o ((well_formed shape h legal).slots s) at (slot_is o.slot s slot)
 
 pub entry_found : (shape : HeapShape) (h : History) (i e : ℕ) (o : Object) → IsLegal shape h → At (heap_after h) i o → o.entry ≡ Some e → at_entry e (heap_after h) ≡ Some o
 entry_found shape h i e o legal at entry = unique_found (has_entry e) (heap_after h).objects i o (let once = (well_formed shape h legal).entries e in omega (arith, once)) at (slot_is o.entry e entry)
@@ -100,14 +83,15 @@ pub put_there : (os rest : List Object) (o q : Object) → IsPut os rest o q →
 put_there os rest o q put = place-put rest os q o (record { before = put.before; after = put.after; old = put.new; new = put.old })
 
 -- holders that are no cells come and go
-no_hand : (z : Holder) (p k : ℕ) → is_cell z ≡ true → same_holder z (Hand p k) ≡ false
+pub no_hand : (z : Holder) (p k : ℕ) → is_cell z ≡ true → same_holder z (Hand p k) ≡ false
 no_hand (Hand q n) p k h = absurd (true≢false (sym h))
 no_hand (holders.Field o f) p k h = refl
 no_hand (holders.Global g) p k h = refl
 no_hand holders.Strongs p k h = refl
 no_hand holders.Unowneds p k h = refl
+no_hand holders.Forever p k h = refl
 
-in_push : (z y : Holder) (xs : List Holder) → same_holder z y ≡ false → is_in z (xs ++ y ∷ []) ≡ is_in z xs
+pub in_push : (z y : Holder) (xs : List Holder) → same_holder z y ≡ false → is_in z (xs ++ y ∷ []) ≡ is_in z xs
 in_push z y [] h = ap (λ b. b || false) h
 in_push z y (x ∷ xs) h = ap (λ b. same_holder z x || b) (in_push z y xs h)
 
@@ -127,7 +111,7 @@ length_without x (w ∷ ws) h = go (same_holder x w) h (length_without x ws)
     go true h ih = refl
     go false h ih = ap suc (ih h)
 
-some_length : (x : Holder) (xs : List Holder) → is_in x xs ≡ true → 1 ≤ length xs
+pub some_length : (x : Holder) (xs : List Holder) → is_in x xs ≡ true → 1 ≤ length xs
 some_length x [] h = absurd (true≢false (sym h))
 some_length x (w ∷ ws) h = omega arith
 
@@ -144,6 +128,21 @@ pub alone_one : (xs : List Holder) → is_alone xs ≡ (length xs == 1)
 alone_one [] = refl
 alone_one (x ∷ []) = refl
 alone_one (x ∷ y ∷ ys) = sym (ne_eqb (suc (suc (length ys))) 1 (λ e. omega (arith, e)))
+
+many_alone : (xs : List Holder) → 1 ≤ length xs → is_alone (xs ++ holders.Forever ∷ []) ≡ false
+many_alone [] h = absurd (omega (arith, h))
+many_alone (x ∷ []) h = refl
+many_alone (x ∷ y ∷ ys) h = refl
+
+pub room_below : (shape : HeapShape) (o : Object) (xs : List Holder) → length xs < shape.caps.wide → has_room shape o xs ≡ true
+room_below shape o xs lt = ap (λ b. b || is_immortal shape o) (lt-ltb (length xs) shape.caps.wide lt)
+
+pub room_forever : (shape : HeapShape) (o : Object) (xs : List Holder) → is_immortal shape o ≡ true → has_room shape o xs ≡ true
+room_forever shape o xs forever = ap (λ b. nat_lt (length xs) shape.caps.wide || b) forever ∙ either_true (nat_lt (length xs) shape.caps.wide)
+  where
+    either_true : (b : Bool) → (b || true) ≡ true
+    either_true true = refl
+    either_true false = refl
 
 pub same_true : (b : Bool) → same_bool b b ≡ true
 same_true true = refl
@@ -188,61 +187,6 @@ module _ (shape : HeapShape) (v : View) (h : History) (b : Before shape v h) (k 
   list_is : list_with z o ≡ o.strong
   list_is = ap (λ kk. list_of kk o) kind_is
 
-  held_once : (rest : List Object) (q : Object) → IsPut heap.objects rest o q → held z o ≤ 1
-  held_once rest q put = le_trans (total-holds (held z) heap.objects rest o q put) ((well_formed shape h b.legal).once z refl)
-
-  not_unowned : held z o ≤ 1 → is_in z o.unowned ≡ false
-  not_unowned once = let t = in-tally z o.strong listed in tally-out z o.unowned (omega (arith, t, once))
-
-  not_weak : held z o ≤ 1 → is_in z o.weak ≡ false
-  not_weak once = let t = in-tally z o.strong listed in tally-out z o.weak (omega (arith, t, once))
-
-  -- strong up
-  abbrev n : ℕ
-  n = next_hand v.number v.seen
-
-  abbrev y : Holder
-  y = Hand v.number n
-
-  abbrev copied : Event
-  copied = record { thread = v.number; act = acts.Copy (origins.Hand k) n }
-
-  abbrev up : Object
-  up = record o { strong = o.strong ++ y ∷ [] }
-
-  up_put : IsPut heap.objects (heap_after (copied ∷ h)).objects o up
-  up_put =
-      let put = put-found (holds z) (lists (gains z y)) heap.objects o found in
-      let once = held_once (at_first (holds z) (lists (gains z y)) heap.objects) (lists (gains z y) o) put in
-      subst (IsPut heap.objects (at_first (holds z) (lists (gains z y)) heap.objects) o)
-      (λ j. record o { strong = gains-present z y o.strong listed j; unowned = gains-absent z y o.unowned (not_unowned once) j; weak = gains-absent z y o.weak (not_weak once) j }) put
-
-  up_recount : IsRecount o up
-  up_recount = record { id = refl; class = refl; slot = refl; entry = refl; unowned = refl; weak = refl; strong = λ w cell. in_push w y o.strong (no_hand w v.number n cell) }
-
-  up_legal : length o.strong < shape.caps.wide → IsLegal shape (copied ∷ h)
-  up_legal room = (
-    none_fails (needs shape (sight v.number h) v.number copied.act) (
-      ap is_some found,
-      (
-        eq-eqb n (next_hand v.number h) (next_same shape v h b),
-        (ap (passes (λ r. has_room shape.caps.wide (list_with z r))) found ∙ (ap (has_room shape.caps.wide) list_is ∙ lt-ltb (length o.strong) shape.caps.wide room), tt),
-      ),
-    ),
-    b.legal,
-  )
-
-  -- on whatever word counts the list
-  copy_at : (pl : Place) (x w : ℕ) → IsPlain heap pl → IsPlace (extent_of shape) pl → length o.strong < shape.caps.wide → v.working.owes ≡ None
-      → ((q : Place) → q ≢ pl → Leaves shape heap (heap_after (copied ∷ h)) o up up_put refl up_recount q) → Says shape (heap_after (copied ∷ h)) pl w
-      → Good shape v h (number (extent_of shape) pl) x w (Some (acts.Copy (origins.Hand k) n)) v.working
-  copy_at pl x w plain inside room owes elsewhere says = plain_good shape v h b pl plain inside x w (Some (acts.Copy (origins.Hand k) n)) v.working refl refl (up_legal room)
-      (in_shape_stays shape copied h (up_legal room) refl refl refl b.in_shape)
-      (λ cell there. recount_cells shape heap (heap_after (copied ∷ h)) o up up_put refl up_recount cell)
-      (work_own shape copied h v.working (up_legal room) refl (λ m claim. claim) (inr (λ m e. true≢false (sym e))) owes b.work)
-      (λ Others ws shown. word_changes shape (λ q. Excepts v.working q ⊎ Others q) (λ q. Excepts v.working q ⊎ Others q) heap (heap_after (copied ∷ h)) ws pl w inside shown (λ _. says) (λ q ne notE e. notE e)
-      (λ q iq ne _ u t. recount_says shape heap (heap_after (copied ∷ h)) o up up_put refl up_recount q (elsewhere q ne) u t))
-
   -- strong down
   module _ (last : Bool) where
     abbrev given : Event
@@ -267,19 +211,19 @@ module _ (shape : HeapShape) (v : View) (h : History) (b : Before shape v h) (k 
     shorter : suc (length down.strong) ≡ length o.strong
     shorter = ap (λ xs. suc (length xs)) (drop_strong v.number z last o) ∙ length_without z o.strong listed
 
-    down_legal : last ≡ is_alone o.strong → IsLegal shape (given ∷ h)
+    down_legal : last ≡ is_alone (strong_holders shape o) → IsLegal shape (given ∷ h)
     down_legal last_is = (
       none_fails (needs shape (sight v.number h) v.number given.act) (
         ap is_some found,
-        (ap (passes (λ r. same_bool last (is_alone (list_with z r)))) found ∙ (ap (λ xs. same_bool last (is_alone xs)) list_is ∙ (ap (same_bool last) (sym last_is) ∙ same_true last)), tt),
+        (ap (passes (λ r. same_bool last (is_alone (holders_with shape z r)))) found ∙ (ap (λ kk. same_bool last (is_alone (holders_of shape kk o))) kind_is ∙ (ap (same_bool last) (sym last_is) ∙ same_true last)), tt),
       ),
       b.legal,
     )
 
-    drop_at : (pl : Place) (x w : ℕ) → IsPlain heap pl → IsPlace (extent_of shape) pl → last ≡ is_alone o.strong → v.working.owes ≡ None → v.working.access ≡ None
+    drop_at : (pl : Place) (x w : ℕ) → IsPlain heap pl → IsPlace (extent_of shape) pl → last ≡ is_alone (strong_holders shape o) → v.working.owes ≡ None → v.working.access ≡ None
         → ((q : Place) → q ≢ pl → Leaves shape heap fewer o down down_put refl down_recount q) → Says shape fewer pl w
         → Good shape v h (number (extent_of shape) pl) x w (Some (acts.Drop k last)) v.working
-    drop_at pl x w plain inside last_is owes no_access elsewhere says = plain_good shape v h b pl plain inside x w (Some (acts.Drop k last)) v.working refl refl (down_legal last_is)
+    drop_at pl x w plain inside last_is owes no_access elsewhere says = plain_good shape v h b pl plain inside x w (Some (acts.Drop k last)) v.working refl owes refl (down_legal last_is)
         (in_shape_stays shape given h (down_legal last_is) refl refl refl b.in_shape)
         (λ cell there. subst (λ g. CellKept shape heap g cell) heap_is (recount_cells shape heap fewer o down down_put refl down_recount cell))
         (work_own shape given h v.working (down_legal last_is) refl (λ m claim. ap (is_claimed_by v.number m) (sym heap_is) ∙ claim) (inl no_access) owes b.work)
@@ -287,14 +231,8 @@ module _ (shape : HeapShape) (v : View) (h : History) (b : Before shape v h) (k 
         (word_changes shape (λ q. Excepts v.working q ⊎ Others q) (λ q. Excepts v.working q ⊎ Others q) heap fewer ws pl w inside shown (λ _. says) (λ q ne notE e. notE e)
         (λ q iq ne _ u t. recount_says shape heap fewer o down down_put refl down_recount q (elsewhere q ne) u t)))
 
-  -- the object has no entry, and its inline word shows these counts
-  module _ (s : ℕ) (c : Inline) (x : ℕ) (slot : o.slot ≡ Some s) (lt : s < shape.slots) (word : IsWordOf (Counts c) x) (live : c.deiniting ≡ false) (says : Says shape (heap_after h) (Count s) x) where
-    counted : Counted shape o c
-    counted = header_counts shape o c x b.sized (subst (λ m. ShowsCounts shape m x) (slot_found shape h i s o b.legal here slot) says) word
-
-    extra : length o.strong - 1 ≡ c.strong_extra
-    extra = ap (λ (d : Inline). d.strong_extra) counted.counts
-
+  -- the object has no entry: its inline word alone depends on the list
+  module _ (s : ℕ) (slot : o.slot ≡ Some s) (unentered : o.entry ≡ None) where
     elsewhere : (pl : Place) → pl ≢ Count s → (new : Heap) (q : Object) (put : IsPut heap.objects new.objects o q) (claims : new.claims ≡ heap.claims) (r : IsRecount o q) → Leaves shape heap new o q put claims r pl
     elsewhere places.Zero ne new q put claims r = tt
     elsewhere (places.Global g) ne new q put claims r = tt
@@ -303,36 +241,51 @@ module _ (shape : HeapShape) (v : View) (h : History) (b : Before shape v h) (k 
     elsewhere (places.Next t) ne new q put claims r = tt
     elsewhere (places.Field t f) ne new q put claims r = tt
     elsewhere (places.Link e) ne new q put claims r = tt
-    elsewhere (places.Strong e) ne new q put claims r = λ is. None≢Some e (sym counted.entry ∙ is)
+    elsewhere (places.Strong e) ne new q put claims r = λ is. None≢Some e (sym unentered ∙ is)
     elsewhere (places.Unowned e) ne new q put claims r = tt
     elsewhere (places.Weak e) ne new q put claims r = tt
+    elsewhere (places.SlotBits e) ne new q put claims r = tt
+    elsewhere (places.EntryBits e) ne new q put claims r = tt
+
+    down_slot : (last : Bool) → IsLegal shape (given last ∷ h) → at_slot s (fewer last) ≡ Some (down last)
+    down_slot last legal = let t = put_there heap.objects (fewer last).objects o (down last) (down_put last) in
+        ap (at_slot s) (heap_is last) ∙ slot_found shape (given last ∷ h) t.0 s (down last) legal (ap (λ (g : Heap). slice_get g.objects t.0) (sym (heap_is last)) ∙ t.1) ((down_recount last).slot ∙ slot)
+
+  -- an immortal object: its inline word says so, and stays
+  module _ (s x : ℕ) (slot : o.slot ≡ Some s) (lt : s < shape.slots) (one : x ≡ 1) (forever : is_immortal shape o ≡ true) (owes : v.working.owes ≡ None) where
+    immortal_none : o.entry ≡ None
+    immortal_none = ((well_formed shape h b.legal).immortal i o here forever).1
+
+    forever_says : (new : Heap) (q : Object) → IsRecount o q → at_slot s new ≡ Some q → Says shape new (Count s) x
+    forever_says new q r in_it = subst (λ m. ShowsCounts shape m x) (sym in_it) (subst (λ b. IsInline b shape q x) (sym (immortal_same shape o q r.class ∙ forever)) one)
+
+    pub drop_forever_good : v.working.access ≡ None → Good shape v h (number (extent_of shape) (Count s)) x x (Some (acts.Drop k false)) v.working
+    drop_forever_good no_access =
+        let last_is : false ≡ is_alone (strong_holders shape o) = sym (ap (λ b. is_alone (o.strong ++ forever_if b)) forever ∙ many_alone o.strong some) in
+        drop_at false (Count s) x x (plain_count heap s) lt last_is owes no_access (λ q ne. elsewhere s slot immortal_none q ne (fewer false) (down false) (down_put false) refl (down_recount false))
+        (forever_says (fewer false) (down false) (down_recount false) (down_slot s slot immortal_none false (down_legal false last_is)))
+
+  -- the object has no entry, and its inline word shows these counts
+  module _ (s : ℕ) (c : Inline) (x : ℕ) (slot : o.slot ≡ Some s) (lt : s < shape.slots) (word : IsWordOf (Counts c) x) (live : c.deiniting ≡ false) (says : Says shape (heap_after h) (Count s) x) where
+    inline : IsInline (is_immortal shape o) shape o x
+    inline = subst (λ m. ShowsCounts shape m x) (slot_found shape h i s o b.legal here slot) says
+
+    mortal : is_immortal shape o ≡ false
+    mortal = counts_mortal shape o c x inline word
+
+    counted : Counted shape o c
+    counted = inline_counts shape o c x b.sized inline word
+
+    extra : length o.strong - 1 ≡ c.strong_extra
+    extra = ap (λ (d : Inline). d.strong_extra) counted.counts
 
     counts_say : (new : Heap) (q : Object) (w : ℕ) → IsRecount o q → at_slot s new ≡ Some q → IsHeader shape q None w → Says shape new (Count s) w
-    counts_say new q w r in_it header = subst (λ m. ShowsCounts shape m w) (sym in_it) (subst (λ m. IsHeader shape q m w) (sym (r.entry ∙ counted.entry)) header)
-
-    module _ (room : c.strong_extra < shape.caps.strong) (owes : v.working.owes ≡ None) where
-      fits_wide : length o.strong < shape.caps.wide
-      fits_wide = let cap = b.sized.caps_fit.wide_fits.0 in omega (arith, extra, some, room, cap)
-
-      up_counts : counts_in up ≡ strong_more c
-      up_counts = λ j. record {
-        strong_extra = (let e : length (o.strong ++ y ∷ []) - 1 ≡ c.strong_extra + 1 = omega (arith, extra, some, length-append o.strong (y ∷ [])) in e) j;
-        unowned = ap (λ (d : Inline). d.unowned) counted.counts j;
-        deiniting = (empty-push y o.strong ∙ sym live) j;
-      }
-
-      up_header : IsHeader shape up None (counts_word (strong_more c))
-      up_header = (ap counts_word (sym up_counts), omega (arith, extra, some, room, length-append o.strong (y ∷ [])), counted.unowned_cap)
-
-      up_slot : at_slot s (heap_after (copied ∷ h)) ≡ Some up
-      up_slot = let t = put_there heap.objects (heap_after (copied ∷ h)).objects o up up_put in slot_found shape (copied ∷ h) t.0 s up (up_legal fits_wide) t.1 slot
-
-      pub copy_good : Good shape v h (number (extent_of shape) (Count s)) x (counts_word (strong_more c)) (Some (acts.Copy (origins.Hand k) n)) v.working
-      copy_good = copy_at (Count s) x (counts_word (strong_more c)) (plain_count heap s) lt fits_wide owes (λ q ne. elsewhere q ne (heap_after (copied ∷ h)) up up_put refl up_recount) (counts_say (heap_after (copied ∷ h)) up (counts_word (strong_more c)) up_recount up_slot up_header)
+    counts_say new q w r in_it header = subst (λ m. ShowsCounts shape m w) (sym in_it)
+        (header_inline shape q w (immortal_same shape o q r.class ∙ mortal) (subst (λ m. IsHeader shape q m w) (sym (r.entry ∙ counted.entry)) header))
 
     module _ (last : Bool) (is_last : last ≡ (c.strong_extra == 0)) (owes : v.working.owes ≡ None) (no_access : v.working.access ≡ None) where
-      last_is : last ≡ is_alone o.strong
-      last_is = is_last ∙ (ap (λ e. e == 0) (sym extra) ∙ sym (alone_length o.strong some))
+      last_is : last ≡ is_alone (strong_holders shape o)
+      last_is = is_last ∙ (ap (λ e. e == 0) (sym extra) ∙ (sym (alone_length o.strong some) ∙ sym (ap is_alone (strong_mortal shape o mortal))))
 
       down_counts : counts_in (down last) ≡ strong_less c
       down_counts = by c.strong_extra refl
@@ -359,12 +312,9 @@ module _ (shape : HeapShape) (v : View) (h : History) (b : Before shape v h) (k 
       down_header : IsHeader shape (down last) None (counts_word (strong_less c))
       down_header = (ap counts_word (sym down_counts), (let cap = counted.strong_cap in omega (arith, shorter last, cap)), subst (λ xs. length xs ≤ shape.caps.unowned) (sym (down_recount last).unowned) counted.unowned_cap)
 
-      down_slot : at_slot s (fewer last) ≡ Some (down last)
-      down_slot = let t = put_there heap.objects (fewer last).objects o (down last) (down_put last) in
-          ap (at_slot s) (heap_is last) ∙ slot_found shape (given last ∷ h) t.0 s (down last) (down_legal last last_is) (ap (λ (g : Heap). slice_get g.objects t.0) (sym (heap_is last)) ∙ t.1) ((down_recount last).slot ∙ slot)
-
       pub drop_good : Good shape v h (number (extent_of shape) (Count s)) x (counts_word (strong_less c)) (Some (acts.Drop k last)) v.working
-      drop_good = drop_at last (Count s) x (counts_word (strong_less c)) (plain_count heap s) lt last_is owes no_access (λ q ne. elsewhere q ne (fewer last) (down last) (down_put last) refl (down_recount last)) (counts_say (fewer last) (down last) (counts_word (strong_less c)) (down_recount last) down_slot down_header)
+      drop_good = drop_at last (Count s) x (counts_word (strong_less c)) (plain_count heap s) lt last_is owes no_access (λ q ne. elsewhere s slot counted.entry q ne (fewer last) (down last) (down_put last) refl (down_recount last))
+          (counts_say (fewer last) (down last) (counts_word (strong_less c)) (down_recount last) (down_slot s slot counted.entry last (down_legal last last_is)) down_header)
 
   -- the object has an entry, whose strong word counts the list
   module _ (e x : ℕ) (entry : o.entry ≡ Some e) (lt : e < shape.entries) (says : Says shape (heap_after h) (places.Strong e) x) where
@@ -374,7 +324,7 @@ module _ (shape : HeapShape) (v : View) (h : History) (b : Before shape v h) (k 
     elsewhere_entry : (pl : Place) → pl ≢ places.Strong e → (new : Heap) (q : Object) (put : IsPut heap.objects new.objects o q) (claims : new.claims ≡ heap.claims) (r : IsRecount o q) → Leaves shape heap new o q put claims r pl
     elsewhere_entry places.Zero ne new q put claims r = tt
     elsewhere_entry (places.Global g) ne new q put claims r = tt
-    elsewhere_entry (Count t) ne new q put claims r = λ is. (e, entry)
+    elsewhere_entry (Count t) ne new q put claims r = λ is. inl (e, entry)
     elsewhere_entry (places.Isa t) ne new q put claims r = tt
     elsewhere_entry (places.Next t) ne new q put claims r = tt
     elsewhere_entry (places.Field t f) ne new q put claims r = tt
@@ -382,6 +332,16 @@ module _ (shape : HeapShape) (v : View) (h : History) (b : Before shape v h) (k 
     elsewhere_entry (places.Strong f) ne new q put claims r = λ is. ne (ap places.Strong (Some-inj (sym is ∙ entry)))
     elsewhere_entry (places.Unowned f) ne new q put claims r = tt
     elsewhere_entry (places.Weak f) ne new q put claims r = tt
+    elsewhere_entry (places.SlotBits f) ne new q put claims r = tt
+    elsewhere_entry (places.EntryBits f) ne new q put claims r = tt
+
+    -- an immortal object has no entry
+    entry_mortal : is_immortal shape o ≡ false
+    entry_mortal = by (is_immortal shape o) refl
+      where
+        by : (b : Bool) → is_immortal shape o ≡ b → b ≡ false
+        by true is = absurd (None≢Some e (sym ((well_formed shape h b.legal).immortal i o here is).1 ∙ entry))
+        by false is = refl
 
     plain_entry : IsPlain heap (places.Strong e)
     plain_entry = record { unowned = λ q claim. entry_unclaimed shape h i e q o b.legal here entry claim; cell = no_cell }
@@ -390,37 +350,11 @@ module _ (shape : HeapShape) (v : View) (h : History) (b : Before shape v h) (k 
         no_cell (cells.Field t f) e = cc
         no_cell (cells.Global g) e = cc
 
-    pub copy_entry_good : x < shape.caps.wide → v.working.owes ≡ None → Good shape v h (number (extent_of shape) (places.Strong e)) x (suc x) (Some (acts.Copy (origins.Hand k) n)) v.working
-    copy_entry_good room owes =
-        let fits : length o.strong < shape.caps.wide = subst (λ m. m < shape.caps.wide) entry_says.0 room in
-        let t = put_there heap.objects (heap_after (copied ∷ h)).objects o up up_put in
-        copy_at (places.Strong e) x (suc x) plain_entry lt fits owes (λ q ne. elsewhere_entry q ne (heap_after (copied ∷ h)) up up_put refl up_recount)
-        (subst (λ m. ShowsHolders shape kinds.Strong m (suc x)) (sym (entry_found shape (copied ∷ h) t.0 e up (up_legal fits) t.1 entry)) ((let long = entry_says.0 in omega (arith, long, length-append o.strong (y ∷ []))), omega (arith, room)))
-
     pub drop_entry_good : (w : ℕ) → x ≡ suc w → v.working.owes ≡ None → v.working.access ≡ None → Good shape v h (number (extent_of shape) (places.Strong e)) x w (Some (acts.Drop k (x == 1))) v.working
     drop_entry_good w is owes no_access =
         let last : Bool = x == 1 in
-        let last_is : last ≡ is_alone o.strong = one_left x (length o.strong) entry_says.0 some ∙ sym (alone_length o.strong some) in
+        let last_is : last ≡ is_alone (strong_holders shape o) = one_left x (length o.strong) entry_says.0 some ∙ (sym (alone_length o.strong some) ∙ sym (ap is_alone (strong_mortal shape o entry_mortal))) in
         let t = put_there heap.objects (fewer last).objects o (down last) (down_put last) in
         let there = ap (at_entry e) (heap_is last) ∙ entry_found shape (given last ∷ h) t.0 e (down last) (down_legal last last_is) (ap (λ (g : Heap). slice_get g.objects t.0) (sym (heap_is last)) ∙ t.1) ((down_recount last).entry ∙ entry) in
         drop_at last (places.Strong e) x w plain_entry lt last_is owes no_access (λ q ne. elsewhere_entry q ne (fewer last) (down last) (down_put last) refl (down_recount last))
         (subst (λ m. ShowsHolders shape kinds.Strong m w) (sym there) ((let long = entry_says.0 in omega (arith, long, is, shorter last)), (let cap = entry_says.1 in omega (arith, cap, is))))
-
-    -- the entry's strong count stands at its greatest: one more is refused
-    abbrev refused : Event
-    refused = record { thread = v.number; act = acts.CountFull kinds.Strong (origins.Hand k) }
-
-    pub count_full_good : x ≡ shape.caps.wide → v.working.owes ≡ None → Good shape v h (number (extent_of shape) (places.Strong e)) x x (Some (acts.CountFull kinds.Strong (origins.Hand k))) v.working
-    count_full_good is owes =
-        let legal : IsLegal shape (refused ∷ h) = (
-          none_fails (needs shape (sight v.number h) v.number refused.act) (
-            ap is_some found,
-            (ap (passes (λ r. length r.strong == shape.caps.wide)) found ∙ eq-eqb (length o.strong) shape.caps.wide (sym entry_says.0 ∙ is), tt),
-          ),
-          b.legal,
-        ) in
-        plain_good shape v h b (places.Strong e) plain_entry lt x x (Some refused.act) v.working refl refl legal
-        (in_shape_stays shape refused h legal refl refl refl b.in_shape)
-        (λ c there. record { says = λ w t. t; owner = refl; refers = refl })
-        (work_own shape refused h v.working legal refl (λ m claim. claim) (inr (λ m e. true≢false (sym e))) owes b.work)
-        (λ Others ws shown. word_changes shape (λ q. Excepts v.working q ⊎ Others q) (λ q. Excepts v.working q ⊎ Others q) heap heap ws (places.Strong e) x lt shown (λ _. says) (λ q _ notF e. notF e) (λ q iq _ _ w t. t))

@@ -19,14 +19,14 @@ use Rattle.arc_model.specs.declared.shape.RefShape.{RefShape}
 use Rattle.arc_model.specs.Shapes.{HeapShape}
 use Rattle.arc_model.specs.Heaps.{Holder, Hand, Object, Heap}
 use Rattle.arc_model.specs.Heaps as holders
-use Rattle.arc_model.specs.Holders.{same_holder, is_in, is_empty, is_number, lists, renamed, holds, kind_in, list_of, in_slot, has_entry, held_by, at_slot, at_entry, at_first, is_claimed_by, claims_it, is_entry_taken}
-use Rattle.arc_model.specs.Cells.{cell, id_of, has_field, field_shape, is_kind, same_kind}
+use Rattle.arc_model.specs.Holders.{same_holder, is_in, is_empty, is_number, lists, renamed, holds, kind_in, list_of, in_slot, has_entry, held_by, at_slot, at_entry, at_first, is_claimed_by, claims_it, is_slot_taken, is_entry_taken}
+use Rattle.arc_model.specs.Cells.{cell, id_of, is_immortal, has_field, field_shape, is_kind, same_kind}
 use Rattle.arc_model.specs.Effects.{put_in, taken_out}
 use Rattle.arc_model.specs.Needs.{needs, passes, puts, takes, same_bool}
 use Rattle.arc_model.specs.History.{History, heap_after, next_hand, sight, IsLegal}
 use Rattle.arc_model.specs.Lookup.{Spot, spot, spot_in, further, hand_spot}
 use Rattle.arc_model.specs.SpellingTies.{reference_in, reference_of, reference_to, place_of, name_of}
-use Rattle.arc_model.proofs.Basics.{None≢Some, Some-inj, in-not_empty}
+use Rattle.arc_model.proofs.Basics.{None≢Some, Some-inj, in-strong}
 use Rattle.arc_model.proofs.Tally.{no, same-eq, same-refl}
 use Rattle.arc_model.proofs.Stages.{live-facts}
 use Rattle.arc_model.proofs.Courses.{well_formed}
@@ -40,13 +40,14 @@ use Rattle.arc_view.specs.Built.{IsSilent}
 use Rattle.arc_view.specs.Kinds.{loaded_act, working_loaded}
 use Rattle.arc_rule.specs.declared.layout.Place.{Place}
 use Rattle.arc_rule.specs.declared.layout.Place.TheVariants as places
-use Rattle.arc_rule.specs.Shown.{Says, IsHeader, ShowsCounts, ShowsName, ShowsLink, ShowsHolders, cell_word, counts_in, field_word, field_word_if}
+use Rattle.arc_rule.specs.Shown.{Says, IsHeader, IsInline, ShowsCounts, ShowsName, IsLink, ShowsLink, ShowsHolders, cell_word, counts_in, field_word, field_word_if}
 use Rattle.arc_view.specs.declared.view.View.{View}
 use Rattle.arc_view.specs.Views.{cell_place, private_words, Excepts}
 use Rattle.arc_view.specs.Holding.{At, HasHand, Owns, heap_of}
 use Rattle.arc_view.specs.Admission.{IsPut}
 use Rattle.arc_view.proofs.Held.{held_stays, strong≢weak}
 use Rattle.arc_view.specs.Rule.{FitsCell, InShape}
+use Rattle.arc_view.proofs.Lasting.{immortal_same, bits_last}
 use Rattle.arc_view.proofs.Words.{number_same, word_changes}
 use Rattle.arc_view.proofs.Within.{within_after}
 use Rattle.arc_view.proofs.Advance.{CellKept, Good, lies_stay}
@@ -114,6 +115,7 @@ other_hand g (holders.Field o f) p k c = refl
 other_hand g (holders.Global n) p k c = refl
 other_hand g holders.Strongs p k c = refl
 other_hand g holders.Unowneds p k c = refl
+other_hand g holders.Forever p k c = refl
 
 other_global : (g : ℕ) (z : Holder) → is_other g z ≡ true → same_holder z (holders.Global g) ≡ false
 other_global g (Hand q n) c = refl
@@ -125,6 +127,7 @@ other_global g (holders.Global n) c = go (n == g) c
     go false e = refl
 other_global g holders.Strongs c = refl
 other_global g holders.Unowneds c = refl
+other_global g holders.Forever c = refl
 
 is_apart : (g n : ℕ) → n ≢ g → is_other g (holders.Global n) ≡ true
 is_apart g n ne = ap (λ b. not b) (ne_eqb n g ne)
@@ -242,9 +245,16 @@ header_like shape g o q l None w (is, strong, unowned) = (
 )
 header_like shape g o q l (Some e) w is = is
 
+inline_like : (shape : HeapShape) (g : ℕ) (o q : Object) (w : ℕ) → IsLike g o q → IsInline (is_immortal shape o) shape o w → IsInline (is_immortal shape q) shape q w
+inline_like shape g o q w l says = subst (λ b. IsInline b shape q w) (sym (immortal_same shape o q l.class)) (go (is_immortal shape o) says)
+  where
+    go : (b : Bool) → IsInline b shape o w → IsInline b shape q w
+    go true says = says
+    go false says = subst (λ e. IsHeader shape q e w) (sym l.entry) (header_like shape g o q l o.entry w says)
+
 counts_show : (shape : HeapShape) (g : ℕ) (m n : Option Object) (w : ℕ) → MayBeLike g m n → ShowsCounts shape m w → ShowsCounts shape n w
 counts_show shape g None None w l says = says
-counts_show shape g (Some o) (Some q) w l says = subst (λ e. IsHeader shape q e w) (sym l.entry) (header_like shape g o q l o.entry w says)
+counts_show shape g (Some o) (Some q) w l says = inline_like shape g o q w l says
 counts_show shape g None (Some q) w l says = absurd (l)
 counts_show shape g (Some o) None w l says = absurd (l)
 
@@ -267,6 +277,12 @@ holders_show shape g k None None w l says = says
 holders_show shape g k (Some o) (Some q) w l says = (says.0 ∙ sym (list_like g k o q l), says.1)
 holders_show shape g k None (Some q) w l says = absurd (l)
 holders_show shape g k (Some o) None w l says = absurd (l)
+
+link_show : (shape : HeapShape) (g : ℕ) (m n : Option Object) (w : ℕ) → MayBeLike g m n → ShowsLink shape m w → ShowsLink shape n w
+link_show shape g None None w l says = says
+link_show shape g (Some o) (Some q) w l says = subst (λ s. IsLink shape s w) (sym l.slot) says
+link_show shape g None (Some q) w l says = absurd (l)
+link_show shape g (Some o) None w l says = absurd (l)
 
 some_like : (g : ℕ) (m n : Option Object) → MayBeLike g m n → is_some n ≡ is_some m
 some_like g None None l = refl
@@ -317,13 +333,6 @@ module _ (shape : HeapShape) (g : ℕ) (old new : Heap) (like : AreLike g old.ob
   taken_like : (e : ℕ) → is_entry_taken e new ≡ is_entry_taken e old
   taken_like e = ap (λ cs. list_any (claims_it e) cs || is_some (at_entry e new)) claims ∙ ap (λ b. list_any (claims_it e) old.claims || b) (some_like g (at_entry e old) (at_entry e new) (entry_like e))
 
-  link_shows : (e w : ℕ) → ShowsLink shape old e w → ShowsLink shape new e w
-  link_shows e w f = record {
-    free = ((λ z. taken_like e ∙ f.free.0 z), λ t. f.free.1 (sym (taken_like e) ∙ t));
-    within = f.within;
-    leads = λ q s at slot. let r = other_side g (at_entry e old) (at_entry e new) q (entry_like e) at in f.leads r.0 s r.1 (sym r.2.slot ∙ slot);
-  }
-
   -- the heap says the same of every other word
   swap_says : (pl : Place) → pl ≢ places.Global g → (w : ℕ) → Says shape old pl w → Says shape new pl w
   swap_says places.Zero ne w says = says
@@ -332,10 +341,12 @@ module _ (shape : HeapShape) (g : ℕ) (old new : Heap) (like : AreLike g old.ob
   swap_says (places.Isa t) ne w says = name_shows g (at_slot t old) (at_slot t new) w (slot_like t) says
   swap_says (places.Next t) ne w says = tt
   swap_says (places.Field t f) ne w says = says ∙ sym (fields_like f (at_slot t old) (at_slot t new) (slot_like t))
-  swap_says (places.Link e) ne w says = link_shows e w says
+  swap_says (places.Link e) ne w says = link_show shape g (at_entry e old) (at_entry e new) w (entry_like e) says
   swap_says (places.Strong e) ne w says = holders_show shape g kinds.Strong (at_entry e old) (at_entry e new) w (entry_like e) says
   swap_says (places.Unowned e) ne w says = holders_show shape g kinds.Unowned (at_entry e old) (at_entry e new) w (entry_like e) says
   swap_says (places.Weak e) ne w says = holders_show shape g kinds.Weak (at_entry e old) (at_entry e new) w (entry_like e) says
+  swap_says (places.SlotBits k) ne w says = bits_last shape.slots k (λ s. is_slot_taken s old) (λ s. is_slot_taken s new) w (λ s _. some_like g (at_slot s old) (at_slot s new) (slot_like s)) says
+  swap_says (places.EntryBits k) ne w says = bits_last shape.entries k (λ e. is_entry_taken e old) (λ e. is_entry_taken e new) w (λ e _. taken_like e) says
 
   -- and every other cell stays
   swap_cells : (c : CellName) → cell_place c ≢ places.Global g → CellKept shape old new c
@@ -439,7 +450,7 @@ global_shows shape h g x legal strong says = by (spot (holders.Global g) (heap_a
         let l = (lookup_after shape h (holders.Global g) legal refl).there s at in
         let kind : s.kind ≡ kinds.Strong = cell_strong (slice_get shape.globals g) s.kind strong ((cell_kinds_after shape h legal).globals g s at) in
         let listed : is_in (holders.Global g) l.0.strong ≡ true = ap (λ k. is_in (holders.Global g) (list_of k l.0)) (sym kind) ∙ l.3 in
-        let slot = slot_some l.0.slot (live-facts l.0 ((well_formed shape h legal).whole s.place l.0 l.1) (in-not_empty (holders.Global g) l.0.strong listed)).slot in
+        let slot = slot_some l.0.slot (live-facts l.0 ((well_formed shape h legal).whole s.place l.0 l.1) (in-strong shape (holders.Global g) l.0 listed)).slot in
         inr (record {
           place = s.place;
           object = l.0;
@@ -568,6 +579,7 @@ module _ (shape : HeapShape) (v : View) (h : History) (b : Before shape v h) (g 
     lying = λ Others ws shown l e. record {
       private = lies_stay shape heap ws (number (extent_of shape) (places.Global g)) w p (private_words v.working) b.work.private l.private (inr (λ pl inside at own. not_owned pl inside at p own));
       access = λ a begun. absurd (None≢Some a (sym no_access ∙ begun));
+      naming = λ s owed. absurd (None≢Some (record { slot = s; counted = false }) (sym owes ∙ owed));
     };
   }
 
@@ -615,3 +627,5 @@ swap_silent shape v place c put = (λ found. acts_none (place_at (extent_of shap
     works (places.Strong e) found = refl
     works (places.Unowned e) found = refl
     works (places.Weak e) found = refl
+    works (places.SlotBits k) found = refl
+    works (places.EntryBits k) found = refl

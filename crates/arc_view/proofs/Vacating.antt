@@ -1,6 +1,6 @@
--- The end of a slot: 0 is stored in its inline word, and the object that was in it keeps its entry.
-use Rattle.std.proofs.Common.{◌≡◌, ◌≢◌, ◌⊎◌, inr, ℕ, zero, ◌<◌, Bool, true, false, cond, not, List, ◌∷◌, length, Option, Some, None, refl, sym, ap, ◌∙◌, subst, arith, ne_eqb}
-use Rattle.std.specs.Prelude.{is_some, ◌||◌}
+-- The end of a slot: its bit is cleared, and the object that was in it keeps its entry.
+use Rattle.std.proofs.Common.{◌≡◌, ◌≢◌, ◌⊎◌, inr, ℕ, zero, ◌<◌, Bool, true, false, cond, not, List, ◌∷◌, length, Option, Some, None, refl, sym, ap, ◌∙◌, subst, arith, eq-eqb, ne_eqb}
+use Rattle.std.specs.Prelude.{is_some, ◌||◌, ◌&&◌, ◌/◌, bit_and, ◌==◌}
 use mathlib.Core.Logic.{dite}
 use native.Mathlib.Decide.{ℕ_discrete}
 use Rattle.arc_model.specs.declared.event.Act.TheVariants as acts
@@ -12,7 +12,7 @@ use Rattle.arc_model.specs.declared.shape.Kind.TheVariants as kinds
 use Rattle.arc_model.specs.Shapes.{HeapShape}
 use Rattle.arc_model.specs.Heaps.{Holder, Hand, Unowneds, Deinit, Vacating, Object, Heap}
 use Rattle.arc_model.specs.Heaps as holders
-use Rattle.arc_model.specs.Holders.{same_holder, is_in, is_empty, is_duty, is_number, kind_in, list_of, in_slot, at_slot, held_by, owes_to}
+use Rattle.arc_model.specs.Holders.{same_holder, is_in, is_empty, is_duty, is_number, kind_in, list_of, in_slot, at_slot, held_by, owes_to, is_slot_taken}
 use Rattle.arc_model.specs.Cells.{has_field}
 use Rattle.arc_model.specs.Effects.{vacated, left_slot, owing_none}
 use Rattle.arc_model.specs.Needs.{needs, passes}
@@ -20,7 +20,7 @@ use Rattle.arc_model.specs.WellFormed.{more, in_slot_times, keeps_fields}
 use Rattle.arc_model.specs.History.{History, heap_after, next_hand, sight, IsLegal}
 use Rattle.arc_model.specs.Lookup.{duty_of, is_cell}
 use Rattle.arc_model.specs.SpellingTies.{reference_in, reference_of, place_of}
-use Rattle.arc_model.proofs.Basics.{None≢Some, Some-inj, true≢false, empty-is}
+use Rattle.arc_model.proofs.Basics.{None≢Some, Some-inj, true≢false, empty-is, none-strong}
 use Rattle.arc_model.proofs.Tally.{clash}
 use Rattle.arc_model.proofs.Turns.{IsPut, put-found, place-put, total-put}
 use Rattle.arc_model.proofs.Builds.{find-passes}
@@ -30,7 +30,9 @@ use Rattle.arc_model.proofs.Others.{none-is}
 use Rattle.arc_model.proofs.Stages.{VacatingFacts, duty-apart, vacating-facts}
 use Rattle.arc_rule.specs.declared.layout.Place.{Place}
 use Rattle.arc_rule.specs.declared.layout.Place.TheVariants as places
-use Rattle.arc_rule.specs.declared.layout.Place.TheVariants.{Count}
+use Rattle.arc_rule.specs.declared.layout.Place.TheVariants.{SlotBits}
+use Rattle.arc_rule.specs.Bits.{but_bit_of}
+use Rattle.arc_rule.proofs.Bits.{shows_and}
 use Rattle.arc_rule.specs.Places.{extent_of, number}
 use Rattle.arc_rule.specs.Shown.{Says, ShowsCounts, ShowsName, cell_word, field_word, field_word_if}
 use Rattle.arc_view.specs.declared.view.View.{View}
@@ -41,10 +43,12 @@ use Rattle.arc_view.proofs.Advance.{IsThere, CellKept, Good, slot_is}
 use Rattle.arc_view.proofs.Bridge.{Before}
 use Rattle.arc_view.proofs.Classes.{in_shape_stays}
 use Rattle.arc_view.proofs.Own.{work_own}
-use Rattle.arc_view.proofs.Plain.{plain_count, plain_good}
+use Rattle.arc_view.specs.Rule.{IsWithin}
+use Rattle.arc_view.proofs.Within.{each_at}
+use Rattle.arc_view.proofs.Plain.{plain_bits, plain_good}
 use Rattle.arc_view.proofs.Strongs.{none_fails, slot_found, some_total, in_without}
 use Rattle.arc_view.proofs.Owed.{duty_parts, owes_it}
-use Rattle.arc_view.proofs.Relist.{IsRelisted, SlotStays, relist_says, field_kept, global_kept}
+use Rattle.arc_view.proofs.Relist.{IsRelisted, SlotStays, relist_says, slot_taken_same, field_kept, global_kept}
 
 -- the object after the vacating
 no_unowneds : (z : Holder) → is_cell z ≡ true → same_holder z Unowneds ≡ false
@@ -53,6 +57,7 @@ no_unowneds (holders.Field id f) c = refl
 no_unowneds (holders.Global g) c = refl
 no_unowneds holders.Strongs c = refl
 no_unowneds Unowneds c = absurd (true≢false (sym c))
+no_unowneds holders.Forever c = absurd (true≢false (sym c))
 
 record Vacated (o q : Object) : Type 0 where
   pub slot : q.slot ≡ None
@@ -109,7 +114,7 @@ vacated_is p o strong unowned = by o.entry refl
     }
 
 -- a field of an object that neither is live nor has its deinit owed is nil
-field_nil : (shape : HeapShape) (h : History) (i : ℕ) (o : Object) (f : ℕ) → IsLegal shape h → At (heap_after h) i o → keeps_fields o ≡ false → reference_of (holders.Field o.id f) (heap_after h) ≡ None
+field_nil : (shape : HeapShape) (h : History) (i : ℕ) (o : Object) (f : ℕ) → IsLegal shape h → At (heap_after h) i o → keeps_fields shape o ≡ false → reference_of (holders.Field o.id f) (heap_after h) ≡ None
 field_nil shape h i o f legal here gone = ap (reference_in (holders.Field o.id f)) (none-is (held_by (holders.Field o.id f) (heap_after h)) (by (is_some (held_by (holders.Field o.id f) (heap_after h))) refl))
   where
     by : (b : Bool) → is_some (held_by (holders.Field o.id f) (heap_after h)) ≡ b → b ≡ false
@@ -117,7 +122,7 @@ field_nil shape h i o f legal here gone = ap (reference_in (holders.Field o.id f
         let wf = well_formed shape h legal in
         let has = wf.owned o.id f (held-is (holders.Field o.id f) (heap_after h).objects e) in
         let same = one-name o.id (heap_after h).objects has.place i has.object o (names-once (λ p. next_hand p h) (heap_after h) wf o.id) has.here has.named here refl in
-        clash (keeps_fields o) (ap keeps_fields (sym same) ∙ has.passing) gone
+        clash (keeps_fields shape o) (ap (keeps_fields shape) (sym same) ∙ has.passing) gone
     by false e = refl
 
 -- a slot that is vacated is in no object
@@ -131,7 +136,7 @@ slot_left shape h p i s o legal here slot duty = by (at_slot s new) refl
     by None e = e
     by (Some r) e =
         let facts = vacating-facts o ((well_formed shape h legal).whole i o here) (duty_parts h p i Vacating o here duty).1 in
-        let is = vacated_is p o facts.strong facts.unowned in
+        let is = vacated_is p o (ap is_empty (none-strong shape o facts.strong).0) facts.unowned in
         let put = put-found (in_slot s) (vacated p) (heap_after h).objects o (slot_found shape h i s o legal here slot) in
         let t = place-put new.objects _ r r (put-found (in_slot s) (λ x. x) new.objects r e) in
         let some = some_total (in_slot_times s) new.objects t.0 r t.1 (ap (λ p. more p zero) (find-passes (in_slot s) new.objects r e)) in
@@ -154,11 +159,17 @@ module _ (shape : HeapShape) (v : View) (h : History) (b : Before shape v h) (i 
   abbrev q : Object
   q = vacated v.number o
 
-  facts : VacatingFacts o
+  facts : VacatingFacts shape o
   facts = vacating-facts o ((well_formed shape h b.legal).whole i o here) (duty_parts h v.number i Vacating o here duty).1
 
+  no_strong : is_empty o.strong ≡ true
+  no_strong = ap is_empty (none-strong shape o facts.strong).0
+
   is : Vacated o q
-  is = vacated_is v.number o facts.strong facts.unowned
+  is = vacated_is v.number o no_strong facts.unowned
+
+  inside : s < shape.slots
+  inside = (each_at (IsWithin shape) heap.objects i o b.in_shape.within here).0 s slot
 
   found : at_slot s heap ≡ Some o
   found = slot_found shape h i s o b.legal here slot
@@ -194,10 +205,12 @@ module _ (shape : HeapShape) (v : View) (h : History) (b : Before shape v h) (i 
       by false = refl
 
   -- the words of the slot show nothing now, and those of the others what they showed
-  vacate_says : (pl : Place) → pl ≢ Count s → (w : ℕ) → Says shape heap pl w → Says shape new pl w
+  vacate_says : (pl : Place) → pl ≢ SlotBits (s / 64) → (w : ℕ) → Says shape heap pl w → Says shape new pl w
   vacate_says places.Zero ne w says = relist_says shape heap new o q put refl is.relisted places.Zero tt tt w says
   vacate_says (places.Global g) ne w says = relist_says shape heap new o q put refl is.relisted (places.Global g) tt tt w says
-  vacate_says (Count t) ne w says = relist_says shape heap new o q put refl is.relisted (Count t) (other_slot t (λ e. ne (ap Count e))) (λ in_it. absurd (ne (ap Count (Some-inj (sym in_it ∙ slot))))) w says
+  vacate_says (places.Count t) ne w says = dite (ℕ_discrete t s)
+      (λ e. subst (λ m. ShowsCounts shape m w) (sym (ap (λ n. at_slot n new) e ∙ free)) tt)
+      (λ other. relist_says shape heap new o q put refl is.relisted (places.Count t) (other_slot t other) (λ in_it. absurd (other (Some-inj (sym in_it ∙ slot)))) w says)
   vacate_says (places.Isa t) ne w says = dite (ℕ_discrete t s)
       (λ e. subst (λ m. ShowsName m w) (sym (ap (λ n. at_slot n new) e ∙ free)) tt)
       (λ other. relist_says shape heap new o q put refl is.relisted (places.Isa t) (other_slot t other) tt w says)
@@ -205,24 +218,40 @@ module _ (shape : HeapShape) (v : View) (h : History) (b : Before shape v h) (i 
   vacate_says (places.Field t f) ne w says = dite (ℕ_discrete t s)
       (λ e. says ∙ (ap (λ n. field_word shape heap f (at_slot n heap)) e ∙ (ap (field_word shape heap f) found ∙ (nil_word f ∙ sym (ap (λ n. field_word shape new f (at_slot n new)) e ∙ ap (field_word shape new f) free)))))
       (λ other. relist_says shape heap new o q put refl is.relisted (places.Field t f) (other_slot t other) tt w says)
-  vacate_says (places.Link n) ne w says = relist_says shape heap new o q put refl is.relisted (places.Link n) tt tt w says
+  vacate_says (places.Link n) ne w says = relist_says shape heap new o q put refl is.relisted (places.Link n) tt (inr (λ t in_it. subst (λ m. m < shape.slots) (Some-inj (sym slot ∙ in_it)) inside)) w says
   vacate_says (places.Strong n) ne w says = relist_says shape heap new o q put refl is.relisted (places.Strong n) tt (λ has. is.lengths n has kinds.Strong) w says
   vacate_says (places.Unowned n) ne w says = relist_says shape heap new o q put refl is.relisted (places.Unowned n) tt (λ has. is.lengths n has kinds.Unowned) w says
   vacate_says (places.Weak n) ne w says = relist_says shape heap new o q put refl is.relisted (places.Weak n) tt (λ has. is.lengths n has kinds.Weak) w says
+  vacate_says (SlotBits n) ne w says = relist_says shape heap new o q put refl is.relisted (SlotBits n) (λ t at. other_slot t (λ e. ne (ap SlotBits (sym at ∙ ap (λ m. m / 64) e)))) tt w says
+  vacate_says (places.EntryBits n) ne w says = relist_says shape heap new o q put refl is.relisted (places.EntryBits n) tt tt w says
+
+  -- its bit is clear now, and no other changes
+  taken_now : (t : ℕ) → is_slot_taken t new ≡ is_slot_taken t heap && not (t == s)
+  taken_now t = dite (ℕ_discrete t s)
+      (λ e. ap (λ n. is_some (at_slot n new)) e ∙ ap is_some free ∙ sym (ap (λ c. is_slot_taken t heap && not c) (eq-eqb t s e) ∙ and_false (is_slot_taken t heap)))
+      (λ other. slot_taken_same shape heap new o q put refl is.relisted t (other_slot t other) ∙ sym (ap (λ c. is_slot_taken t heap && not c) (ne_eqb t s other) ∙ and_true (is_slot_taken t heap)))
+    where
+      and_false : (c : Bool) → c && false ≡ false
+      and_false true = refl
+      and_false false = refl
+
+      and_true : (c : Bool) → c && true ≡ c
+      and_true true = refl
+      and_true false = refl
 
   -- a cell of a live object isn't one of the object that leaves
   kept : (c : CellName) → IsThere heap c → CellKept shape heap new c
   kept (cells.Field t f) (j, r, at, in_it, live) = field_kept shape heap new o q put refl is.relisted t f (other_slot t
       (λ e. let same : o ≡ r = Some-inj (sym found ∙ (ap (λ n. at_slot n heap) (sym e) ∙ slot_found shape h j t r b.legal at in_it)) in
-      true≢false (sym facts.strong ∙ (ap (λ (x : Object). is_empty x.strong) same ∙ live))))
+      true≢false (sym no_strong ∙ (ap (λ (x : Object). is_empty x.strong) same ∙ live))))
   kept (cells.Global g) there = global_kept shape heap new o q put refl is.relisted g
 
-  pub vacate_good : (x : ℕ) → s < shape.slots → v.working.owes ≡ None → Good shape v h (number (extent_of shape) (Count s)) x 0 (Some (acts.Vacate s)) v.working
-  vacate_good x lt owes = plain_good shape v h b (Count s) (plain_count heap s) lt x 0 (Some (acts.Vacate s)) v.working refl refl legal
+  pub vacate_good : (x : ℕ) → v.working.owes ≡ None → Says shape heap (SlotBits (s / 64)) x → Good shape v h (number (extent_of shape) (SlotBits (s / 64))) x (bit_and x (but_bit_of s)) (Some (acts.Vacate s)) v.working
+  vacate_good x owes says = plain_good shape v h b (SlotBits (s / 64)) (plain_bits heap (s / 64)) (omega (arith, inside)) x (bit_and x (but_bit_of s)) (Some (acts.Vacate s)) v.working refl owes refl legal
       (in_shape_stays shape event h legal refl refl refl b.in_shape)
       kept
       (work_own shape event h v.working legal refl (λ m claim. claim) (inr (λ m e. true≢false (sym e))) owes b.work)
-      (λ Others ws shown. word_changes shape (λ u. Excepts v.working u ⊎ Others u) (λ u. Excepts v.working u ⊎ Others u) heap new ws (Count s) 0 lt shown
-      (λ _. subst (λ m. ShowsCounts shape m 0) (sym free) refl)
+      (λ Others ws shown. word_changes shape (λ u. Excepts v.working u ⊎ Others u) (λ u. Excepts v.working u ⊎ Others u) heap new ws (SlotBits (s / 64)) (bit_and x (but_bit_of s)) (omega (arith, inside)) shown
+      (λ _. shows_and shape.slots (s / 64) (λ t. is_slot_taken t heap) (λ t. is_slot_taken t new) x s refl taken_now says)
       (λ u ne notF e. notF e)
       (λ u iu ne _ w t. vacate_says u ne w t))

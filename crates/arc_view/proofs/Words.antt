@@ -1,18 +1,23 @@
 -- What a change of one word, or of one object, does to what the words show.
-use Rattle.std.proofs.Common.{◌≡◌, ◌≢◌, ◌⊎◌, inl, inr, ℕ, ◌<◌, Bool, true, false, cond, List, [], ◌∷◌, ◌++◌, set, Some, None, refl, sym, ap, ◌∙◌, subst, arith, length-set, get_or-set_same, get_or-set_other}
-use Rattle.std.specs.Prelude.{find}
+use Rattle.std.proofs.Common.{◌≡◌, ◌≢◌, ◌⊎◌, inl, inr, ℕ, zero, suc, ◌+◌, ◌<◌, ◌≤◌, Bool, true, false, cond, List, [], ◌∷◌, ◌++◌, set, Option, Some, None, refl, sym, ap, ◌∙◌, subst, arith, eq-eqb, length-set, get_or-set_same, get_or-set_other}
+use Rattle.std.specs.Prelude.{find, slice_get, is_some}
 use mathlib.Core.Logic.{dite}
 use native.Mathlib.Decide.{ℕ_discrete}
 use Rattle.arc_model.specs.Shapes.{HeapShape}
 use Rattle.arc_model.specs.Heaps.{Object, Heap}
-use Rattle.arc_model.proofs.Basics.{None≢Some}
+use Rattle.arc_model.specs.Holders.{is_number, in_slot, at_slot}
+use Rattle.arc_model.specs.History.{History, heap_after, IsLegal}
+use Rattle.arc_model.specs.WellFormed.{more, total}
+use Rattle.arc_model.proofs.Basics.{None≢Some, Some-inj}
+use Rattle.arc_model.proofs.Courses.{well_formed}
 use Rattle.arc_model.proofs.Turns.{IsPut}
 use Rattle.arc_rule.specs.declared.layout.Place.{Place}
 use Rattle.arc_rule.specs.Extents.{Extent}
 use Rattle.arc_rule.specs.Places.{IsPlace, extent_of, number, place_at, word_count}
-use Rattle.arc_rule.specs.declared.layout.Place.TheVariants.{Zero, Global, Count, Isa, Next, Field, Link, Strong, Unowned, Weak}
+use Rattle.arc_rule.specs.declared.layout.Place.TheVariants.{Zero, Global, Count, Isa, Next, Field, Link, Strong, Unowned, Weak, SlotBits, EntryBits}
 use Rattle.arc_rule.specs.Shown.{Says, ShowsBut, word_at}
 use Rattle.arc_rule.proofs.Places.{place_at-number}
+use Rattle.arc_view.specs.Holding.{At}
 
 -- places of one number are one
 pub number_same : (l : Extent) (a b : Place) → IsPlace l a → IsPlace l b → number l a ≡ number l b → a ≡ b
@@ -29,6 +34,8 @@ number_below l (Link e) h = omega (arith, h)
 number_below l (Strong e) h = omega (arith, h)
 number_below l (Unowned e) h = omega (arith, h)
 number_below l (Weak e) h = omega (arith, h)
+number_below l (SlotBits k) h = omega (arith, h)
+number_below l (EntryBits k) h = omega (arith, h)
 
 pub word_set : (shape : HeapShape) (E : Place → Type 0) (heap : Heap) (ws : List ℕ) (pl : Place) (y : ℕ) → IsPlace (extent_of shape) pl → ShowsBut E shape heap ws → word_at shape (set ws (number (extent_of shape) pl) y) pl ≡ y
 word_set shape E heap ws pl y inside shows = get_or-set_same ws (number (extent_of shape) pl) y 0 (subst (λ n. number (extent_of shape) pl < n) (sym shows.whole) (number_below (extent_of shape) pl inside))
@@ -85,3 +92,34 @@ find_new test (r ∷ os) o passes none = go (test r) none (find_new test os o pa
     go : (b : Bool) → cond b (Some r) (find test os) ≡ None → (find test os ≡ None → find test (os ++ o ∷ []) ≡ Some o) → cond b (Some r) (find test (os ++ o ∷ [])) ≡ Some o
     go true none ih = absurd (None≢Some r (sym none))
     go false none ih = ih none
+
+-- an object that passes is found
+pub found_some : (test : Object → Bool) (os : List Object) (i : ℕ) (o : Object) → slice_get os i ≡ Some o → test o ≡ true → is_some (find test os) ≡ true
+found_some test [] i o at passes = absurd (None≢Some o at)
+found_some test (r ∷ os) zero o at passes = ap (λ b. is_some (cond b (Some r) (find test os))) (ap test (Some-inj at) ∙ passes)
+found_some test (r ∷ os) (suc i) o at passes = go (test r) (found_some test os i o at passes)
+  where
+    go : (b : Bool) → is_some (find test os) ≡ true → is_some (cond b (Some r) (find test os)) ≡ true
+    go true ih = refl
+    go false ih = ih
+
+pub slot_is : (m : Option ℕ) (s : ℕ) → m ≡ Some s → is_number m s ≡ true
+slot_is m s e = ap (λ n. is_number n s) e ∙ eq-eqb s s refl
+
+-- the one object that passes, where no more do
+pub unique_found : (test : Object → Bool) (os : List Object) (i : ℕ) (o : Object) → total (λ r. more (test r) zero) os ≤ 1 → slice_get os i ≡ Some o → test o ≡ true → find test os ≡ Some o
+unique_found test [] i o once at passes = absurd (None≢Some o at)
+unique_found test (r ∷ os) zero o once at passes = ap (λ b. cond b (Some r) (find test os)) (ap test (Some-inj at) ∙ passes) ∙ at
+unique_found test (r ∷ os) (suc i) o once at passes = go (test r) refl once (unique_found test os i o)
+  where
+    some_at : (qs : List Object) (j : ℕ) → slice_get qs j ≡ Some o → 1 ≤ total (λ r. more (test r) zero) qs
+    some_at [] j at = absurd (None≢Some o at)
+    some_at (q ∷ qs) zero at = let e : more (test q) zero ≡ suc zero = ap (λ b. more b zero) (ap test (Some-inj at) ∙ passes) in omega (arith, e)
+    some_at (q ∷ qs) (suc j) at = let ih = some_at qs j at in omega (arith, ih)
+
+    go : (b : Bool) → test r ≡ b → more (test r) zero + total (λ r. more (test r) zero) os ≤ 1 → (total (λ r. more (test r) zero) os ≤ 1 → slice_get os i ≡ Some o → test o ≡ true → find test os ≡ Some o) → cond (test r) (Some r) (find test os) ≡ Some o
+    go true is once ih = let e : more (test r) zero ≡ suc zero = ap (λ b. more b zero) is in let later = some_at os i at in absurd (omega (arith, e, later, once))
+    go false is once ih = ap (λ b. cond b (Some r) (find test os)) is ∙ ih (let e : more (test r) zero ≡ zero = ap (λ b. more b zero) is in omega (arith, e, once)) at passes
+
+pub slot_found : (shape : HeapShape) (h : History) (i s : ℕ) (o : Object) → IsLegal shape h → At (heap_after h) i o → o.slot ≡ Some s → at_slot s (heap_after h) ≡ Some o
+slot_found shape h i s o legal at slot = unique_found (in_slot s) (heap_after h).objects i o ((well_formed shape h legal).slots s) at (slot_is o.slot s slot)

@@ -1,6 +1,6 @@
 -- Which event a step has, by the view before it, the step, its intent and the word found; and what the view has under way after it.
--- An exchange that fails has the event of no kind but the last one of a search.
-use Rattle.std.specs.Prelude.{ℕ, zero, suc, ◌-◌, ◌/◌, ◌%◌, ◌==◌, ◌&&◌, not, Bool, true, false, if◌then◌else◌, List, [], ◌∷◌, Option, None, Some, slice_get}
+-- An exchange that fails has no event.
+use Rattle.std.specs.Prelude.{ℕ, zero, suc, ◌/◌, ◌%◌, ◌==◌, ◌&&◌, is_none, bit_and, Bool, true, false, if◌then◌else◌, List, [], ◌∷◌, Option, None, Some, slice_get}
 use Rattle.arc_bits.specs.declared.packing.Word.{Word}
 use Rattle.arc_bits.specs.declared.packing.Word.TheVariants.{Counts, Slow}
 use Rattle.arc_bits.specs.Words.{unpacked}
@@ -17,11 +17,12 @@ use Rattle.arc_model.specs.Cells.{origin}
 use Rattle.arc_model.specs.History.{History, next_hand}
 use Rattle.arc_model.specs.Lookup.{Spot, spot}
 use Rattle.arc_rule.specs.declared.step.Step.{Step}
-use Rattle.arc_rule.specs.declared.step.Step.TheVariants.{Load, Exchange, Store}
+use Rattle.arc_rule.specs.declared.step.Step.TheVariants.{Load, Exchange, Store, Or, And}
 use Rattle.arc_rule.specs.declared.step.Intent.{Intent}
 use Rattle.arc_rule.specs.declared.step.Intent.TheVariants as intents
 use Rattle.arc_rule.specs.declared.layout.Place.{Place}
-use Rattle.arc_rule.specs.declared.layout.Place.TheVariants.{Count, Isa, Next, Field, Link, Strong, Unowned, Weak}
+use Rattle.arc_rule.specs.declared.layout.Place.TheVariants.{Count, Isa, Next, Field, Link, Strong, Unowned, Weak, SlotBits, EntryBits}
+use Rattle.arc_rule.specs.Bits.{words_of, full_word, thing_of, thing_left}
 use Rattle.arc_rule.specs.Places.{extent_of, number, place_at}
 use Rattle.arc_view.specs.declared.view.Mark.{Mark}
 use Rattle.arc_view.specs.declared.view.Stored.{Stored}
@@ -99,60 +100,85 @@ abbrev pub when : Bool → Act → Option Act
 when true a = Some a
 when false a = None
 
--- A failed exchange of a search: at the place of the number `at`, from 0 to `new`, with no event of the thread since.
-abbrev pub is_try : ℕ → ℕ → ℕ → Mark → Bool
-is_try at new made m = is_same_step m.step && not (m.found == 0) && m.made == made
+-- a load of a search, of the word k of n things at its place, which showed that all are taken, with no event of the thread since
+abbrev pub is_try : ℕ → ℕ → ℕ → ℕ → Mark → Bool
+is_try at n k made m = is_load m.step && m.found == full_word n k && m.made == made
   where
-    is_same_step : Step → Bool
-    is_same_step (Exchange place old n) = place == at && old == 0 && n == new
-    is_same_step _ = false
+    is_load : Step → Bool
+    is_load (Load place) = place == at
+    is_load _ = false
 
--- the trail begins with tries at the places k - 1, k - 2 and so on down to 0
+-- the trail begins with such loads of the words k - 1, k - 2 and so on down to 0
 abbrev pub searched : (ℕ → ℕ) → ℕ → ℕ → ℕ → List Mark → Bool
-searched at new made zero ms = true
-searched at new made (suc k) [] = false
-searched at new made (suc k) (m ∷ ms) = is_try (at k) new made m && searched at new made k ms
+searched at n made zero ms = true
+searched at n made (suc k) [] = false
+searched at n made (suc k) (m ∷ ms) = is_try (at k) n k made m && searched at n made k ms
 
--- What a load shows. A loaded count is of the source's object: an entry's greatest count refuses one more, and a strong count of 0, or
--- a deiniting inline word, refuses a load of a reference.
+-- the word k is the last one of a search that found all n things taken
+abbrev pub is_fruitless : (ℕ → ℕ) → ℕ → View → ℕ → ℕ → Bool
+is_fruitless at n v k w = suc k == words_of n && w == full_word n k && searched at n (made_in v.number v.seen) k v.trail
+
+abbrev pub is_strong : Kind → Bool
+is_strong kinds.Strong = true
+is_strong _ = false
+
+-- the inline word says of the object, in whose list of this kind the count is, that it is immortal
+abbrev pub is_forever : Kind → Option Object → Place → ℕ → Bool
+is_forever kind o (Count s) w = is_counted_at kind o (Count s) && w == 1
+is_forever kind o pl w = false
+
+-- the first of them, where it holds
+abbrev pub first_of : Bool → Act → Option Act → Option Act
+first_of true a more = Some a
+first_of false a more = more
+
+-- the count says that no strong reference is left
+abbrev pub shows_end : Option Object → Place → ℕ → Bool
+shows_end o pl w = is_counted_at kinds.Strong o pl && (if is_entry_place pl then w == 0 else is_deiniting (unpacked w))
+
+-- no strong reference is taken of the object of this hand: none is left, or there are as many as an entry counts
+abbrev pub load_refused : HeapShape → Option Object → Place → ℕ → ℕ → Act → Option Act
+load_refused shape o pl w of a = first_of (shows_end o pl w) a (when (is_full shape kinds.Strong o pl w) (acts.CountFull kinds.Strong (origins.Hand of)))
+
+-- what a loaded count shows of a reference that is to be taken of a hand of this kind, where it would be the hand n
+abbrev pub load_shown : HeapShape → Kind → Option Object → Place → ℕ → (of n : ℕ) → Option Act
+load_shown shape kinds.Strong o pl w of n = None
+load_shown shape kinds.Unowned o pl w of n = first_of (is_forever kinds.Strong o pl w) (acts.Load of (got.Hand n)) (load_refused shape o pl w of (acts.Load of got.Dead))
+load_shown shape kinds.Weak o pl w of n = load_refused shape o pl w of (acts.Load of got.Nil)
+
+-- What a load shows. A loaded count is of the source's object: an immortal object takes a reference more or fewer without a change of its word,
+-- an entry's greatest count refuses one more, and a strong count of 0, or a deiniting inline word, refuses a load of a reference. The last word
+-- of a search shows that all slots, or all entries, are taken.
 abbrev pub loaded_act : HeapShape → View → Place → ℕ → Intent → Option Act
 loaded_act shape v pl w (intents.Copy from) =
-    let at = source_at v from in when (is_full shape (kind_at at) (object_at (heap_of v) at) pl w) (acts.CountFull (kind_at at) from)
+    let at = source_at v from in
+    first_of (is_forever (kind_at at) (object_at (heap_of v) at) pl w) (acts.Copy from (next_hand v.number v.seen))
+    (when (is_full shape (kind_at at) (object_at (heap_of v) at) pl w) (acts.CountFull (kind_at at) from))
 loaded_act shape v pl w (intents.UnownedOf of) =
-    when (is_full shape kinds.Unowned (object_at (heap_of v) (spot (Hand v.number of) (heap_of v))) pl w) (acts.CountFull kinds.Unowned (origins.Hand of))
+    let at = spot (Hand v.number of) (heap_of v) in
+    first_of (is_strong (kind_at at) && is_forever kinds.Unowned (object_at (heap_of v) at) pl w) (acts.UnownedOf of (next_hand v.number v.seen))
+    (when (is_full shape kinds.Unowned (object_at (heap_of v) at) pl w) (acts.CountFull kinds.Unowned (origins.Hand of)))
 loaded_act shape v pl w (intents.WeakOf of) =
     when (is_full shape kinds.Weak (object_at (heap_of v) (spot (Hand v.number of) (heap_of v))) pl w) (acts.CountFull kinds.Weak (origins.Hand of))
-loaded_act shape v pl w (intents.Load of) = by_kind (kind_at at)
-  where
-    at : Option Spot
-    at = spot (Hand v.number of) (heap_of v)
-
-    is_here : Bool
-    is_here = is_counted_at kinds.Strong (object_at (heap_of v) at) pl
-
-    shows_end : Bool
-    shows_end = is_here && (if is_entry_place pl then w == 0 else is_deiniting (unpacked w))
-
-    refused : Act → Option Act
-    refused a = if shows_end then Some a else when (is_full shape kinds.Strong (object_at (heap_of v) at) pl w) (acts.CountFull kinds.Strong (origins.Hand of))
-
-    by_kind : Kind → Option Act
-    by_kind kinds.Strong = None
-    by_kind kinds.Unowned = refused (acts.Load of got.Dead)
-    by_kind kinds.Weak = refused (acts.Load of got.Nil)
+loaded_act shape v pl w (intents.Load of) = let at = spot (Hand v.number of) (heap_of v) in load_shown shape (kind_at at) (object_at (heap_of v) at) pl w of (next_hand v.number v.seen)
+loaded_act shape v pl w (intents.Drop hand) =
+    let at = spot (Hand v.number hand) (heap_of v) in
+    when (is_none v.working.access && is_forever (kind_at at) (object_at (heap_of v) at) pl w) (acts.Drop hand false)
+loaded_act shape v (SlotBits k) w (intents.New class) = when (is_fruitless (λ j. number (extent_of shape) (SlotBits j)) shape.slots v k w) acts.Full
+loaded_act shape v (EntryBits k) w (intents.Claim of) = when (is_fruitless (λ j. number (extent_of shape) (EntryBits j)) shape.entries v k w) acts.NoEntry
 loaded_act shape v pl w (intents.Access cell) = when (number (extent_of shape) pl == number (extent_of shape) (cell_place cell) && w == 0) (acts.Look cell)
 loaded_act shape v pl w _ = None
 
 -- what an exchange does that finds what it expects; a hand that comes is the next one
 abbrev pub hit_act : View → Place → ℕ → ℕ → Intent → Option Act
 hit_act v pl old new intents.Look = None
-hit_act v pl old new (intents.New class) = Some (acts.New (next_hand v.number v.seen) class (slot_of pl))
+hit_act v pl old new (intents.New class) = None
 hit_act v pl old new (intents.Copy from) = Some (acts.Copy from (next_hand v.number v.seen))
 hit_act v pl old new (intents.UnownedOf of) = Some (acts.UnownedOf of (next_hand v.number v.seen))
 hit_act v pl old new (intents.WeakOf of) = Some (acts.WeakOf of (next_hand v.number v.seen))
 hit_act v pl old new (intents.Load of) = Some (acts.Load of (got.Hand (next_hand v.number v.seen)))
 hit_act v pl old new (intents.Drop hand) = Some (acts.Drop hand (is_last (kind_at (spot (Hand v.number hand) (heap_of v))) pl old))
-hit_act v pl old new (intents.Claim of) = Some (acts.Claim (entry_of pl))
+hit_act v pl old new (intents.Claim of) = None
 hit_act v pl old new (intents.Publish of why) = Some (acts.Side (slot_of pl) (entry_named (unpacked new)) why)
 hit_act v pl old new intents.Back = None
 hit_act v pl old new (intents.Swap cell put) = Some (acts.Swap cell put (if old == 0 then None else Some (next_hand v.number v.seen)))
@@ -161,21 +187,19 @@ hit_act v pl old new (intents.Deinit slot) = Some (acts.Finish slot (is_last kin
 hit_act v pl old new intents.Vacate = None
 hit_act v pl old new intents.Gone = Some (acts.Gone (entry_of pl) (old == 1))
 
--- the last failed exchange of a search
-abbrev pub missed_act : HeapShape → View → ℕ → ℕ → Intent → Option Act
-missed_act shape v place new (intents.New class) = at_last (shape.slots - 1)
-  where
-    at_last : ℕ → Option Act
-    at_last s = when (place == number (extent_of shape) (Count s) && searched (λ k. number (extent_of shape) (Count k)) new (made_in v.number v.seen) s v.trail) acts.Full
-missed_act shape v place new (intents.Claim of) = at_last (shape.entries - 1)
-  where
-    at_last : ℕ → Option Act
-    at_last e = when (place == number (extent_of shape) (Link e) && searched (λ k. number (extent_of shape) (Link k)) new (made_in v.number v.seen) e v.trail) acts.NoEntry
-missed_act shape v place new _ = None
+-- an Or that finds the bit clear takes the slot or the entry
+abbrev pub or_act : View → Place → ℕ → Intent → Option Act
+or_act v (SlotBits k) bits (intents.New class) = Some (acts.New (next_hand v.number v.seen) class (thing_of k bits))
+or_act v (EntryBits k) bits (intents.Claim of) = Some (acts.Claim (thing_of k bits))
+or_act v pl bits _ = None
+
+-- an And clears its bit
+abbrev pub and_act : Place → ℕ → Intent → Option Act
+and_act (SlotBits k) bits intents.Vacate = Some (acts.Vacate (thing_left k bits))
+and_act (EntryBits k) bits intents.Back = Some (acts.Back (thing_left k bits))
+and_act pl bits _ = None
 
 abbrev pub stored_act : View → Place → Intent → Option Act
-stored_act v pl intents.Back = Some (acts.Back (entry_of pl))
-stored_act v pl intents.Vacate = Some (acts.Vacate (slot_of pl))
 stored_act v (Field s f) (intents.Deinit slot) = Some (acts.Take slot f (next_hand v.number v.seen))
 stored_act v pl _ = None
 
@@ -183,8 +207,10 @@ stored_act v pl _ = None
 abbrev pub act_of : HeapShape → View → Step → Intent → ℕ → Option Act
 act_of shape v (Load place) intent found = loaded_act shape v (place_at (extent_of shape) place) found intent
 act_of shape v (Exchange place old new) intent found =
-    if found == old then hit_act v (place_at (extent_of shape) place) old new intent else missed_act shape v place new intent
+    if found == old then hit_act v (place_at (extent_of shape) place) old new intent else None
 act_of shape v (Store place new) intent found = stored_act v (place_at (extent_of shape) place) intent
+act_of shape v (Or place bits) intent found = if bit_and found bits == 0 then or_act v (place_at (extent_of shape) place) bits intent else None
+act_of shape v (And place bits) intent found = and_act (place_at (extent_of shape) place) bits intent
 
 -- the event of an act of thread p, where there is one
 abbrev pub event_list : ℕ → Option Act → History
@@ -228,21 +254,30 @@ working_loaded w (Field s f) found (intents.Deinit slot) = if s == slot && found
 working_loaded w pl found intent = w
 
 abbrev pub working_hit : (Place → ℕ) → Working → Place → ℕ → ℕ → Intent → Working
-working_hit at w pl old new (intents.New class) = record w { owes = Some (slot_of pl) }
-working_hit at w pl old new (intents.Claim of) = record w { stored = record { place = pl; word = new } ∷ w.stored }
 working_hit at w pl old new (intents.Publish of why) = record w { stored = but_entry at (entry_named (unpacked new)) w.stored }
 working_hit at w pl old new (intents.Access cell) = record w { access = Some (record { cell = cell; value = old }) }
 working_hit at w pl old new (intents.Deinit slot) = without_next at slot w
 working_hit at w pl old new intent = w
 
 abbrev pub working_stored : (Place → ℕ) → Working → Place → ℕ → Intent → Working
+working_stored at w (Count s) new (intents.New class) = record w { owes = Some (record { slot = s; counted = true }) }
 working_stored at w pl new (intents.New class) = record w { owes = None }
+working_stored at w pl new (intents.Claim of) = record w { stored = record { place = pl; word = new } ∷ but_at at (at pl) w.stored }
 working_stored at w pl new (intents.Publish of why) = record w { stored = record { place = pl; word = new } ∷ but_at at (at pl) w.stored }
-working_stored at w pl new intents.Back = record w { stored = but_entry at (entry_of pl) w.stored }
 working_stored at w pl new (intents.Access cell) = record w { access = None }
-working_stored at w (Next s) new (intents.Deinit slot) = record w { entered = record { slot = s; parent = parent_of new; next_field = 0 } ∷ w.entered }
+working_stored at w (Next s) new (intents.Deinit slot) = record w { stored = but_at at (at (Next s)) w.stored; entered = record { slot = s; parent = parent_of new; next_field = 0 } ∷ w.entered }
 working_stored at w (Field s f) new (intents.Deinit slot) = record w { entered = goes_on s (suc f) w.entered }
 working_stored at w pl new intent = w
+
+-- a slot was taken: the words of its new object are still to be written
+abbrev pub working_or : Working → Place → ℕ → Intent → Working
+working_or w (SlotBits k) bits (intents.New class) = record w { owes = Some (record { slot = thing_of k bits; counted = false }) }
+working_or w pl bits intent = w
+
+-- an entry was given back: nothing of it is kept private
+abbrev pub working_and : (Place → ℕ) → Working → Place → ℕ → Intent → Working
+working_and at w (EntryBits k) bits intents.Back = record w { stored = but_entry at (thing_left k bits) w.stored }
+working_and at w pl bits intent = w
 
 -- what the view has under way after a step with this intent that finds this word
 abbrev pub working_after : HeapShape → View → Step → Intent → ℕ → Working
@@ -250,3 +285,5 @@ working_after shape v (Load place) intent found = working_loaded v.working (plac
 working_after shape v (Exchange place old new) intent found =
     if found == old then working_hit (number (extent_of shape)) v.working (place_at (extent_of shape) place) old new intent else v.working
 working_after shape v (Store place new) intent found = working_stored (number (extent_of shape)) v.working (place_at (extent_of shape) place) new intent
+working_after shape v (Or place bits) intent found = if bit_and found bits == 0 then working_or v.working (place_at (extent_of shape) place) bits intent else v.working
+working_after shape v (And place bits) intent found = working_and (number (extent_of shape)) v.working (place_at (extent_of shape) place) bits intent

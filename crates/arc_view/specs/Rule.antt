@@ -3,7 +3,7 @@ use Rattle.arc_model.specs.Heaps.{Claimed}
 use Rattle.arc_model.specs.Ranges.{CapsFit, ShapeFits}
 use Rattle.arc_model.specs.declared.event.CellName.{CellName}
 use Rattle.arc_view.specs.declared.view.Working.{Working}
-use Rattle.std.specs.Prelude.{ℕ, ◌≡◌, ◌≢◌, ◌<◌, ◌≤◌, ◌⊎◌, ◌^◌, ◌&&◌, Bool, true, false, List, [], ◌++◌, length, Option, None, Some, slice_get, ⊤, count_by}
+use Rattle.std.specs.Prelude.{ℕ, ◌≡◌, ◌<◌, ◌≤◌, ◌⊎◌, ◌^◌, ◌/◌, ◌&&◌, Bool, true, false, List, [], ◌++◌, length, Option, None, Some, slice_get, ⊤, count_by}
 use mathlib.Core.Option.{some}
 use lib.ListN.{get_elem?}
 use Rattle.atomic_table.specs.Table.{State}
@@ -12,36 +12,38 @@ use Rattle.arc_model.specs.declared.event.Act.TheVariants as acts
 use Rattle.arc_model.specs.declared.shape.RefShape.{RefShape}
 use Rattle.arc_model.specs.Shapes.{HeapShape}
 use Rattle.arc_model.specs.Heaps.{Field, Global, Deinit, Object, Heap}
-use Rattle.arc_model.specs.Holders.{is_slot_taken, is_entry_taken}
+use Rattle.arc_model.specs.Holders.{at_slot, is_slot_taken, is_entry_taken}
 use Rattle.arc_model.specs.Cells.{cell, is_nil, field_shape}
 use Rattle.arc_model.specs.Others.{IsUnshared, IsQuiet}
 use Rattle.arc_model.specs.History.{History, heap_after, share, is_of, IsLegal}
 use Rattle.arc_model.specs.Lookup.{Spot, spot, duty_of}
 use Rattle.arc_rule.specs.declared.layout.Place.{Place}
-use Rattle.arc_rule.specs.declared.layout.Place.TheVariants.{Count, Link}
+use Rattle.arc_rule.specs.declared.layout.Place.TheVariants.{Count, SlotBits, EntryBits}
 use Rattle.arc_rule.specs.Places.{IsPlace, extent_of, number}
+use Rattle.arc_rule.specs.Bits.{is_set}
 use Rattle.arc_rule.specs.Shown.{Says, ShowsBut, word_at}
 use Rattle.arc_rule.specs.Steps.{place_of}
 use Rattle.arc_view.specs.declared.view.Role.TheVariants.{Pass}
 use Rattle.arc_view.specs.declared.view.Mark.{Mark}
+use Rattle.arc_view.specs.declared.view.Naming.{Naming}
 use Rattle.arc_view.specs.declared.view.Old.{Old}
 use Rattle.arc_view.specs.declared.view.Stored.{Stored}
 use Rattle.arc_view.specs.declared.view.Begun.{Begun}
 use Rattle.arc_view.specs.declared.view.Entered.{Entered}
 use Rattle.arc_view.specs.declared.view.View.{View}
-use Rattle.arc_view.specs.Views.{StartsWith, Each, within, cell_place, private_words, Excepts}
+use Rattle.arc_view.specs.Views.{StartsWith, Each, within, cell_place, private_words, first_word, Excepts}
 use Rattle.arc_view.specs.Holding.{At, CanReach, Owns}
 
--- One step of the trail of thread p, by what p has seen: as long a part of it as the mark says, with as many events of p. A word that was
--- found not to be 0 shows that the slot was in an object, or the entry taken, then.
+-- One step of the trail of thread p, by what p has seen: as long a part of it as the mark says, with as many events of p. A bit that was
+-- found set shows that the slot was in an object, or the entry taken, then.
 pub record MarkFits (shape : HeapShape) (p : ℕ) (seen : History) (m : Mark) : Type 0 where
   pub later : History
   pub earlier : History
   pub split : seen ≡ later ++ earlier
   pub at : length earlier ≡ m.length
   pub made : length (share earlier p) ≡ m.made
-  pub slot : (s : ℕ) → s < shape.slots → place_of m.step ≡ number (extent_of shape) (Count s) → m.found ≢ 0 → is_slot_taken s (heap_after earlier) ≡ true
-  pub entry : (e : ℕ) → e < shape.entries → place_of m.step ≡ number (extent_of shape) (Link e) → m.found ≢ 0 → is_entry_taken e (heap_after earlier) ≡ true
+  pub slot : (s : ℕ) → s < shape.slots → place_of m.step ≡ number (extent_of shape) (SlotBits (s / 64)) → is_set s m.found ≡ true → is_slot_taken s (heap_after earlier) ≡ true
+  pub entry : (e : ℕ) → e < shape.entries → place_of m.step ≡ number (extent_of shape) (EntryBits (e / 64)) → is_set e m.found ≡ true → is_entry_taken e (heap_after earlier) ≡ true
 
 -- what had been seen before a join begins the history, and has all events of its threads, of whom no other pass makes any
 pub record OldFits (h : History) (own : ℕ → Type 0) (o : Old) : Type 0 where
@@ -73,8 +75,8 @@ IsMine shape heap p k = IsPlace (extent_of shape) k.place × Owns heap p k.place
 
 -- what thread p has under way, by what p has seen
 pub record WorkFits (shape : HeapShape) (p : ℕ) (seen : History) (w : Working) : Type 0 where
-  -- the object whose isa word is owed has no holder but the pass's hand
-  pub owing : (s : ℕ) → w.owes ≡ Some s → (s < shape.slots) × IsNew (heap_after seen) p s
+  -- the object whose words are still to be written has no holder that comes and goes but the pass's hand
+  pub owing : (n : Naming) → w.owes ≡ Some n → (n.slot < shape.slots) × IsNew (heap_after seen) p n.slot
   -- a field that is accessed is one of an object of which p has a strong hand
   pub reaches : (a : Begun) → w.access ≡ Some a → IsPlace (extent_of shape) (cell_place a.cell) × CanReach shape (heap_after seen) p a.cell
   pub private : Each (IsMine shape (heap_after seen) p) (private_words w)
@@ -108,10 +110,16 @@ pub record AccessFits (shape : HeapShape) (h seen : History) (words : List ℕ) 
   pub value : Says shape (heap_after h) (cell_place a.cell) a.value
   pub stays : CellStays h seen a.cell
 
+-- the inline word of a new object is what the heap says of the object in the slot
+abbrev pub IsFirst : HeapShape → Heap → ℕ → Type 0
+IsFirst shape heap s = (o : Object) × (at_slot s heap ≡ Some o) × Says shape heap (Count s) (first_word shape o)
+
 -- what holds of what a view has under way and the words
 pub record Lying (shape : HeapShape) (h seen : History) (words : List ℕ) (w : Working) : Type 0 where
   pub private : Each (Lies shape words) (private_words w)
   pub access : (a : Begun) → w.access ≡ Some a → AccessFits shape h seen words a
+  -- what is still to be stored as an inline word is what the heap says now
+  pub naming : (s : ℕ) → w.owes ≡ Some (record { slot = s; counted = false }) → IsFirst shape (heap_after h) s
 
 -- a view owes the name of the slot, or holds an access to the cell
 abbrev pub Excepted : List View → Place → Type 0

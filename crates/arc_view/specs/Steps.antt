@@ -4,13 +4,12 @@ use mathlib.Core.Option.{some}
 use lib.ListN.{get_elem?}
 use Rattle.atomic_table.specs.Table.{State, Me, keeps, stepped}
 use Rattle.arc_model.specs.Shapes.{HeapShape}
-use Rattle.arc_model.specs.Heaps.{Heap}
 use Rattle.arc_model.specs.History.{History, heap_after, share, IsLegal}
 use Rattle.arc_rule.specs.declared.step.Step.{Step}
-use Rattle.arc_rule.specs.declared.step.Step.TheVariants.{Load, Exchange, Store}
+use Rattle.arc_rule.specs.declared.step.Step.TheVariants.{Load, Exchange, Store, Or, And}
 use Rattle.arc_rule.specs.declared.step.Intent.{Intent}
 use Rattle.arc_rule.specs.declared.layout.Place.{Place}
-use Rattle.arc_rule.specs.declared.layout.Place.TheVariants.{Global, Isa, Field}
+use Rattle.arc_rule.specs.declared.layout.Place.TheVariants.{Global, Field}
 use Rattle.arc_rule.specs.Places.{IsPlace, extent_of, number}
 use Rattle.arc_rule.specs.Shown.{Says}
 use Rattle.arc_rule.specs.Steps.{place_of}
@@ -19,7 +18,7 @@ use Rattle.arc_view.specs.declared.view.Stored.{Stored}
 use Rattle.arc_view.specs.declared.view.Working.{Working}
 use Rattle.arc_view.specs.declared.view.View.{View}
 use Rattle.arc_view.specs.Views.{StartsWith, Each, within, made_in, private_words}
-use Rattle.arc_view.specs.Rule.{InShape, IsNew, IsKept}
+use Rattle.arc_view.specs.Rule.{InShape, IsKept}
 use Rattle.arc_view.specs.Kinds.{act_of, event_list, working_after}
 
 -- a step that gives back the word that it found; a store gives back 0
@@ -27,11 +26,15 @@ abbrev pub Reads : Step → Type 0
 Reads (Load place) = ⊤
 Reads (Exchange place old new) = ⊤
 Reads (Store place new) = ⊥
+Reads (Or place bits) = ⊤
+Reads (And place bits) = ⊤
 
 abbrev pub given_back : Step → ℕ → ℕ
 given_back (Load place) found = found
 given_back (Exchange place old new) found = found
 given_back (Store place new) found = 0
+given_back (Or place bits) found = found
+given_back (And place bits) found = found
 
 -- the view after a step that met the history h, whose own event made it `after`. Its mark has the length before the event
 abbrev pub moved : View → History → History → Step → ℕ → Working → View
@@ -50,12 +53,11 @@ moved v h after st found working = record {
 abbrev pub Stands : History → Old → Type 0
 Stands h o = StartsWith h o.seen × ((p : ℕ) → within p o.of ≡ true → share h p ≡ share o.seen p)
 
--- The heap doesn't settle the word yet: a cell is busy, or another pass has still to write the isa word of its new object.
-abbrev pub IsUnsettled : ℕ → Heap → Place → ℕ → Type 0
-IsUnsettled p heap (Global g) found = found ≡ 1
-IsUnsettled p heap (Field s f) found = found ≡ 1
-IsUnsettled p heap (Isa s) found = (q : ℕ) × (q ≢ p) × IsNew heap q s
-IsUnsettled p heap _ found = ⊥
+-- The heap doesn't settle the word: a cell is busy.
+abbrev pub IsUnsettled : Place → ℕ → Type 0
+IsUnsettled (Global g) found = found ≡ 1
+IsUnsettled (Field s f) found = found ≡ 1
+IsUnsettled _ found = ⊥
 
 -- the word at a place is what the view has stored there and keeps private
 abbrev pub IsKeptAt : HeapShape → Place → ℕ → Stored → Type 0
@@ -63,7 +65,7 @@ IsKeptAt shape pl found k = number (extent_of shape) k.place ≡ number (extent_
 
 -- what a step of the view v shows of the word that it finds at a place, where h was the history before its own event
 pub record IsRead (shape : HeapShape) (v : View) (h : History) (pl : Place) (found : ℕ) : Type 0 where
-  pub says : (IsUnsettled v.number (heap_after h) pl found → ⊥) → Says shape (heap_after h) pl found
+  pub says : (IsUnsettled pl found → ⊥) → Says shape (heap_after h) pl found
   pub private : Each (IsKeptAt shape pl found) (private_words v.working)
 
 -- What a step tells: other threads' events came between, and then the step's own. What is seen is legal, and in the shape, as it was before the

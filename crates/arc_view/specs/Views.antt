@@ -1,15 +1,19 @@
 -- What a view is at first, which words a view keeps private, and which words it makes other than the heap says.
-use Rattle.std.specs.Prelude.{ℕ, ◌≡◌, ◌+◌, ◌*◌, ◌==◌, ◌||◌, Bool, false, List, [], ◌∷◌, ◌++◌, map, length, Option, None, Some, ⊤}
+use Rattle.std.specs.Prelude.{ℕ, ◌≡◌, ◌+◌, ◌*◌, ◌==◌, ◌||◌, Bool, false, if◌then◌else◌, List, [], ◌∷◌, ◌++◌, map, length, Option, None, Some, ⊤}
 use Rattle.arc_model.specs.declared.event.CellName.{CellName}
 use Rattle.arc_model.specs.declared.event.CellName.TheVariants as cells
+use Rattle.arc_model.specs.Shapes.{HeapShape}
+use Rattle.arc_model.specs.Heaps.{Object}
+use Rattle.arc_model.specs.Cells.{is_immortal}
 use Rattle.arc_model.specs.History.{History, share}
 use Rattle.arc_rule.specs.declared.layout.Place.{Place}
-use Rattle.arc_rule.specs.declared.layout.Place.TheVariants.{Global, Isa, Next, Field}
+use Rattle.arc_rule.specs.declared.layout.Place.TheVariants.{Global, Count, Isa, Next, Field}
 use Rattle.arc_view.specs.declared.view.Role.TheVariants.{Pass, Spent}
 use Rattle.arc_view.specs.declared.view.Stored.{Stored}
 use Rattle.arc_view.specs.declared.view.Begun.{Begun}
 use Rattle.arc_view.specs.declared.view.Parent.{Parent}
 use Rattle.arc_view.specs.declared.view.Entered.{Entered}
+use Rattle.arc_view.specs.declared.view.Naming.{Naming}
 use Rattle.arc_view.specs.declared.view.Working.{Working}
 use Rattle.arc_view.specs.declared.view.View.{View}
 
@@ -56,13 +60,18 @@ next_word (Some q) = 1 + 16 * q.slot + q.field
 abbrev pub kept_next : Entered → Stored
 kept_next e = record { place = Next e.slot; word = next_word e.parent }
 
+-- the inline word of a new object: one strong and one unowned reference, or that it is immortal
+abbrev pub first_word : HeapShape → Object → ℕ
+first_word shape o = if is_immortal shape o then 1 else 2
+
 -- the words that no other pass writes: those of its claimed entries, and the next words of the deinits that it has entered
 abbrev pub private_words : Working → List Stored
 private_words w = w.stored ++ map kept_next w.entered
 
--- the word of the place isn't as the heap says, since the isa word is owed or the cell is being accessed
+-- the word of the place isn't as the heap says, since the inline word or the isa word is still to be written, or the cell is being accessed
 abbrev pub Excepts : Working → Place → Type 0
-Excepts w (Isa s) = w.owes ≡ Some s
+Excepts w (Count s) = w.owes ≡ Some (record { slot = s; counted = false })
+Excepts w (Isa s) = (n : Naming) × (w.owes ≡ Some n) × (n.slot ≡ s)
 Excepts w (Global g) = (a : Begun) × (w.access ≡ Some a) × (cell_place a.cell ≡ Global g)
 Excepts w (Field s f) = (a : Begun) × (w.access ≡ Some a) × (cell_place a.cell ≡ Field s f)
 Excepts w _ = ⊥

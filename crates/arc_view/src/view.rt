@@ -59,10 +59,17 @@ pub struct Entered {
     pub next_field: u32,
 }
 
-/// What a pass has under way, and no history shows: the slot whose isa word it still has to write, the access that it holds,
+/// The object that was put into a slot, and whose inline word and then isa word are still to be written; `counted`: the inline word was.
+#[derive(Clone, Copy)]
+pub struct Naming {
+    pub slot: u32,
+    pub counted: bool,
+}
+
+/// What a pass has under way, and no history shows: the new object whose words it still has to write, the access that it holds,
 /// the words that it has stored in the entries that it claimed, and the deinits that it has entered.
 pub struct Working {
-    pub owes: Option<u32>,
+    pub owes: Option<Naming>,
     pub access: Option<Begun>,
     pub stored: LinkedList<Stored>,
     pub entered: LinkedList<Entered>,

@@ -1,28 +1,36 @@
 -- How many objects a pass has made, and that the first pass sees no stranger, after a step.
 use Rattle.std.proofs.Common.{inl, inr, ◌≡◌, ℕ, zero, suc, ◌+◌, ◌==◌, ◌&&◌, Bool, true, false, cond, [], ◌∷◌, ◌++◌, Option, None, Some, refl, sym, ap, ◌∙◌, subst, arith, eq-eqb}
-use Rattle.std.specs.Prelude.{count_by}
+use Rattle.std.specs.Prelude.{count_by, bit_and, ◌/◌}
 use Rattle.std.proofs.lemmas.List.Sums.{sum_by-cons}
 use Rattle.arc_model.specs.declared.event.Act.{Act}
 use Rattle.arc_model.specs.declared.event.Act.TheVariants as acts
-use Rattle.arc_model.specs.declared.event.CellName.TheVariants as cells
 use Rattle.arc_model.specs.declared.event.Event.{Event}
 use Rattle.arc_model.specs.Shapes.{HeapShape}
-use Rattle.arc_model.specs.History.{History, is_of, share}
+use Rattle.arc_model.specs.declared.shape.Kind.{Kind}
+use Rattle.arc_model.specs.declared.shape.Kind.TheVariants as kinds
+use Rattle.arc_model.specs.declared.shape.Kind.TheVariants.{Strong, Unowned, Weak}
+use Rattle.arc_model.specs.declared.event.Got.TheVariants as got
+use Rattle.arc_model.specs.declared.event.Origin.{Origin}
+use Rattle.arc_model.specs.Heaps.{Hand, Object}
+use Rattle.arc_model.specs.Lookup.{spot}
+use Rattle.arc_model.specs.History.{History, is_of, share, next_hand}
 use Rattle.arc_rule.specs.declared.step.Step.{Step}
 use Rattle.arc_rule.specs.declared.step.Intent.{Intent}
 use Rattle.arc_view.specs.declared.view.View.{View}
 use Rattle.arc_view.specs.Rule.{is_new, news}
-use Rattle.arc_view.specs.Kinds.{act_of, event_list, hit_act, missed_act, stored_act, when, kind_at, source_at}
-use Rattle.arc_view.specs.Built.{IsBuilt, IsAllowed}
+use Rattle.arc_view.specs.Kinds.{act_of, event_list, loaded_act, or_act, and_act, stored_act, hit_act, first_of, when, kind_at, object_at, source_at, is_full, is_forever, is_strong, shows_end, load_refused, load_shown}
+use Rattle.arc_view.specs.Built.{IsAllowed}
 use Rattle.arc_rule.specs.declared.layout.Place.{Place}
 use Rattle.arc_rule.specs.declared.layout.Place.TheVariants as places
 use Rattle.arc_rule.specs.Places.{extent_of, place_at}
+use Rattle.arc_rule.proofs.Places.{place_at-number}
+use Rattle.arc_view.specs.Holding.{heap_of}
 use Rattle.arc_model.specs.declared.event.Origin.TheVariants as origins
 use Rattle.arc_view.specs.Steps.{Told}
 use Rattle.arc_view.proofs.Lists.{share-append, share_of_other}
 use Rattle.arc_view.specs.Calls.{Grew}
 use Rattle.arc_view.specs.Passes.{newcomer}
-use Rattle.arc_rule.specs.declared.step.Step.TheVariants.{Load, Exchange, Store}
+use Rattle.arc_rule.specs.declared.step.Step.TheVariants.{Load, Exchange, Store, Or, And}
 use Rattle.arc_rule.specs.declared.step.Intent.TheVariants as intents
 use Rattle.arc_view_laws.specs.Strangers.{SeesNoStranger, makes_object}
 use Rattle.arc_view_laws.proofs.Growing.{acts_of, told_grew}
@@ -75,94 +83,261 @@ news_when : (b : Bool) (a : Act) → is_new a ≡ false → news_if (when b a) �
 news_when true a e = ap (λ b. cond b 1 zero) e
 news_when false a e = refl
 
--- a step makes an object where its exchange for one finds its slot free
-news_act : (shape : HeapShape) (v : View) (st : Step) (intent : Intent) (found : ℕ) → IsBuilt shape v st intent → news_if (act_of shape v st intent found) ≡ cond (makes_object st intent found) 1 zero
-news_act shape v (Load place) intent found (inl silent) = ap news_if (silent.0 found)
-news_act shape v (Load place) (intents.Copy (origins.Hand k)) found (inr strong) = news_when _ (acts.CountFull (kind_at (source_at v (origins.Hand k))) (origins.Hand k)) refl
-news_act shape v (Load place) (intents.Copy (origins.Cell c)) found (inr none) = absurd (none)
-news_act shape v (Load place) intents.Look found (inr none) = absurd (none)
-news_act shape v (Load place) (intents.New class) found (inr none) = absurd (none)
-news_act shape v (Load place) (intents.UnownedOf of) found (inr none) = absurd (none)
-news_act shape v (Load place) (intents.WeakOf of) found (inr none) = absurd (none)
-news_act shape v (Load place) (intents.Load of) found (inr none) = absurd (none)
-news_act shape v (Load place) (intents.Drop k) found (inr none) = absurd (none)
-news_act shape v (Load place) (intents.Claim of) found (inr none) = absurd (none)
-news_act shape v (Load place) (intents.Publish of why) found (inr none) = absurd (none)
-news_act shape v (Load place) intents.Back found (inr none) = absurd (none)
-news_act shape v (Load place) (intents.Swap cell put) found (inr none) = absurd (none)
-news_act shape v (Load place) (intents.Access cell) found (inr none) = absurd (none)
-news_act shape v (Load place) (intents.Deinit slot) found (inr none) = absurd (none)
-news_act shape v (Load place) intents.Vacate found (inr none) = absurd (none)
-news_act shape v (Load place) intents.Gone found (inr none) = absurd (none)
-news_act shape v (Exchange place old new) (intents.New class) found built = go (found == old)
+news_first : (b : Bool) (a : Act) (m : Option Act) → is_new a ≡ false → news_if m ≡ zero → news_if (first_of b a m) ≡ zero
+news_first true a m e rest = ap (λ b. cond b 1 zero) e
+news_first false a m e rest = rest
+
+news_cond : (b : Bool) (m : Option Act) → news_if m ≡ zero → news_if (cond b m None) ≡ zero
+news_cond true m e = e
+news_cond false m e = refl
+
+-- a load for one reference more makes none
+news_copied : (shape : HeapShape) (v : View) (pl : Place) (found : ℕ) (from : Origin) → news_if (loaded_act shape v pl found (intents.Copy from)) ≡ zero
+news_copied shape v pl found from =
+    let at = source_at v from in
+    let full = is_full shape (kind_at at) (object_at (heap_of v) at) pl found in
+    news_first (is_forever (kind_at at) (object_at (heap_of v) at) pl found) (acts.Copy from (next_hand v.number v.seen)) (when full (acts.CountFull (kind_at at) from)) refl (news_when full (acts.CountFull (kind_at at) from) refl)
+
+news_unowned : (shape : HeapShape) (v : View) (pl : Place) (found of : ℕ) → news_if (loaded_act shape v pl found (intents.UnownedOf of)) ≡ zero
+news_unowned shape v pl found of =
+    let at = spot (Hand v.number of) (heap_of v) in
+    let full = is_full shape Unowned (object_at (heap_of v) at) pl found in
+    news_first (is_strong (kind_at at) && is_forever Unowned (object_at (heap_of v) at) pl found) (acts.UnownedOf of (next_hand v.number v.seen)) (when full (acts.CountFull Unowned (origins.Hand of))) refl (news_when full (acts.CountFull Unowned (origins.Hand of)) refl)
+
+news_refused : (shape : HeapShape) (o : Option Object) (pl : Place) (found of : ℕ) (a : Act) → is_new a ≡ false → news_if (load_refused shape o pl found of a) ≡ zero
+news_refused shape o pl found of a e =
+    let full = is_full shape Strong o pl found in
+    news_first (shows_end o pl found) a (when full (acts.CountFull Strong (origins.Hand of))) e (news_when full (acts.CountFull Strong (origins.Hand of)) refl)
+
+news_load : (shape : HeapShape) (kind : Kind) (o : Option Object) (pl : Place) (found of n : ℕ) → news_if (load_shown shape kind o pl found of n) ≡ zero
+news_load shape Strong o pl found of n = refl
+news_load shape Unowned o pl found of n = news_first (is_forever Strong o pl found) (acts.Load of (got.Hand n)) (load_refused shape o pl found of (acts.Load of got.Dead)) refl (news_refused shape o pl found of (acts.Load of got.Dead) refl)
+news_load shape Weak o pl found of n = news_refused shape o pl found of (acts.Load of got.Nil) refl
+
+-- nor does a load of a search
+news_searched : (shape : HeapShape) (v : View) (pl : Place) (found class : ℕ) → news_if (loaded_act shape v pl found (intents.New class)) ≡ zero
+news_searched shape v places.Zero found class = refl
+news_searched shape v (places.Global g) found class = refl
+news_searched shape v (places.Count s) found class = refl
+news_searched shape v (places.Isa s) found class = refl
+news_searched shape v (places.Next s) found class = refl
+news_searched shape v (places.Field s f) found class = refl
+news_searched shape v (places.Link e) found class = refl
+news_searched shape v (places.Strong e) found class = refl
+news_searched shape v (places.Unowned e) found class = refl
+news_searched shape v (places.Weak e) found class = refl
+news_searched shape v (places.SlotBits k) found class = news_when _ acts.Full refl
+news_searched shape v (places.EntryBits k) found class = refl
+
+news_claimed : (shape : HeapShape) (v : View) (pl : Place) (found : ℕ) (of : Origin) → news_if (loaded_act shape v pl found (intents.Claim of)) ≡ zero
+news_claimed shape v places.Zero found of = refl
+news_claimed shape v (places.Global g) found of = refl
+news_claimed shape v (places.Count s) found of = refl
+news_claimed shape v (places.Isa s) found of = refl
+news_claimed shape v (places.Next s) found of = refl
+news_claimed shape v (places.Field s f) found of = refl
+news_claimed shape v (places.Link e) found of = refl
+news_claimed shape v (places.Strong e) found of = refl
+news_claimed shape v (places.Unowned e) found of = refl
+news_claimed shape v (places.Weak e) found of = refl
+news_claimed shape v (places.SlotBits k) found of = refl
+news_claimed shape v (places.EntryBits k) found of = news_when _ acts.NoEntry refl
+
+-- an exchange makes none
+news_hit : (v : View) (pl : Place) (old new : ℕ) (intent : Intent) → news_if (hit_act v pl old new intent) ≡ zero
+news_hit v pl old new intents.Look = refl
+news_hit v pl old new (intents.New class) = refl
+news_hit v pl old new (intents.Copy from) = refl
+news_hit v pl old new (intents.UnownedOf of) = refl
+news_hit v pl old new (intents.WeakOf of) = refl
+news_hit v pl old new (intents.Load of) = refl
+news_hit v pl old new (intents.Drop k) = refl
+news_hit v pl old new (intents.Claim of) = refl
+news_hit v pl old new (intents.Publish of why) = refl
+news_hit v pl old new intents.Back = refl
+news_hit v pl old new (intents.Swap cell put) = refl
+news_hit v pl old new (intents.Access cell) = refl
+news_hit v pl old new (intents.Deinit slot) = refl
+news_hit v pl old new intents.Vacate = refl
+news_hit v pl old new intents.Gone = refl
+
+-- a store makes none
+news_stored_new : (v : View) (pl : Place) (class : ℕ) → news_if (stored_act v pl (intents.New class)) ≡ zero
+news_stored_new v places.Zero class = refl
+news_stored_new v (places.Global g) class = refl
+news_stored_new v (places.Count s) class = refl
+news_stored_new v (places.Isa s) class = refl
+news_stored_new v (places.Next s) class = refl
+news_stored_new v (places.Field s f) class = refl
+news_stored_new v (places.Link e) class = refl
+news_stored_new v (places.Strong e) class = refl
+news_stored_new v (places.Unowned e) class = refl
+news_stored_new v (places.Weak e) class = refl
+news_stored_new v (places.SlotBits k) class = refl
+news_stored_new v (places.EntryBits k) class = refl
+
+news_stored_claim : (v : View) (pl : Place) (of : Origin) → news_if (stored_act v pl (intents.Claim of)) ≡ zero
+news_stored_claim v places.Zero of = refl
+news_stored_claim v (places.Global g) of = refl
+news_stored_claim v (places.Count s) of = refl
+news_stored_claim v (places.Isa s) of = refl
+news_stored_claim v (places.Next s) of = refl
+news_stored_claim v (places.Field s f) of = refl
+news_stored_claim v (places.Link e) of = refl
+news_stored_claim v (places.Strong e) of = refl
+news_stored_claim v (places.Unowned e) of = refl
+news_stored_claim v (places.Weak e) of = refl
+news_stored_claim v (places.SlotBits k) of = refl
+news_stored_claim v (places.EntryBits k) of = refl
+
+news_stored_fill : (v : View) (pl : Place) (of : Origin) (why : Kind) → news_if (stored_act v pl (intents.Publish of why)) ≡ zero
+news_stored_fill v places.Zero of why = refl
+news_stored_fill v (places.Global g) of why = refl
+news_stored_fill v (places.Count s) of why = refl
+news_stored_fill v (places.Isa s) of why = refl
+news_stored_fill v (places.Next s) of why = refl
+news_stored_fill v (places.Field s f) of why = refl
+news_stored_fill v (places.Link e) of why = refl
+news_stored_fill v (places.Strong e) of why = refl
+news_stored_fill v (places.Unowned e) of why = refl
+news_stored_fill v (places.Weak e) of why = refl
+news_stored_fill v (places.SlotBits k) of why = refl
+news_stored_fill v (places.EntryBits k) of why = refl
+
+news_stored_ended : (v : View) (pl : Place) (slot : ℕ) → news_if (stored_act v pl (intents.Deinit slot)) ≡ zero
+news_stored_ended v places.Zero slot = refl
+news_stored_ended v (places.Global g) slot = refl
+news_stored_ended v (places.Count s) slot = refl
+news_stored_ended v (places.Isa s) slot = refl
+news_stored_ended v (places.Next s) slot = refl
+news_stored_ended v (places.Field s f) slot = refl
+news_stored_ended v (places.Link e) slot = refl
+news_stored_ended v (places.Strong e) slot = refl
+news_stored_ended v (places.Unowned e) slot = refl
+news_stored_ended v (places.Weak e) slot = refl
+news_stored_ended v (places.SlotBits k) slot = refl
+news_stored_ended v (places.EntryBits k) slot = refl
+
+-- nor an And, nor an Or for an entry
+news_vacated : (pl : Place) (bits : ℕ) → news_if (and_act pl bits intents.Vacate) ≡ zero
+news_vacated places.Zero bits = refl
+news_vacated (places.Global g) bits = refl
+news_vacated (places.Count s) bits = refl
+news_vacated (places.Isa s) bits = refl
+news_vacated (places.Next s) bits = refl
+news_vacated (places.Field s f) bits = refl
+news_vacated (places.Link e) bits = refl
+news_vacated (places.Strong e) bits = refl
+news_vacated (places.Unowned e) bits = refl
+news_vacated (places.Weak e) bits = refl
+news_vacated (places.SlotBits k) bits = refl
+news_vacated (places.EntryBits k) bits = refl
+
+news_back : (pl : Place) (bits : ℕ) → news_if (and_act pl bits intents.Back) ≡ zero
+news_back places.Zero bits = refl
+news_back (places.Global g) bits = refl
+news_back (places.Count s) bits = refl
+news_back (places.Isa s) bits = refl
+news_back (places.Next s) bits = refl
+news_back (places.Field s f) bits = refl
+news_back (places.Link e) bits = refl
+news_back (places.Strong e) bits = refl
+news_back (places.Unowned e) bits = refl
+news_back (places.Weak e) bits = refl
+news_back (places.SlotBits k) bits = refl
+news_back (places.EntryBits k) bits = refl
+
+news_entry : (v : View) (pl : Place) (bits : ℕ) (of : Origin) → news_if (or_act v pl bits (intents.Claim of)) ≡ zero
+news_entry v places.Zero bits of = refl
+news_entry v (places.Global g) bits of = refl
+news_entry v (places.Count s) bits of = refl
+news_entry v (places.Isa s) bits of = refl
+news_entry v (places.Next s) bits of = refl
+news_entry v (places.Field s f) bits of = refl
+news_entry v (places.Link e) bits of = refl
+news_entry v (places.Strong e) bits of = refl
+news_entry v (places.Unowned e) bits of = refl
+news_entry v (places.Weak e) bits of = refl
+news_entry v (places.SlotBits k) bits of = refl
+news_entry v (places.EntryBits k) bits of = refl
+
+-- a step makes an object where its Or for one finds the slot's bit clear
+news_act : (shape : HeapShape) (v : View) (st : Step) (intent : Intent) (found : ℕ) → IsAllowed shape v st intent → news_if (act_of shape v st intent found) ≡ cond (makes_object st intent found) 1 zero
+news_act shape v (Load place) intent found (may, inl silent) = ap news_if (silent.0 found)
+news_act shape v (Load place) intents.Look found (may, inr told) = refl
+news_act shape v (Load place) (intents.New class) found (may, inr told) = news_searched shape v (place_at (extent_of shape) place) found class
+news_act shape v (Load place) (intents.Copy from) found (may, inr told) = news_copied shape v (place_at (extent_of shape) place) found from
+news_act shape v (Load place) (intents.UnownedOf of) found (may, inr told) = news_unowned shape v (place_at (extent_of shape) place) found of
+news_act shape v (Load place) (intents.WeakOf of) found (may, inr told) = news_when _ (acts.CountFull kinds.Weak (origins.Hand of)) refl
+news_act shape v (Load place) (intents.Load of) found (may, inr told) =
+    news_load shape (kind_at (spot (Hand v.number of) (heap_of v))) (object_at (heap_of v) (spot (Hand v.number of) (heap_of v))) (place_at (extent_of shape) place) found of (next_hand v.number v.seen)
+news_act shape v (Load place) (intents.Drop k) found (may, inr told) = news_when _ (acts.Drop k false) refl
+news_act shape v (Load place) (intents.Claim of) found (may, inr told) = news_claimed shape v (place_at (extent_of shape) place) found of
+news_act shape v (Load place) (intents.Publish of why) found (may, inr told) = refl
+news_act shape v (Load place) intents.Back found (may, inr told) = refl
+news_act shape v (Load place) (intents.Swap cell put) found (may, inr told) = refl
+news_act shape v (Load place) (intents.Access cell) found (may, inr told) = news_when _ (acts.Look cell) refl
+news_act shape v (Load place) (intents.Deinit slot) found (may, inr told) = refl
+news_act shape v (Load place) intents.Vacate found (may, inr told) = refl
+news_act shape v (Load place) intents.Gone found (may, inr told) = refl
+news_act shape v (Exchange place old new) intent found (may, built) = news_cond (found == old) (hit_act v (place_at (extent_of shape) place) old new intent) (news_hit v (place_at (extent_of shape) place) old new intent)
+news_act shape v (Store place new) intents.Look found (may, none) = absurd (none)
+news_act shape v (Store place new) (intents.New class) found (may, built) = news_stored_new v (place_at (extent_of shape) place) class
+news_act shape v (Store place new) (intents.Copy from) found (may, none) = absurd (none)
+news_act shape v (Store place new) (intents.UnownedOf of) found (may, none) = absurd (none)
+news_act shape v (Store place new) (intents.WeakOf of) found (may, none) = absurd (none)
+news_act shape v (Store place new) (intents.Load of) found (may, none) = absurd (none)
+news_act shape v (Store place new) (intents.Drop k) found (may, none) = absurd (none)
+news_act shape v (Store place new) (intents.Claim of) found (may, built) = news_stored_claim v (place_at (extent_of shape) place) of
+news_act shape v (Store place new) (intents.Publish of why) found (may, built) = news_stored_fill v (place_at (extent_of shape) place) of why
+news_act shape v (Store place new) intents.Back found (may, none) = absurd (none)
+news_act shape v (Store place new) (intents.Swap cell put) found (may, none) = absurd (none)
+news_act shape v (Store place new) (intents.Access cell) found (may, none) = absurd (none)
+news_act shape v (Store place new) (intents.Deinit slot) found (may, built) = news_stored_ended v (place_at (extent_of shape) place) slot
+news_act shape v (Store place new) intents.Vacate found (may, none) = absurd (none)
+news_act shape v (Store place new) intents.Gone found (may, none) = absurd (none)
+news_act shape v (Or place bits) intents.Look found (may, none) = absurd (none)
+news_act shape v (Or place bits) (intents.Copy from) found (may, none) = absurd (none)
+news_act shape v (Or place bits) (intents.UnownedOf of) found (may, none) = absurd (none)
+news_act shape v (Or place bits) (intents.WeakOf of) found (may, none) = absurd (none)
+news_act shape v (Or place bits) (intents.Load of) found (may, none) = absurd (none)
+news_act shape v (Or place bits) (intents.Drop k) found (may, none) = absurd (none)
+news_act shape v (Or place bits) (intents.Claim of) found (may, built) = news_cond (bit_and found bits == 0) (or_act v (place_at (extent_of shape) place) bits (intents.Claim of)) (news_entry v (place_at (extent_of shape) place) bits of)
+news_act shape v (Or place bits) (intents.Publish of why) found (may, none) = absurd (none)
+news_act shape v (Or place bits) intents.Back found (may, none) = absurd (none)
+news_act shape v (Or place bits) (intents.Swap cell put) found (may, none) = absurd (none)
+news_act shape v (Or place bits) (intents.Access cell) found (may, none) = absurd (none)
+news_act shape v (Or place bits) (intents.Deinit slot) found (may, none) = absurd (none)
+news_act shape v (Or place bits) intents.Vacate found (may, none) = absurd (none)
+news_act shape v (Or place bits) intents.Gone found (may, none) = absurd (none)
+news_act shape v (And place bits) intents.Look found (may, none) = absurd (none)
+news_act shape v (And place bits) (intents.New class) found (may, none) = absurd (none)
+news_act shape v (And place bits) (intents.Copy from) found (may, none) = absurd (none)
+news_act shape v (And place bits) (intents.UnownedOf of) found (may, none) = absurd (none)
+news_act shape v (And place bits) (intents.WeakOf of) found (may, none) = absurd (none)
+news_act shape v (And place bits) (intents.Load of) found (may, none) = absurd (none)
+news_act shape v (And place bits) (intents.Drop k) found (may, none) = absurd (none)
+news_act shape v (And place bits) (intents.Claim of) found (may, none) = absurd (none)
+news_act shape v (And place bits) (intents.Publish of why) found (may, none) = absurd (none)
+news_act shape v (And place bits) intents.Back found (may, built) = news_back (place_at (extent_of shape) place) bits
+news_act shape v (And place bits) (intents.Swap cell put) found (may, none) = absurd (none)
+news_act shape v (And place bits) (intents.Access cell) found (may, none) = absurd (none)
+news_act shape v (And place bits) (intents.Deinit slot) found (may, none) = absurd (none)
+news_act shape v (And place bits) intents.Vacate found (may, built) = news_vacated (place_at (extent_of shape) place) bits
+news_act shape v (And place bits) intents.Gone found (may, none) = absurd (none)
+news_act shape v (Or place bits) (intents.New class) found ((pl, is, inside, free, (s, word, below, bits_is, is_class, room)), built) = go (bit_and found bits == 0)
   where
-    go : (b : Bool) → news_if (cond b (hit_act v (place_at (extent_of shape) place) old new (intents.New class)) (missed_act shape v place new (intents.New class))) ≡ cond b 1 zero
-    go true = refl
-    go false = news_when _ acts.Full refl
-news_act shape v (Exchange place old new) (intents.Copy (origins.Hand k)) found built = go (found == old)
-  where
-    go : (b : Bool) → news_if (cond b (hit_act v (place_at (extent_of shape) place) old new (intents.Copy (origins.Hand k))) (missed_act shape v place new (intents.Copy (origins.Hand k)))) ≡ zero
-    go true = refl
+    taken : place_at (extent_of shape) place ≡ places.SlotBits (s / 64)
+    taken = ap (place_at (extent_of shape)) is ∙ (place_at-number (extent_of shape) pl inside ∙ word)
+
+    go : (b : Bool) → news_if (cond b (or_act v (place_at (extent_of shape) place) bits (intents.New class)) None) ≡ cond b 1 zero
+    go true = ap (λ (q : Place). news_if (or_act v q bits (intents.New class))) taken
     go false = refl
-news_act shape v (Exchange place old new) (intents.Drop k) found built = go (found == old)
-  where
-    go : (b : Bool) → news_if (cond b (hit_act v (place_at (extent_of shape) place) old new (intents.Drop k)) (missed_act shape v place new (intents.Drop k))) ≡ zero
-    go true = refl
-    go false = refl
-news_act shape v (Exchange place old new) intents.Look found built = absurd (built)
-news_act shape v (Exchange place old new) (intents.Copy (origins.Cell c)) found built = absurd (built)
-news_act shape v (Exchange place old new) (intents.UnownedOf of) found built = absurd (built)
-news_act shape v (Exchange place old new) (intents.WeakOf of) found built = absurd (built)
-news_act shape v (Exchange place old new) (intents.Load of) found built = absurd (built)
-news_act shape v (Exchange place old new) (intents.Claim of) found built = absurd (built)
-news_act shape v (Exchange place old new) (intents.Publish of why) found built = absurd (built)
-news_act shape v (Exchange place old new) intents.Back found built = absurd (built)
-news_act shape v (Exchange place old new) (intents.Swap (cells.Global g) put) found built = go (found == old)
-  where
-    go : (b : Bool) → news_if (cond b (hit_act v (place_at (extent_of shape) place) old new (intents.Swap (cells.Global g) put)) (missed_act shape v place new (intents.Swap (cells.Global g) put))) ≡ zero
-    go true = refl
-    go false = refl
-news_act shape v (Exchange place old new) (intents.Swap (cells.Field s f) put) found built = absurd (built)
-news_act shape v (Exchange place old new) (intents.Access cell) found built = absurd (built)
-news_act shape v (Exchange place old new) (intents.Deinit slot) found built = go (found == old)
-  where
-    go : (b : Bool) → news_if (cond b (hit_act v (place_at (extent_of shape) place) old new (intents.Deinit slot)) (missed_act shape v place new (intents.Deinit slot))) ≡ zero
-    go true = refl
-    go false = refl
-news_act shape v (Exchange place old new) intents.Vacate found built = absurd (built)
-news_act shape v (Exchange place old new) intents.Gone found built = absurd (built)
-news_act shape v (Store place new) (intents.New class) found built = refl
-news_act shape v (Store place new) intents.Look found built = absurd (built)
-news_act shape v (Store place new) (intents.Copy from) found built = absurd (built)
-news_act shape v (Store place new) (intents.UnownedOf of) found built = absurd (built)
-news_act shape v (Store place new) (intents.WeakOf of) found built = absurd (built)
-news_act shape v (Store place new) (intents.Load of) found built = absurd (built)
-news_act shape v (Store place new) (intents.Drop k) found built = absurd (built)
-news_act shape v (Store place new) (intents.Claim of) found built = absurd (built)
-news_act shape v (Store place new) (intents.Publish of why) found built = absurd (built)
-news_act shape v (Store place new) intents.Back found built = absurd (built)
-news_act shape v (Store place new) (intents.Swap cell put) found built = absurd (built)
-news_act shape v (Store place new) (intents.Access cell) found built = absurd (built)
-news_act shape v (Store place new) (intents.Deinit slot) found built = go (place_at (extent_of shape) place)
-  where
-    go : (pl : Place) → news_if (stored_act v pl (intents.Deinit slot)) ≡ zero
-    go places.Zero = refl
-    go (places.Global g) = refl
-    go (places.Count s) = refl
-    go (places.Isa s) = refl
-    go (places.Next s) = refl
-    go (places.Field s f) = refl
-    go (places.Link e) = refl
-    go (places.Strong e) = refl
-    go (places.Unowned e) = refl
-    go (places.Weak e) = refl
-news_act shape v (Store place new) intents.Vacate found built = refl
-news_act shape v (Store place new) intents.Gone found built = absurd (built)
 
 pub news_step : (shape : HeapShape) (intent : Intent) (st : Step) (v : View) (found : ℕ) (w : View) → IsAllowed shape v st intent → Told shape intent st v found w → news w.number w.seen ≡ cond (makes_object st intent found) 1 zero + news v.number v.seen
 news_step shape intent st v found w allowed t =
     let a = news_told (act_of shape v st intent found) v w (told_grew shape intent st v found w t) in
-    let b = news_act shape v st intent found allowed.1 in omega (arith, a, b)
+    let b = news_act shape v st intent found allowed in omega (arith, a, b)
 
 -- a pass that was just split off has made nothing
 pub newcomer_made : (v : View) → SeesNoStranger v → v.number ≡ 0 → news (newcomer v).number (newcomer v).seen ≡ zero

@@ -1,5 +1,5 @@
 -- The word that a pass finds in the slot of an object whose deinit it owes.
-use Rattle.std.proofs.Common.{◌≡◌, ℕ, ◌≤◌, ◌<◌, true, List, [], ◌∷◌, length, Option, None, Some, refl, sym, ap, ◌∙◌, subst, arith}
+use Rattle.std.proofs.Common.{◌≡◌, ℕ, ◌≤◌, ◌<◌, Bool, true, false, List, [], ◌∷◌, ◌++◌, length, Option, None, Some, refl, sym, ap, ◌∙◌, subst, arith}
 use Rattle.arc_bits.specs.declared.packing.Inline.{Inline}
 use Rattle.arc_bits.specs.declared.packing.Word.TheVariants.{Counts, Slow}
 use Rattle.arc_bits.specs.Words.{CountsFit, IsWordOf, unpacked}
@@ -7,13 +7,14 @@ use Rattle.arc_bits.proofs.Unpacking.{unpacked-packed}
 use Rattle.arc_model.specs.Shapes.{HeapShape}
 use Rattle.arc_model.specs.Heaps.{Holder, Strongs, Deinit, Object}
 use Rattle.arc_model.specs.Holders.{is_empty}
+use Rattle.arc_model.specs.Cells.{is_immortal, forever_if, strong_holders}
 use Rattle.arc_model.specs.History.{History, heap_after, IsLegal}
 use Rattle.arc_model.specs.Lookup.{duty_of}
 use Rattle.arc_model.specs.WellFormed.{tally}
 use Rattle.arc_model.proofs.Courses.{well_formed}
 use Rattle.arc_model.proofs.Stages.{dying-facts}
 use Rattle.arc_rule.specs.declared.layout.Place.TheVariants.{Count}
-use Rattle.arc_rule.specs.Shown.{Says, ShowsCounts, IsHeader, counts_in}
+use Rattle.arc_rule.specs.Shown.{Says, ShowsCounts, IsInline, IsHeader, counts_in}
 use Rattle.arc_view.specs.Holding.{At}
 use Rattle.arc_view.specs.Rule.{IsWithin, InShape, IsSized}
 use Rattle.arc_view.proofs.Owed.{duty_parts}
@@ -29,15 +30,29 @@ tally_some : (xs : List Holder) → tally Strongs xs ≡ 1 → 1 ≤ length xs
 tally_some [] t = absurd (omega (arith, t))
 tally_some (x ∷ xs) t = omega arith
 
+-- an object without strong holders has an empty strong list, and isn't immortal
+pub dying_mortal : (shape : HeapShape) (o : Object) → is_empty (strong_holders shape o) ≡ true → (is_empty o.strong ≡ true) × (is_immortal shape o ≡ false)
+dying_mortal shape o = go (is_immortal shape o) o.strong
+  where
+    go : (b : Bool) (xs : List Holder) → is_empty (xs ++ forever_if b) ≡ true → (is_empty xs ≡ true) × (b ≡ false)
+    go true [] e = absurd cc
+    go true (x ∷ xs) e = absurd cc
+    go false [] e = (refl, refl)
+    go false (x ∷ xs) e = absurd cc
+
 -- its strong list is empty, and Strongs is an unowned holder
 pub dying_lists : (shape : HeapShape) (h : History) (p i : ℕ) (o : Object) → IsLegal shape h → At (heap_after h) i o → duty_of p i (heap_after h) ≡ Some Deinit → (is_empty o.strong ≡ true) × (1 ≤ length o.unowned)
-dying_lists shape h p i o legal here duty = let f = dying-facts o ((well_formed shape h legal).whole i o here) (duty_parts h p i Deinit o here duty).1 in (f.strong, tally_some o.unowned f.strongs)
+dying_lists shape h p i o legal here duty = let f = dying-facts o ((well_formed shape h legal).whole i o here) (duty_parts h p i Deinit o here duty).1 in ((dying_mortal shape o f.strong).0, tally_some o.unowned f.strongs)
 
 pub shows_dying : (shape : HeapShape) (h : History) (p i s w : ℕ) (o : Object) → IsSized shape → IsLegal shape h → InShape shape h → At (heap_after h) i o → duty_of p i (heap_after h) ≡ Some Deinit → o.slot ≡ Some s → Says shape (heap_after h) (Count s) w → ShowsDying shape o w
-shows_dying shape h p i s w o sized legal within here duty slot says = go o.entry refl (subst (λ m. ShowsCounts shape m w) (slot_found shape h i s o legal here slot) says)
+shows_dying shape h p i s w o sized legal within here duty slot says =
+    go o.entry refl (subst (λ b. IsInline b shape o w) mortal (subst (λ m. ShowsCounts shape m w) (slot_found shape h i s o legal here slot) says))
   where
     lists : (is_empty o.strong ≡ true) × (1 ≤ length o.unowned)
     lists = dying_lists shape h p i o legal here duty
+
+    mortal : is_immortal shape o ≡ false
+    mortal = (dying_mortal shape o (dying-facts o ((well_formed shape h legal).whole i o here) (duty_parts h p i Deinit o here duty).1).strong).1
 
     go : (m : Option ℕ) → o.entry ≡ m → IsHeader shape o m w → ShowsDying shape o w
     go None none (is, strong_cap, unowned_cap) =

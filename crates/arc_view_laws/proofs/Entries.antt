@@ -11,7 +11,7 @@ use Rattle.arc_model.specs.declared.shape.Kind.TheVariants.{Strong, Unowned, Wea
 use Rattle.arc_model.specs.Shapes.{HeapShape}
 use Rattle.arc_model.specs.Heaps.{Holder, Hand, Strongs, Unowneds, Duty, Vacating, Object, Heap}
 use Rattle.arc_model.specs.Holders.{is_empty, at_first, holds, kind_in, in_slot, has_entry, held_by, lists, gains, with_list, with_last, without, renamed, change}
-use Rattle.arc_model.specs.Cells.{cell, origin}
+use Rattle.arc_model.specs.Cells.{cell, origin, strong_holders}
 use Rattle.arc_model.specs.Effects.{effect, made, ended_if, given_up, entry_left, finished, left_slot, vacated, owing_none, gone, put_in, taken_out}
 use Rattle.arc_model.specs.Needs.{first_failing, needs, passes, is_at_cap}
 use Rattle.arc_model.specs.History.{History, heap_after, sight, share, IsLegal}
@@ -109,7 +109,7 @@ pub none_after : (p : ℕ) (act : Act) (heap : Heap) (i : ℕ) (o q : Object) �
 none_after p act heap i o q no_side here none there = let b = bare_after p act heap i no_side (o, here, none) in ap (λ (x : Object). x.entry) (Some-inj (sym there ∙ b.1)) ∙ b.2
 
 -- a Side needs a list at its capped, of an object that is live or has an unowned reference
-capless : (shape : HeapShape) (why : Kind) (o : Object) → 1 ≤ shape.caps.unowned → is_empty o.strong ≡ true → is_empty o.unowned ≡ true → is_at_cap shape why o ≡ true → ⊥
+capless : (shape : HeapShape) (why : Kind) (o : Object) → 1 ≤ shape.caps.unowned → is_empty (strong_holders shape o) ≡ true → is_empty o.unowned ≡ true → is_at_cap shape why o ≡ true → ⊥
 capless shape Strong o capped s u e = true≢false (sym e ∙ ap (λ (b : Bool). not b && length o.strong == shape.caps.strong + 1) s)
 capless shape Unowned o capped s u e = true≢false (sym e ∙ (ap (λ xs. length xs == shape.caps.unowned) (empty-is o.unowned u) ∙ ne_eqb 0 shape.caps.unowned (λ z. omega (arith, z, capped))))
 capless shape Weak o capped s u e = true≢false (sym e ∙ ap not s)

@@ -9,7 +9,7 @@ use Rattle.arc_rule.specs.declared.step.Step.TheVariants.{Load}
 use Rattle.arc_rule.specs.declared.step.Intent.{Intent}
 use Rattle.arc_rule.specs.declared.step.Intent.TheVariants.{Look}
 use Rattle.arc_rule.specs.declared.layout.Place.{Place}
-use Rattle.arc_rule.specs.declared.layout.Place.TheVariants.{Zero, Global, Count, Isa, Next, Field, Link, Strong, Unowned, Weak}
+use Rattle.arc_rule.specs.declared.layout.Place.TheVariants.{Zero, Global, Count, Isa, Next, Field, Link, Strong, Unowned, Weak, SlotBits, EntryBits}
 use Rattle.arc_rule.specs.Places.{extent_of, place_at}
 use Rattle.arc_view.specs.declared.view.Working.{Working}
 use Rattle.arc_view.specs.declared.view.View.{View}
@@ -62,10 +62,12 @@ look_works w (Link e) found = refl
 look_works w (Strong e) found = refl
 look_works w (Unowned e) found = refl
 look_works w (Weak e) found = refl
+look_works w (SlotBits k) found = refl
+look_works w (EntryBits k) found = refl
 
 -- a pass that owes no name may look
 pub look_allowed : (shape : HeapShape) (v : View) → v.working.owes ≡ None → IsAllowed shape v (Load 0) Look
-look_allowed shape v free = ((Zero, refl, tt, free, tt), inl (λ found. refl, λ found. look_works v.working (place_at (extent_of shape) 0) found))
+look_allowed shape v free = ((Zero, refl, tt, free, tt, tt), inl (λ found. refl, λ found. look_works v.working (place_at (extent_of shape) 0) found))
 
 pub met_called : (shape : HeapShape) (v u : View) (found : ℕ) (w : View) → Told shape Look (Load 0) (met v u) found w → Called shape [] 2 v w × StartsWith w.seen u.seen × (w.working ≡ v.working)
 met_called shape v u found w t =

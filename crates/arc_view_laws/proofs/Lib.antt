@@ -10,3 +10,4 @@ pub mod Deinits
 pub mod Vacatings
 pub mod StrongWords
 pub mod DyingWords
+pub mod Names

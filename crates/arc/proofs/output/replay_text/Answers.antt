@@ -1,5 +1,4 @@
-use Rattle.arc_rule.specs.Places.{extent_of}
-use Rattle.arc.proofs.Reported.{threads_told, end_told, events_told, final_words, no_classes}
+use Rattle.arc.proofs.Reported.{threads_told, end_told, events_told, final_words, classes_there}
 use Rattle.arc.proofs.output.replay_text.Goals as goal
 
 pub report_text-requires-clause-threads : goal.report_text-requires-clause-threads
@@ -12,11 +11,11 @@ report_text-requires-clause-end c =
 
 pub report_text-requires-clause-words : goal.report_text-requires-clause-words
 report_text-requires-clause-words c =
-    rw c.deref-3.ensures.value (final_words (extent_of c.args.script.now.shape) _ c.in_ok-replay.ensures.left)
+    rw c.deref-3.ensures.value (final_words c.args.script.now.shape _ c.in_ok-replay.ensures.left)
 
 pub report_text-requires-clause-classes : goal.report_text-requires-clause-classes
 report_text-requires-clause-classes c =
-    rw c.deref-3.ensures.value (no_classes _ (extent_of c.args.script.now.shape) _ c.in_ok-replay.ensures.left)
+    rw c.deref-3.ensures.value (classes_there c.args.script.now _ c.requires.script c.in_ok-replay.ensures.left)
 
 pub history_text-requires-clause-events : goal.history_text-requires-clause-events
 history_text-requires-clause-events c =

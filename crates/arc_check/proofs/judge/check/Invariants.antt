@@ -1,8 +1,5 @@
-use Rattle.std.proofs.Common.{◌≡◌, ◌+◌, ◌*◌, ◌≤◌, length}
+use Rattle.std.proofs.Common.{length}
 use Rattle.arc_text.specs.Lines.{lines_of}
-use Rattle.arc_heap_judge.specs.Stands.{thread_count}
-use Rattle.arc_check.specs.EventTexts.{history_of, with_shape}
-use Rattle.arc_check.specs.Reading.{left, IsNamedBy}
 use Rattle.arc_check.proofs.Judged.{HasJudged}
 use Rattle.arc_check.proofs.judge.check.Given as goal
 

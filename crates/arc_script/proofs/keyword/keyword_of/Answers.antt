@@ -42,3 +42,18 @@ pub returns-in-schedule : goal.returns-in-schedule
 returns-in-schedule c =
     let spelled : c.args.word.now ≡ codes "schedule" = text_from_reads c.args.word.now (codes "schedule") (omega arith) (search rules) in
     sym (ap keyword_of spelled)
+
+pub returns-in-ifnil : goal.returns-in-ifnil
+returns-in-ifnil c =
+    let spelled : c.args.word.now ≡ codes "ifnil" = text_from_reads c.args.word.now (codes "ifnil") (omega arith) (search rules) in
+    sym (ap keyword_of spelled)
+
+pub returns-in-ifsome : goal.returns-in-ifsome
+returns-in-ifsome c =
+    let spelled : c.args.word.now ≡ codes "ifsome" = text_from_reads c.args.word.now (codes "ifsome") (omega arith) (search rules) in
+    sym (ap keyword_of spelled)
+
+pub returns-in-immortal : goal.returns-in-immortal
+returns-in-immortal c =
+    let spelled : c.args.word.now ≡ codes "immortal" = text_from_reads c.args.word.now (codes "immortal") (omega arith) (search rules) in
+    sym (ap keyword_of spelled)

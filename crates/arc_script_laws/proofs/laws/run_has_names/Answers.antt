@@ -5,4 +5,4 @@ pub returns-clause-has : goal.returns-clause-has
 returns-clause-has c = run_has
 
 pub returns-clause-names : goal.returns-clause-names
-returns-clause-names c lines name h = run_names_have name lines h
+returns-clause-names c version lines name h = run_names_have version name lines h

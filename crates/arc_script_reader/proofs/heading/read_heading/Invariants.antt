@@ -9,7 +9,7 @@ use Rattle.arc_script_reader.proofs.heading.read_heading.Given as goal
 -- what the rest says to what was understood is what the text says
 abbrev pub invariant-reading : goal.invariant-reading
 invariant-reading l = record {
-  said : head_from l.caps l.number l.last (front l.reader) (lines_of l.lines) ≡ head_from l.caps l.line l.line (nothing behind.Version) (lines_of (drop l.at l.text));
+  said : head_from l.caps l.number l.last (front l.reader) (lines_of l.lines) ≡ head_from l.caps l.line l.line (nothing l.version behind.Version) (lines_of (drop l.at l.text));
   fits : l.number + length (lines_of l.lines) ≤ l.line + length l.text;
   short : length l.lines ≤ length l.text;
   begun : l.line ≤ l.number;

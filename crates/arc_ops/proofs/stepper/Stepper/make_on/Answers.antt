@@ -6,4 +6,4 @@ use Rattle.arc_ops.proofs.stepper.Stepper.make_on.Goals as goal
 pub returns-in-Slot : goal.returns-in-Slot
 returns-in-Slot c =
     rw (c.in-Done.is, c.in-Slot.is)
-    (slot_made c.args.to c.args.name c.args.slot c.args.plan c.in-Slot.place c.args.self.now c.put.new.self c.replace.new.self c.self.inside.hands (ap (λ (t : Thread). t.hands) c.self.view_is) c.put.ensures c.replace.ensures)
+    (slot_made c.args.to c.args.name c.args.plan c.in-Slot.place c.args.self.now c.put.new.self c.replace.new.self c.self.inside.hands (ap (λ (t : Thread). t.hands) c.self.view_is) c.put.ensures c.replace.ensures)

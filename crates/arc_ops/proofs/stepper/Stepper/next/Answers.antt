@@ -1,6 +1,7 @@
-use Rattle.std.proofs.Common.{ap, sym, ◌∙◌}
+use Rattle.std.proofs.Common.{false, None, ap, sym, ◌∙◌}
 use Rattle.arc_cells.specs.Cascades.{CascadeState}
-use Rattle.arc_ops.proofs.Moves.{same_heap}
+use Rattle.arc_ops.specs.Thread.{Thread}
+use Rattle.arc_ops.proofs.Moves.{making_goes_on, same_heap}
 use Rattle.arc_ops.proofs.stepper.Stepper.next.Goals as goal
 
 pub die_on-requires-clause-layout : goal.die_on-requires-clause-layout
@@ -12,3 +13,13 @@ pub die_on-requires-clause-shape : goal.die_on-requires-clause-shape
 die_on-requires-clause-shape c =
     let here = rw (sym c.replace-doing.ensures.value ∙ c.in-Dying.is) at c.self.invariant.under_way in
     ap (λ (x : CascadeState). x.shape) c.next-next-in-Dying.ensures.turned ∙ (same_heap c.in-Dying.cascade c.args.last).shape ∙ here.1
+
+-- src/stepper.rt:164:17
+pub make_on-requires-clause-goes_on : goal.make_on-requires-clause-goes_on
+make_on-requires-clause-goes_on c =
+    let under_way = rw (sym c.replace-doing.ensures.value ∙ c.in-Making.is) at c.self.invariant.under_way in
+    let in_operation = rw (sym c.replace-doing.ensures.value ∙ c.in-Making.is) at c.self.invariant.in_operation in
+    let i = c.self.inside in
+    let idle : Thread = record { layout = i.layout; shape = i.shape.now; thread = i.thread; phases = i.phases.now; program = i.program.items; vars = i.vars.items; phase = i.phase; index = i.index; doing = c.replace-doing.new.dest; asked = i.asked; first = false; hands = i.hands; made = i.made; event = None; kept = i.lines } in
+    rw (c.next-next.ensures.turned, c.next-next.ensures.answer)
+    (making_goes_on idle c.in-Making.name c.in-Making.plan c.args.last under_way.2 under_way.3 under_way.1 in_operation.1)

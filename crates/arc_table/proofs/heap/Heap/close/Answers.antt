@@ -43,24 +43,22 @@ ended c =
 seen_is : (c : goal.After-free) → c.of-at.result.value.me.0.seen ≡ (view_of c.args.pass).seen
 seen_is c = ap (λ s. s.me.0.seen) c.of-at.ensures
 
-pub returns-clause-legal : goal.returns-clause-legal
-returns-clause-legal c = subst (λ (l : History). IsLegal (shape_of c.args.self) l) (sym (seen_is c)) (ended c).shown.0
-
-pub returns-clause-in_shape : goal.returns-clause-in_shape
-returns-clause-in_shape c = subst (λ (l : History). InShape (shape_of c.args.self) l) (sym (seen_is c)) (ended c).shown.1
-
-pub returns-clause-words : goal.returns-clause-words
-returns-clause-words c =
+same : (c : goal.After-free) → c.loop-i.words.items ≡ c.close_with-closed.result.words.items
+same c =
     let kept = c.loop-i.invariant in
     let done = c.loop-i-test.false in
     let n = c.len-i-end.ensures in
     let ok = c.loop-i.words.ok in
     let whole = c.close_with-closed.result.words.ok in
     let counts = c.close_with-closed.ensures.counts in
-    let e = ended c in
-    let same : c.loop-i.words.items ≡ c.close_with-closed.result.words.items = ext_get_or 0 c.loop-i.words.items c.close_with-closed.result.words.items (omega (arith, kept.0, ok.0, whole.0, counts.0, c.args.self.wide, c.args.self.roomy)) (λ k h. kept.1 k (omega (arith, h, ok.0, kept.0, n, done))) in
-    subst (λ (ws : List ℕ). Shows (shape_of c.args.self) (heap_after c.of-at.result.value.me.0.seen) ws) (e.closed ∙ sym same)
-    (subst (λ (l : History). Shows (shape_of c.args.self) (heap_after l) e.words) (sym (seen_is c)) e.shown.2)
+    ext_get_or 0 c.loop-i.words.items c.close_with-closed.result.words.items (omega (arith, kept.0, ok.0, whole.0, counts.0, c.args.self.wide, c.args.self.roomy)) (λ k h. kept.1 k (omega (arith, h, ok.0, kept.0, n, done)))
 
-pub returns-clause-quiet : goal.returns-clause-quiet
-returns-clause-quiet c = subst (λ (l : History). IsAllQuiet (heap_after l)) (sym (seen_is c)) (ended c).shown.3
+pub returns-clause-closed : goal.returns-clause-closed
+returns-clause-closed c =
+    let shape = shape_of c.args.self in
+    let e = ended c in record {
+      legal = subst (IsLegal shape) (sym (seen_is c)) e.shown.0;
+      in_shape = subst (InShape shape) (sym (seen_is c)) e.shown.1;
+      words = subst (λ (ws : List ℕ). Shows shape (heap_after c.of-at.result.value.me.0.seen) ws) (e.closed ∙ sym (same c)) (subst (λ (l : History). Shows shape (heap_after l) e.words) (sym (seen_is c)) e.shown.2);
+      quiet = subst (λ (l : History). IsAllQuiet (heap_after l)) (sym (seen_is c)) e.shown.3;
+    }

@@ -13,18 +13,18 @@ run_as-requires-clause-may g c =
     let v = part_view c.args.part.now in
     let name = c.args.name in
     let shape = shape_of c.args.self.now in
-    let plan_is : c.start-plan.result ≡ record { layout = extent_of shape; name = name; at = Start } = c.start-plan.ensures ∙ ap (λ l. record { layout = l; name = name; at = Start }) c.args.self.now.laid in
+    let plan_is : c.start-plan.result ≡ record { layout = extent_of shape; name = name; immortal = c.args.immortal; at = Start } = c.start-plan.ensures ∙ ap (λ l. record { layout = l; name = name; immortal = c.args.immortal; at = Start }) c.args.self.now.laid in
     subst (λ (t : Intent × Creation). MayRun creation_takes creation_turned creation_answer shape t.0 t.1 None v) (λ j. (sym c.requires.asks.0 j, sym plan_is j))
-    (may_make shape name v c.requires.class c.requires.room c.requires.free (λ j. record { class = name.class; thread = c.requires.next.0 j; number = c.requires.next.1 j }) c.args.self.now.sized.shape_fits.slots_fit.0)
+    (may_make shape name c.args.immortal v c.requires.class c.requires.immortal c.requires.room c.requires.free (λ j. record { class = name.class; thread = c.requires.next.0 j; number = c.requires.next.1 j }) c.args.self.now.sized.shape_fits.slots_fit.0)
 
 pub returns-clause-called : goal.returns-clause-called
 returns-clause-called g c =
     let v = part_view c.args.part.now in
     let name = c.args.name in
     let shape = shape_of c.args.self.now in
-    let plan_is : c.start-plan.result ≡ record { layout = extent_of shape; name = name; at = Start } = c.start-plan.ensures ∙ ap (λ l. record { layout = l; name = name; at = Start }) c.args.self.now.laid in (
+    let plan_is : c.start-plan.result ≡ record { layout = extent_of shape; name = name; immortal = c.args.immortal; at = Start } = c.start-plan.ensures ∙ ap (λ l. record { layout = l; name = name; immortal = c.args.immortal; at = Start }) c.args.self.now.laid in (
       c.run_as.ensures.same,
-      (has_made shape name v c.requires.class c.requires.room c.requires.free (λ j. record { class = name.class; thread = c.requires.next.0 j; number = c.requires.next.1 j }) c.args.self.now.sized.shape_fits.slots_fit.0 c.run_as.result (part_view c.run_as.new.part)
+      (has_made shape name c.args.immortal v c.requires.class c.requires.immortal c.requires.room c.requires.free (λ j. record { class = name.class; thread = c.requires.next.0 j; number = c.requires.next.1 j }) c.args.self.now.sized.shape_fits.slots_fit.0 c.run_as.result (part_view c.run_as.new.part)
           (subst (λ (t : Intent × Creation). Ran creation_turned creation_answer shape t.0 t.1 None v c.run_as.result (part_view c.run_as.new.part)) (λ j. (c.requires.asks.0 j, plan_is j)) c.run_as.ensures.ran)).1,
     )
 
@@ -33,6 +33,6 @@ returns-clause-created g c =
     let v = part_view c.args.part.now in
     let name = c.args.name in
     let shape = shape_of c.args.self.now in
-    let plan_is : c.start-plan.result ≡ record { layout = extent_of shape; name = name; at = Start } = c.start-plan.ensures ∙ ap (λ l. record { layout = l; name = name; at = Start }) c.args.self.now.laid in
-    (has_made shape name v c.requires.class c.requires.room c.requires.free (λ j. record { class = name.class; thread = c.requires.next.0 j; number = c.requires.next.1 j }) c.args.self.now.sized.shape_fits.slots_fit.0 c.run_as.result (part_view c.run_as.new.part)
+    let plan_is : c.start-plan.result ≡ record { layout = extent_of shape; name = name; immortal = c.args.immortal; at = Start } = c.start-plan.ensures ∙ ap (λ l. record { layout = l; name = name; immortal = c.args.immortal; at = Start }) c.args.self.now.laid in
+    (has_made shape name c.args.immortal v c.requires.class c.requires.immortal c.requires.room c.requires.free (λ j. record { class = name.class; thread = c.requires.next.0 j; number = c.requires.next.1 j }) c.args.self.now.sized.shape_fits.slots_fit.0 c.run_as.result (part_view c.run_as.new.part)
     (subst (λ (t : Intent × Creation). Ran creation_turned creation_answer shape t.0 t.1 None v c.run_as.result (part_view c.run_as.new.part)) (λ j. (c.requires.asks.0 j, plan_is j)) c.run_as.ensures.ran)).0

@@ -3,7 +3,7 @@ use Rattle.arc_model.specs.declared.event.Act.TheVariants.{Drop}
 use Rattle.arc_view.specs.declared.view.Working.{Working}
 use Rattle.arc_table.specs.Seats.{shape_of, part_view}
 use Rattle.arc_table.specs.Tokens.{hand_of}
-use Rattle.arc_table.proofs.TwoParts.{held_on, call_most, call_two, changed_on}
+use Rattle.arc_table.proofs.TwoParts.{held_on, call_most, call_two, changed_on, not_immortal}
 use Rattle.arc_table.proofs.heap.Heap.lower.Goals as goal
 
 pub lower_in_entry-requires-clause-held : goal.lower_in_entry-requires-clause-held
@@ -33,3 +33,15 @@ returns-in-Again-lower_in_entry-clause-called g c = call_two (shape_of c.args.se
 pub returns-in-Again-lower_in_entry-clause-lowered : goal.returns-in-Again-lower_in_entry-clause-lowered
 returns-in-Again-lower_in_entry-clause-lowered g c =
     changed_on (shape_of c.args.self.now) (hand_of c.args.held.now) c.args.held.now.slot c.in-Slow.entry (part_view c.args.part.now) (part_view c.lower_inline.new.part) (part_view c.lower_in_entry.new.part) c.lower_inline.ensures.walked c.in-Again-lower_in_entry.changed c.in-Again-lower_in_entry.ensures.lowered
+
+pub returns-in-More-lower_in_entry-clause-immortal : goal.returns-in-More-lower_in_entry-clause-immortal
+returns-in-More-lower_in_entry-clause-immortal g c = not_immortal (shape_of c.args.self.now) (hand_of c.args.held.now) c.args.held.now.slot (part_view c.args.part.now) (part_view c.lower_in_entry.new.part) c.in-Slow.ensures.lowered.3
+
+pub returns-in-Last-lower_in_entry-clause-immortal : goal.returns-in-Last-lower_in_entry-clause-immortal
+returns-in-Last-lower_in_entry-clause-immortal g c = not_immortal (shape_of c.args.self.now) (hand_of c.args.held.now) c.args.held.now.slot (part_view c.args.part.now) (part_view c.lower_in_entry.new.part) c.in-Slow.ensures.lowered.3
+
+pub returns-in-Again-lower_in_entry-clause-immortal : goal.returns-in-Again-lower_in_entry-clause-immortal
+returns-in-Again-lower_in_entry-clause-immortal g c = not_immortal (shape_of c.args.self.now) (hand_of c.args.held.now) c.args.held.now.slot (part_view c.args.part.now) (part_view c.lower_in_entry.new.part) c.in-Slow.ensures.lowered.3
+
+pub returns-in-Last-lower_in_entry-clause-lowered : goal.returns-in-Last-lower_in_entry-clause-lowered
+returns-in-Last-lower_in_entry-clause-lowered g c = c.in-Slow.ensures.lowered.3

@@ -37,3 +37,12 @@ returns-clause-lowered g c =
     let plan_is : c.start-plan.result ≡ record { layout = extent_of shape; slot = t.slot; at = Start } = c.start-plan.ensures ∙ ap (λ l. record { layout = l; slot = t.slot; at = Start }) c.args.self.now.laid in
     (has_lowered shape (hand_of t) t.slot v c.args.self.now.sized c.requires.held c.requires.free c.run_as.result (part_view c.run_as.new.part)
     (subst (λ (p : Intent × Attempt). Ran strong_down_turned strong_down_answer shape p.0 p.1 None v c.run_as.result (part_view c.run_as.new.part)) (λ j. (c.requires.asks.0 j, plan_is j)) c.run_as.ensures.ran)).0
+
+pub returns-clause-immortal : goal.returns-clause-immortal
+returns-clause-immortal g c =
+    let v = part_view c.args.part.now in
+    let t = c.args.held.now in
+    let shape = shape_of c.args.self.now in
+    let plan_is : c.start-plan.result ≡ record { layout = extent_of shape; slot = t.slot; at = Start } = c.start-plan.ensures ∙ ap (λ l. record { layout = l; slot = t.slot; at = Start }) c.args.self.now.laid in
+    (has_lowered shape (hand_of t) t.slot v c.args.self.now.sized c.requires.held c.requires.free c.run_as.result (part_view c.run_as.new.part)
+    (subst (λ (p : Intent × Attempt). Ran strong_down_turned strong_down_answer shape p.0 p.1 None v c.run_as.result (part_view c.run_as.new.part)) (λ j. (c.requires.asks.0 j, plan_is j)) c.run_as.ensures.ran)).2

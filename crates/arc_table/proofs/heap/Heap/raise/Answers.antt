@@ -5,7 +5,7 @@ use Rattle.arc_model.specs.declared.shape.Kind.TheVariants.{Strong}
 use Rattle.arc_table.specs.declared.strong.Raised.TheVariants.{Up}
 use Rattle.arc_table.specs.Seats.{shape_of, part_view}
 use Rattle.arc_table.specs.Tokens.{hand_of, raised_act}
-use Rattle.arc_table.proofs.TwoParts.{held_on, call_most, call_two, copied_call, copied_stands, full_on, changed_on}
+use Rattle.arc_table.proofs.TwoParts.{held_on, call_most, call_two, copied_call, copied_stands, full_on, changed_on, not_immortal}
 use Rattle.arc_table.proofs.heap.Heap.raise.Goals as goal
 
 pub raise_in_entry-requires-clause-held : goal.raise_in_entry-requires-clause-held
@@ -42,3 +42,12 @@ returns-in-Again-raise_in_entry-clause-called g c = call_two (shape_of c.args.se
 pub returns-in-Again-raise_in_entry-clause-raised : goal.returns-in-Again-raise_in_entry-clause-raised
 returns-in-Again-raise_in_entry-clause-raised g c =
     changed_on (shape_of c.args.self.now) (hand_of c.args.of.now) c.args.of.now.slot c.in-Slow.entry (part_view c.args.part.now) (part_view c.raise_inline.new.part) (part_view c.raise_in_entry.new.part) c.raise_inline.ensures.walked c.in-Again-raise_in_entry.changed c.in-Again-raise_in_entry.ensures.raised
+
+pub returns-in-Up-raise_in_entry-clause-immortal : goal.returns-in-Up-raise_in_entry-clause-immortal
+returns-in-Up-raise_in_entry-clause-immortal g c = not_immortal (shape_of c.args.self.now) (hand_of c.args.of.now) c.args.of.now.slot (part_view c.args.part.now) (part_view c.raise_in_entry.new.part) c.in-Slow.ensures.raised.3
+
+pub returns-in-CountFull-clause-immortal : goal.returns-in-CountFull-clause-immortal
+returns-in-CountFull-clause-immortal g c = not_immortal (shape_of c.args.self.now) (hand_of c.args.of.now) c.args.of.now.slot (part_view c.args.part.now) (part_view c.raise_in_entry.new.part) c.in-Slow.ensures.raised.3
+
+pub returns-in-Again-raise_in_entry-clause-immortal : goal.returns-in-Again-raise_in_entry-clause-immortal
+returns-in-Again-raise_in_entry-clause-immortal g c = not_immortal (shape_of c.args.self.now) (hand_of c.args.of.now) c.args.of.now.slot (part_view c.args.part.now) (part_view c.raise_in_entry.new.part) c.in-Slow.ensures.raised.3

@@ -41,3 +41,13 @@ returns-clause-raised g c =
     let plan_is : c.start-plan.result ≡ record { layout = extent_of shape; slot = t.slot; cap = shape.caps.strong; at = Start } = c.start-plan.ensures ∙ (λ j. record { layout = c.args.self.now.laid j; slot = t.slot; cap = cap_is j; at = Start }) in
     (has_raised shape (hand_of t) t.slot v c.args.self.now.sized c.requires.held c.requires.free c.run_as.result (part_view c.run_as.new.part)
     (subst (λ (p : Intent × CappedAttempt). Ran strong_up_turned strong_up_answer shape p.0 p.1 None v c.run_as.result (part_view c.run_as.new.part)) (λ j. (c.requires.asks.0 j, plan_is j)) c.run_as.ensures.ran)).0
+
+pub returns-clause-immortal : goal.returns-clause-immortal
+returns-clause-immortal g c =
+    let v = part_view c.args.part.now in
+    let t = c.args.of.now in
+    let shape = shape_of c.args.self.now in
+    let cap_is = c.strong.ensures ∙ ap (λ (n : CapNumbers). n.strong) c.caps.ensures in
+    let plan_is : c.start-plan.result ≡ record { layout = extent_of shape; slot = t.slot; cap = shape.caps.strong; at = Start } = c.start-plan.ensures ∙ (λ j. record { layout = c.args.self.now.laid j; slot = t.slot; cap = cap_is j; at = Start }) in
+    (has_raised shape (hand_of t) t.slot v c.args.self.now.sized c.requires.held c.requires.free c.run_as.result (part_view c.run_as.new.part)
+    (subst (λ (p : Intent × CappedAttempt). Ran strong_up_turned strong_up_answer shape p.0 p.1 None v c.run_as.result (part_view c.run_as.new.part)) (λ j. (c.requires.asks.0 j, plan_is j)) c.run_as.ensures.ran)).2

@@ -22,7 +22,7 @@ pub returns-in-More-clause-has : goal.returns-in-More-clause-has
 returns-in-More-clause-has c = still_has (shape_of c.args.self.now) (Some (Drop (hand_of c.args.held) false)) 3 (view_of c.args.pass.now) (part_view c.lower.new.part) c.args.self.now.sized c.in-More.ensures.called.1.called
 
 pub returns-in-Last-clause-released : goal.returns-in-Last-clause-released
-returns-in-Last-clause-released c = (refl, λ class strong. dies (shape_of c.args.self.now) (hand_of c.args.held) 3 (view_of c.args.pass.now) (part_view c.lower.new.part) c.args.held.slot class c.in-Last.ensures.called.1.called strong)
+returns-in-Last-clause-released c = (refl, λ class strong. dies (shape_of c.args.self.now) (hand_of c.args.held) 3 (view_of c.args.pass.now) (part_view c.lower.new.part) c.args.held.slot class c.in-Last.ensures.called.1.called strong, c.in-Last.ensures.lowered)
 
 pub returns-in-Last-clause-has : goal.returns-in-Last-clause-has
 returns-in-Last-clause-has c = still_has (shape_of c.args.self.now) (Some (Drop (hand_of c.args.held) true)) 3 (view_of c.args.pass.now) (part_view c.lower.new.part) c.args.self.now.sized c.in-Last.ensures.called.1.called

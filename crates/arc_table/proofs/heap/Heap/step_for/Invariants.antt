@@ -8,3 +8,9 @@ ghosts-exchange_for a = record { intent = a._intent; shape = a.self.now.shape }
 
 abbrev pub ghosts-store_for : goal.ghosts-store_for
 ghosts-store_for a = record { intent = a._intent; shape = a.self.now.shape }
+
+abbrev pub ghosts-or_for : goal.ghosts-or_for
+ghosts-or_for a = record { intent = a._intent; shape = a.self.now.shape }
+
+abbrev pub ghosts-and_for : goal.ghosts-and_for
+ghosts-and_for a = record { intent = a._intent; shape = a.self.now.shape }

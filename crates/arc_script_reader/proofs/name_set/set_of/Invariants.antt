@@ -1,7 +1,0 @@
-use Rattle.std.proofs.Common.{◌≡◌, List, ℕ, map, take}
-use Rattle.arc_script.specs.Lookups.{is_among}
-use Rattle.arc_script_reader.specs.NameSets.{holds}
-use Rattle.arc_script_reader.proofs.name_set.set_of.Given as goal
-
-abbrev pub invariant-loop-name : goal.invariant-loop-name
-invariant-loop-name l = (q : List ℕ) → holds l.set q ≡ is_among (map (λ n. n.now) (take l.name-index l.names)) q

@@ -1,0 +1,8 @@
+use Rattle.std.proofs.Common.{subst}
+use Rattle.std.specs.Prelude.{IfSome}
+use Rattle.arc_table.specs.Seats.{shape_of, view_of}
+use Rattle.arc_table.specs.Tokens.{IsHeld}
+use Rattle.arc_table.proofs.tests.immortal_object_stays.Goals as goal
+
+pub copied_and_dropped-ends-requires-clause-held : goal.copied_and_dropped-ends-requires-clause-held
+copied_and_dropped-ends-requires-clause-held g c = subst (λ m. IfSome m (λ t. IsHeld (shape_of c.expect-heap.result.0) (view_of c.made_in-one.new.pass) t)) c.expect-token.ensures c.made_in-one.ensures.held
