@@ -2,8 +2,8 @@
 """Pairs of calls on the shared heap beside the same pairs of another program, in one run.
 
 The other program's table of lines `NAME PAIR MODE THREADS LEAST MEDIAN COUNT` (tabs; nanoseconds a pair) is read from the command that
-is given, the rows `retain+release` (modes own, shared) and `new+release` (mode own). Both are run by turns; of mode own the least time
-counts, of shared the median.
+is given, the rows `retain+release` (modes own, shared), `new+release` and `new+release behind 1000 live` (mode own). Both are run by turns; of
+mode own the least time counts, of shared the median.
 
     bench/pairs.py ROUNDS COMMAND [WORD ..]
 """
@@ -16,9 +16,11 @@ import sys
 TOP = os.path.dirname(os.path.dirname(os.path.abspath(__file__)))
 CRATE = os.path.join(TOP, "crates", "arc_pairs")
 PROGRAM = os.path.join(CRATE, "out", "arc_pairs")
+BEHIND = "new+release behind 1000 live"
 ROWS = [(pair, mode, threads) for pair, mode in (("retain+release", "own"), ("retain+release", "shared"), ("new+release", "own")) for threads in (1, 2, 4)]
-WORDS = {("retain+release", "own"): "own", ("retain+release", "shared"): "shared", ("new+release", "own"): "lives"}
-TIMES = {"own": 4_000_000, "shared": 1_000_000, "lives": 1_000_000}
+ROWS.append((BEHIND, "own", 1))
+WORDS = {("retain+release", "own"): "own", ("retain+release", "shared"): "shared", ("new+release", "own"): "lives", (BEHIND, "own"): "behind"}
+TIMES = {"own": 4_000_000, "shared": 1_000_000, "lives": 1_000_000, "behind": 400_000}
 
 
 def ours(pair, mode, threads):

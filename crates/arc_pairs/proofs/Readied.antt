@@ -1,5 +1,5 @@
 -- What stays of a pass and its tokens from call to call.
-use Rattle.std.proofs.Common.{◌≡◌, ◌≢◌, ℕ, ◌<◌, false, List, [], Option, Some, None, refl, sym, ap, ◌∙◌, subst, ◌∷◌, length, arith}
+use Rattle.std.proofs.Common.{◌≡◌, ◌≢◌, ℕ, ◌<◌, true, false, true≢false, List, [], Option, Some, None, refl, sym, ap, ◌∙◌, subst, ◌∷◌, length, arith}
 use Rattle.std.specs.Prelude.{slice_get, slice_index_or}
 use Rattle.arc_model.specs.declared.event.Act.{Act}
 use Rattle.arc_model.specs.declared.event.Act.TheVariants as acts
@@ -31,7 +31,7 @@ use Rattle.arc_table.specs.Tokens.{hand_of, IsHeld, IsUp, up_act, IsReleased, re
 use Rattle.arc_view_laws.specs.Having.{KeepsStrong, KeepsStrongBut}
 use Rattle.arc_table.specs.Ends.{HasNoField, finish_act}
 use Rattle.arc_table.proofs.HeldTokens.{copy_apart}
-use Rattle.arc_pairs.specs.Ready.{IsReady, IsPlain, IsOurs, IsOurDying}
+use Rattle.arc_pairs.specs.Ready.{IsReady, IsPlain, HasImmortal, IsOfClass, IsOurs, IsOurDying, IsSamePass}
 
 pub held : (heap : Heap) (pass : Pass) (t : Token) → IsOurs heap pass t → IsHeld (shape_of heap) (view_of pass) t
 held heap pass t ours = (ours.0, (0, ours.1))
@@ -109,3 +109,26 @@ bare heap pass d ready plain (lt, (i, o, at, duty, slot, class)) other (j, q, th
 -- what a call that makes no object leaves of how many the pass made
 pub made_none : (heap : Heap) (n : ℕ) (v w : Pass) → IsCall (shape_of heap) None n v.part w.part → news (view_of v).number (view_of v).seen < 100000 → news (view_of w).number (view_of w).seen < 100000
 made_none heap n v w c room = subst (λ m. m < 100000) (sym (news_none n (view_of v) (view_of w) c.1.called.grew)) room
+
+-- a call is of the same pass
+pub same_on : (heap : Heap) (act : Option Act) (n : ℕ) (u : View) (v w : Pass) → IsSamePass u (view_of v) → IsCall (shape_of heap) act n v.part w.part → IsSamePass u (view_of w)
+same_on heap act n u v w same c = (c.1.called.grew.role ∙ same.0, c.1.called.grew.number ∙ same.1, c.1.called.grew.splits ∙ same.2)
+
+-- a reference that a call without an act keeps
+pub of_class_on : (heap : Heap) (class : ℕ) (v w : Pass) (t : Token) → StillHas None (view_of v) (view_of w) → IsOfClass class heap v t → IsOfClass class heap w t
+of_class_on heap class v w t has of = (of.0, none_keeps (view_of v) (view_of w) has (hand_of t) t.slot class of.1)
+
+-- there is class 1
+second_class : (cs : List ObjectClass) (c d : ObjectClass) → slice_get cs 1 ≡ Some c → (1 < length cs) × (slice_index_or cs 1 d ≡ c)
+second_class [] c d e = absurd (None≢Some c e)
+second_class (x ∷ []) c d e = absurd (None≢Some c e)
+second_class (x ∷ y ∷ cs) c d e = (omega arith, Some-inj e)
+
+pub has_second : (heap : Heap) → HasImmortal heap → 1 < length (shape_of heap).classes
+has_second heap immortal = (second_class (shape_of heap).classes (record { fields = []; immortal = true }) (record { fields = []; immortal = false }) immortal).0
+
+-- a reference to an immortal object isn't the last
+pub not_last : (heap : Heap) (v w : Pass) (t : Token) (d : Dying) → HasImmortal heap → IsOfClass 1 heap v t → IsReleased (shape_of heap) t (view_of v) (view_of w) (releases.Last d) → ⊥
+not_last heap v w t d immortal of r =
+    let is = (second_class (shape_of heap).classes (record { fields = []; immortal = true }) (record { fields = []; immortal = false }) immortal).1 in
+    true≢false (sym (ap (λ (c : ObjectClass). c.immortal) is) ∙ r.2 1 of.1)

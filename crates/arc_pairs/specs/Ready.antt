@@ -1,5 +1,5 @@
 -- What a thread has between two calls.
-use Rattle.std.specs.Prelude.{ℕ, ◌≡◌, ◌≢◌, ◌<◌, ◌≤◌, false, [], Some, slice_get, ⊤}
+use Rattle.std.specs.Prelude.{ℕ, ◌≡◌, ◌≢◌, ◌<◌, ◌≤◌, true, false, [], Some, slice_get, ⊤}
 use Rattle.arc_model.specs.History.{IsLegal}
 use Rattle.arc_view.specs.declared.view.View.{View}
 use Rattle.arc_view.specs.Views.{idle}
@@ -22,9 +22,21 @@ IsReady heap pass = (pass_id pass ≡ heap_id heap) × ((view_of pass).working �
 abbrev pub IsPlain : Heap → Type 0
 IsPlain heap = slice_get (shape_of heap).classes 0 ≡ Some (record { fields = []; immortal = false })
 
--- a strong reference of the pass to an object of class 0 in its slot
+-- class 1 of the heap is immortal
+abbrev pub HasImmortal : Heap → Type 0
+HasImmortal heap = slice_get (shape_of heap).classes 1 ≡ Some (record { fields = []; immortal = true })
+
+-- a strong reference of the pass to an object of the class in its slot
+abbrev pub IsOfClass : ℕ → Heap → Pass → Token → Type 0
+IsOfClass class heap pass t = (t.slot < (shape_of heap).slots) × IsStrongOf (view_of pass) (hand_of t) t.slot class
+
+-- the same of class 0
 abbrev pub IsOurs : Heap → Pass → Token → Type 0
 IsOurs heap pass t = (t.slot < (shape_of heap).slots) × IsStrongOf (view_of pass) (hand_of t) t.slot 0
+
+-- the second view is of the same pass, which has split off no other since
+abbrev pub IsSamePass : View → View → Type 0
+IsSamePass v w = (w.role ≡ v.role) × (w.number ≡ v.number) × (w.splits ≡ v.splits)
 
 -- the pass owes the deinit of an object of class 0 in its slot
 abbrev pub IsOurDying : Heap → Pass → Dying → Type 0

@@ -1,9 +1,9 @@
 //! The heaps that threads work on.
-ghost use Rattle.std.specs.Prelude.{ℕ, ◌≡◌, ◌<◌, Some, IfSome, slice_get};
+ghost use Rattle.std.specs.Prelude.{ℕ, ◌≡◌, ◌<◌, [], Some, IfSome, slice_get};
 ghost use Rattle.arc_model.specs.declared.shape.Kind.TheVariants.{Strong};
 ghost use Rattle.arc_view.specs.Views.{first_view};
 ghost use Rattle.arc_table.specs.Seats.{shape_of, view_of};
-ghost use Rattle.arc_pairs.specs.Ready.{IsReady, IsPlain, AreForOurs};
+ghost use Rattle.arc_pairs.specs.Ready.{IsReady, IsPlain, HasImmortal, AreForOurs};
 
 use arc_model::{Caps, ClassShape, Kind, RefShape, Shape};
 use arc_table::{Heap, Pass};
@@ -25,6 +25,31 @@ pub fn plain_heap(alloc: Global, slots: u32, globals: Vec<RefShape>) -> Option<(
     };
     classes.push(class).ok()?;
     let shape = Shape::new(slots, 1, caps, classes, globals).ok()?;
+    Heap::make(alloc, shape).ok()
+}
+
+/// A class without fields.
+fn bare_class(alloc: Global, immortal: bool) -> ClassShape
+    ensures { result ≡ record { fields = []; immortal = immortal } }
+{
+    ClassShape {
+        fields: Vec::new(alloc),
+        immortal,
+    }
+}
+
+/// A heap of 4,096 slots and two classes without fields, of which the second is immortal, and its first pass. `None` where no memory was found.
+pub fn lasting_heap(alloc: Global) -> Option<(Heap, Pass)>
+    ensures ready { IfSome result (λ r. IsReady r.0 r.1) }
+    ensures plain { IfSome result (λ r. IsPlain r.0) }
+    ensures immortal { IfSome result (λ r. HasImmortal r.0) }
+    ensures first { IfSome result (λ r. view_of r.1 ≡ first_view) }
+{
+    let caps = Caps::new(1_000_000, 1_000_000, 2_000_000).ok()?;
+    let mut classes = Vec::new(alloc);
+    classes.push(bare_class(alloc, false)).ok()?;
+    classes.push(bare_class(alloc, true)).ok()?;
+    let shape = Shape::new(4096, 1, caps, classes, Vec::new(alloc)).ok()?;
     Heap::make(alloc, shape).ok()
 }
 

@@ -1,15 +1,34 @@
 //! Objects made and ended, references more and fewer. A call that answers `Again` is made again: other threads make calls in between, so no bound says how often.
-ghost use Rattle.std.specs.Prelude.{◌≡◌, ◌≢◌, ◌<◌, IfSome};
+ghost use Rattle.std.specs.Prelude.{◌≡◌, ◌≢◌, ◌<◌, length, IfSome};
 ghost use Rattle.arc_view.specs.Rule.{news};
-ghost use Rattle.arc_table.specs.Seats.{view_of};
+ghost use Rattle.arc_table.specs.Seats.{shape_of, view_of};
 ghost use Rattle.arc_table.specs.Tokens.{hand_of};
 ghost use Rattle.arc_view_laws.specs.Having.{KeepsStrong, KeepsStrongBut};
-ghost use Rattle.arc_pairs.specs.Ready.{IsReady, IsPlain, IsOurs, IsOurDying};
+ghost use Rattle.arc_pairs.specs.Ready.{IsReady, IsPlain, IsOfClass, IsOurs, IsOurDying, IsSamePass};
 
 use arc_table::{Dying, Finish, Heap, Made, Pass, Release, Strong, Up};
 use std::sync::Wait;
 
-/// A new object. `None` where every slot is taken.
+/// A new object of the class. `None` where every slot is taken.
+pub fn created_of<R: Wait>(rt: &R, heap: &Heap, pass: &mut Pass, class: u32) -> Option<Strong>
+    requires ready { IsReady heap.now pass.old }
+    requires class { class < length (shape_of heap.now).classes }
+    requires room { news (view_of pass.old).number (view_of pass.old).seen < 100000 }
+    ensures ready { IsReady heap.now pass.new }
+    ensures made { IfSome result (λ t. IsOfClass class heap.now pass.new t) }
+    ensures same { IsSamePass (view_of pass.old) (view_of pass.new) }
+{
+    for _ in rt.forever() {
+        match heap.new_object(pass, class) {
+            Made::Ok(held) => return Some(held),
+            Made::NoSlot => return None,
+            Made::Again(_) => {}
+        }
+    }
+    unreachable!()
+}
+
+/// A new object of class 0. `None` where every slot is taken.
 pub fn created<R: Wait>(rt: &R, heap: &Heap, pass: &mut Pass) -> Option<Strong>
     requires ready { IsReady heap.now pass.old }
     requires plain { IsPlain heap.now }
@@ -17,14 +36,7 @@ pub fn created<R: Wait>(rt: &R, heap: &Heap, pass: &mut Pass) -> Option<Strong>
     ensures ready { IsReady heap.now pass.new }
     ensures made { IfSome result (λ t. IsOurs heap.now pass.new t) }
 {
-    for _ in rt.forever() {
-        match heap.new_object(pass, 0) {
-            Made::Ok(held) => return Some(held),
-            Made::NoSlot => return None,
-            Made::Again(_) => {}
-        }
-    }
-    unreachable!()
+    created_of(rt, heap, pass, 0)
 }
 
 /// One more reference to the same object. `None` where a count stands at its greatest.

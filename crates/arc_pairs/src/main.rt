@@ -4,6 +4,7 @@
 ghost use Rattle.std.specs.Prelude.{◌≤◌, IfOk};
 
 mod heaps;
+mod lasting;
 mod life;
 mod loops;
 mod own;
@@ -13,7 +14,7 @@ mod status;
 mod total;
 mod words;
 
-use own::{own, own_lives};
+use own::{own, own_lives, own_lives_behind};
 use share::shared;
 use status::Status;
 use std::alloc::Global;
@@ -51,6 +52,7 @@ fn ended<R: Threads + Wait + Sync>(rt: &R, alloc: Global, asked: &Asked) -> Opti
         Mode::Own => own(rt, alloc, asked.threads, asked.times),
         Mode::Shared => shared(rt, alloc, asked.threads, asked.times),
         Mode::Lives => own_lives(rt, alloc, asked.threads, asked.times),
+        Mode::Behind => own_lives_behind(rt, alloc, asked.threads, asked.times),
     }
 }
 
@@ -69,7 +71,7 @@ fn told(rt: &impl Print, asked: &Asked, ended: u64, nanoseconds: u128) -> io::Re
 /// The end of a run that asks for nothing that there is, with a line that says what there is.
 fn refused(rt: &impl Eprint, status: Status) -> ExitCode {
     if status == Status::Usage {
-        let line = eprintln!(rt; "usage: arc_pairs own|shared|lives THREADS TIMES [timed]");
+        let line = eprintln!(rt; "usage: arc_pairs own|shared|lives|behind THREADS TIMES [timed]");
         if line.is_err() {
             return ExitCode::from(Status::WriteFault as u8);
         }

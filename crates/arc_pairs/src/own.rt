@@ -4,7 +4,8 @@ ghost use Rattle.arc_view.specs.Passes.{IsFirst};
 ghost use Rattle.arc_table.specs.Seats.{view_of};
 ghost use Rattle.arc_pairs.specs.Ready.{IsReady, IsPlain};
 
-use crate::heaps::plain_heap;
+use crate::heaps::{lasting_heap, plain_heap};
+use crate::lasting::settle;
 use crate::loops::{MOST_OBJECTS, lives, make_and_hold};
 use crate::passes::split_off;
 use crate::total::known_total;
@@ -89,6 +90,38 @@ pub fn own_lives<R: Threads + Wait + Sync>(
         &|_i| -> Option<u32>
             ensures { IfSome result (λ n. n ≤ times) }
         { live_own(rt, alloc, times) },
+    )
+    .ok()?;
+    known_total(&counts)
+}
+
+/// The same behind 1,000 objects that stay in their slots for ever, in a heap with 4,096. `None` where no memory was found.
+fn live_behind<R: Wait>(rt: &R, alloc: Global, times: u32) -> Option<u32>
+    ensures ends { IfSome result (λ n. n ≤ times) }
+{
+    let (heap, mut first) = lasting_heap(alloc)?;
+    settle(rt, &heap, &mut first, 1000);
+    Some(lives_in_turn(rt, &heap, &mut first, times))
+}
+
+/// Each thread makes 1,000 objects of an immortal class in a heap of its own, and then so many others, one after another, and lets each go
+/// at once. Says how many objects ended. `None` where no memory was found.
+pub fn own_lives_behind<R: Threads + Wait + Sync>(
+    rt: &R,
+    alloc: Global,
+    threads: u32,
+    times: u32,
+) -> Option<u64>
+    requires threads { threads ≤ 32 }
+    ensures ends { IfSome result (λ n. n ≤ threads * times) }
+{
+    let counts = map_indices(
+        rt,
+        alloc,
+        threads as usize,
+        &|_i| -> Option<u32>
+            ensures { IfSome result (λ n. n ≤ times) }
+        { live_behind(rt, alloc, times) },
     )
     .ok()?;
     known_total(&counts)

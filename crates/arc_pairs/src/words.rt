@@ -12,6 +12,8 @@ pub enum Mode {
     Shared,
     /// Objects that are made and let go at once.
     Lives,
+    /// The same behind objects that stay in their slots for ever.
+    Behind,
 }
 
 impl fmt::Display for Mode {
@@ -20,6 +22,7 @@ impl fmt::Display for Mode {
             Mode::Own => "own",
             Mode::Shared => "shared",
             Mode::Lives => "lives",
+            Mode::Behind => "behind",
         })
     }
 }
@@ -38,6 +41,7 @@ fn mode_of(word: &str) -> Option<Mode> {
         "own" => Some(Mode::Own),
         "shared" => Some(Mode::Shared),
         "lives" => Some(Mode::Lives),
+        "behind" => Some(Mode::Behind),
         _ => None,
     }
 }
