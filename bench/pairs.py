@@ -1,66 +1,124 @@
 #!/usr/bin/env python3
-"""Pairs of calls on the shared heap beside the same pairs of another program, in one run.
+"""Pairs of calls on the shared heap beside the same pairs of another program, by turns.
 
-The other program's table of lines `NAME PAIR MODE THREADS LEAST MEDIAN COUNT` (tabs; nanoseconds a pair) is read from the command that
-is given, the rows `retain+release` (modes own, shared), `new+release` and `new+release behind 1000 live` (mode own). Both are run by turns; of
-mode own the least time counts, of shared the median.
+The other program writes a line `NAME PAIR MODE THREADS LEAST MEDIAN COUNT` a row (tabs; nanoseconds a pair); it is stopped once the rows that are
+asked for are there, and has to pin its threads itself. Ours are pinned here, each to a core of its own, and what a run of one pair takes (the start
+of the threads, and the objects that stay) is taken off. Of mode own the least time counts, of shared the median.
 
-    bench/pairs.py ROUNDS COMMAND [WORD ..]
+    bench/pairs.py [--rows WORD,..] [--program FILE] ROUNDS COMMAND [WORD ..]
+
+The words of rows are own, shared, lives and behind, each with all its numbers of threads; without them all rows are taken.
 """
 
+import argparse
 import os
 import statistics
 import subprocess
 import sys
+import time
 
 TOP = os.path.dirname(os.path.dirname(os.path.abspath(__file__)))
 CRATE = os.path.join(TOP, "crates", "arc_pairs")
 PROGRAM = os.path.join(CRATE, "out", "arc_pairs")
 BEHIND = "new+release behind 1000 live"
-ROWS = [(pair, mode, threads) for pair, mode in (("retain+release", "own"), ("retain+release", "shared"), ("new+release", "own")) for threads in (1, 2, 4)]
-ROWS.append((BEHIND, "own", 1))
-WORDS = {("retain+release", "own"): "own", ("retain+release", "shared"): "shared", ("new+release", "own"): "lives", (BEHIND, "own"): "behind"}
-TIMES = {"own": 4_000_000, "shared": 1_000_000, "lives": 1_000_000, "behind": 400_000}
+# By word: the other program's pair and mode, the numbers of threads, and how many pairs a run of ours makes.
+ROWS = {
+    "own": ("retain+release", "own", (1, 2, 4), 1_000_000),
+    "shared": ("retain+release", "shared", (1, 2, 4), 300_000),
+    "lives": ("new+release", "own", (1, 2, 4), 400_000),
+    "behind": (BEHIND, "own", (1,), 200_000),
+}
+RUNS = 15
 
 
-def ours(pair, mode, threads):
-    """Nanoseconds a pair of each of some runs."""
-    word = WORDS[pair, mode]
-    times = TIMES[word]
-    for _ in range(5):
-        out = subprocess.run([PROGRAM, word, str(threads), str(times), "timed"], capture_output=True, text=True, check=True).stdout
-        yield int(out.splitlines()[1].split()[0]) / times
+def pin(child, threads):
+    """Gives each thread a core, as soon as all are there. The main thread is one of those that work, where there are so many."""
+    folder = "/proc/%d/task" % child.pid
+    while child.poll() is None:
+        try:
+            tasks = sorted(map(int, os.listdir(folder)))
+            if len(tasks) >= threads:
+                for i, task in enumerate(tasks):
+                    os.sched_setaffinity(task, {i % threads})
+                return
+        except (FileNotFoundError, ProcessLookupError):
+            return
+        time.sleep(0.0002)
 
 
-def theirs(command):
-    """Nanoseconds a pair by row, the least and the median of one run."""
+def once(program, word, threads, times):
+    """Nanoseconds of one run, whose threads are pinned."""
+    cores = set(range(min(threads, os.cpu_count())))
+    words = [program, word, str(threads), str(times), "timed"]
+    child = subprocess.Popen(words, stdout=subprocess.PIPE, text=True, preexec_fn=lambda: os.sched_setaffinity(0, cores))
+    if threads > 1:
+        pin(child, threads)
+    out, _ = child.communicate()
+    if child.returncode:
+        sys.exit("%s ended with %d" % (" ".join(words), child.returncode))
+    return int(out.splitlines()[1].split()[0])
+
+
+def ours(program, word, threads, chosen):
+    """Nanoseconds a pair of each of some runs, without what a run of one pair takes."""
+    times = ROWS[word][3]
+    start = chosen([once(program, word, threads, 1) for _ in range(RUNS)])
+    return [(once(program, word, threads, times) - start) / (times - 1) for _ in range(RUNS)]
+
+
+def theirs(command, wanted):
+    """Nanoseconds a pair by row, the least and the median of one run, which is stopped once the wanted rows are there."""
     rows = {}
-    out = subprocess.run(command, capture_output=True, text=True, check=True).stdout
-    for line in out.splitlines():
+    child = subprocess.Popen(command, stdout=subprocess.PIPE, text=True)
+    for line in child.stdout:
         words = line.split("\t")
         if len(words) == 7:
             rows[words[1], words[2], int(words[3])] = (float(words[4]), float(words[5]))
+        if wanted <= rows.keys():
+            break
+    child.kill()
+    child.communicate()
+    if not wanted <= rows.keys():
+        sys.exit("%s has no row %s" % (" ".join(command), sorted(wanted - rows.keys())[0]))
     return rows
 
 
+def row_of(word, threads):
+    """The other program's row. One thread that shares an object is one with an object of its own."""
+    pair, mode, _, _ = ROWS[word]
+    return pair, "own" if threads == 1 else mode, threads
+
+
+def show(word, threads, mine, other):
+    pair, mode, _, _ = ROWS[word]
+    own = mode == "own"
+    there = min(least for least, _ in other) if own else statistics.median(median for _, median in other)
+    here = min(mine) if own else statistics.median(mine)
+    print("| %s | %s | %d | %.1f | %.1f | %.2f |" % (pair, mode, threads, there, here, here / there), flush=True)
+
+
 def main():
-    rounds, command = int(sys.argv[1]), sys.argv[2:]
-    if not os.path.exists(PROGRAM):
+    parser = argparse.ArgumentParser(description="Pairs of calls on the shared heap beside another program's.")
+    parser.add_argument("--rows", default=",".join(ROWS))
+    parser.add_argument("--program", default=PROGRAM)
+    parser.add_argument("rounds", type=int)
+    parser.add_argument("command", nargs=argparse.REMAINDER)
+    asked = parser.parse_args()
+    if not os.path.exists(asked.program):
         subprocess.run(["rt", "run"], cwd=CRATE, capture_output=True, check=False)
-    mine = {row: [] for row in ROWS}
-    other = {row: [] for row in ROWS}
-    for _ in range(rounds):
-        table = theirs(command)
-        for row in ROWS:
-            mine[row] += ours(*row)
-            other[row].append(table.get(row, table.get((row[0], "own", row[2]))) if row[2] == 1 else table[row])
+    rows = [(word, threads) for word in asked.rows.split(",") for threads in ROWS[word][2] if threads <= os.cpu_count()]
+    mine = {row: [] for row in rows}
+    other = {row: [] for row in rows}
+    for _ in range(asked.rounds):
+        table = theirs(asked.command, {row_of(*row) for row in rows})
+        for row in rows:
+            chosen = min if ROWS[row[0]][1] == "own" else statistics.median
+            mine[row] += ours(asked.program, *row, chosen)
+            other[row].append(table[row_of(*row)])
     print("| Pair | Mode | Threads | Other, ns | arc, ns | Ratio |")
     print("|---|---|---|---|---|---|")
-    for row in ROWS:
-        own = row[1] == "own"
-        there = min(least for least, _ in other[row]) if own else statistics.median(median for _, median in other[row])
-        here = min(mine[row]) if own else statistics.median(mine[row])
-        print("| %s | %s | %d | %.1f | %.1f | %.2f |" % (*row, there, here, here / there))
+    for row in rows:
+        show(*row, mine[row], other[row])
 
 
 main()

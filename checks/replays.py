@@ -14,7 +14,7 @@ PHASE_END = object()
 IMMORTAL = object()
 BLOCKS = ("ifnil", "ifsome")
 VERSIONS = [1, 1, 2]
-DEEPEST = 0  # how deep blocks lie in blocks; `replay` serves none so far, and takes 8
+DEEPEST = 8  # how deep blocks lie in blocks
 
 
 def script_of(seed):

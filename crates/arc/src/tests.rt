@@ -67,6 +67,41 @@ events
 done
 ";
 
+/// Thread 1 runs the block that finds its variable nil, and in it the one that then finds it isn't. Thread 2 finds no slot free in its first
+/// phase, since thread 1 took the only one in two places, and so skips its drop; in its second phase it makes its object.
+const BLOCKS: &[u8] =
+    b"arc 2\nslots 1\nentries 1\nclass Node\nthread 1\nvar a strong Node\nifnil a\nnew a Node\nifsome a\ndrop a\nend\nend\nphase\nthread 2\nvar b strong Node\nnew b Node\nifsome b\ndrop b\nend\nphase\nifnil b\nnew b Node\nend\nschedule 1 1 2\ndone\n";
+
+const BLOCKS_REPLAYED: &[u8] = b"report 1
+thread 1
+1 new Node#1.1
+2 ok
+2 deinit Node#1.1
+thread 2
+1 full
+3 new Node#2.1
+end deinit Node#2.1
+end
+objects 2 deinits 2 leaks 0
+history 2
+slots 1
+entries 1
+caps 1073741823 2147483647 4294967295
+class Node
+threads 2
+events
+2 1 new 1 Node 0
+3 2 full
+7 1 drop 1 last
+12 1 finish 0 last
+13 1 vacate 0
+15 2 new 1 Node 0
+19 2 drop 1 last
+24 2 finish 0 last
+25 2 vacate 0
+done
+";
+
 const NEVER_THERE: &[u8] =
     b"history 1\nslots 1\nentries 1\ncaps 1 2 3\nclass Node\nthreads 1\nevents\n1 1 new 1 Node 0\n2 1 vacate 0\ndone\n";
 
@@ -111,6 +146,7 @@ fn each_command_and_each_fault_of_the_outside(rt: HostRuntime) -> Result<(), Fai
             Status::Done,
             TWO_THREADS_REPLAYED,
         ),
+        (b"replay", BLOCKS, none, Status::Done, BLOCKS_REPLAYED),
         (
             b"check",
             TWO_THREADS_REPLAYED,
@@ -118,6 +154,7 @@ fn each_command_and_each_fault_of_the_outside(rt: HostRuntime) -> Result<(), Fai
             Status::Done,
             b"legal 5\n",
         ),
+        (b"check", BLOCKS_REPLAYED, none, Status::Done, b"legal 9\n"),
         (
             b"check",
             NEVER_THERE,

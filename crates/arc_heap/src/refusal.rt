@@ -1,3 +1,4 @@
+//! Why a history stops being legal, or why it can't be judged.
 use arc_model::Illegal;
 
 /// Why an event was refused.

@@ -1,3 +1,4 @@
+//! Marks of the threads: what was made and what had become free at the last event of each.
 ghost use Rattle.std.specs.Prelude.{IfOk};
 ghost use Rattle.arc_heap_index.specs.Fresh.{AreMarked};
 

@@ -1,3 +1,4 @@
+//! How many strong hands each thread has of the object in each slot.
 ghost use Rattle.std.specs.Prelude.{◌≡◌, ◌<◌, slice_index_or};
 ghost use Rattle.arc_heap_index.specs.Counting.{at_place, most, raised as raised_to, tally_at, tally_raised, tally_lowered};
 ghost use Rattle.std.specs.Prelude.{◌-◌, IfOk};

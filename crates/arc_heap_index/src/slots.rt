@@ -1,3 +1,4 @@
+//! Who has each slot or entry, and a log of those that became free.
 ghost use Rattle.std.specs.Prelude.{◌≡◌, ◌<◌, ◌≤◌, ℕ, Bool, false, length, None, OnOk, OnErr, IfOk};
 ghost use Rattle.arc_heap_index.specs.Freeing.{is_current_entry, IsFront, owner_at, are_seen as each_seen, taken, freed, changed, AreFree};
 

@@ -1,3 +1,4 @@
+//! Rows of places of hands and cells, by their numbers.
 ghost use Rattle.std.specs.Prelude.{◌≡◌, ◌<◌, ℕ, List, Option, length, ◌++◌, ◌∷◌, [], Some, None, OnOk, OnErr, IfOk};
 ghost use Rattle.arc_heap_index.specs.declared.counted.Place.{Place};
 ghost use Rattle.arc_heap_index.specs.Counting.{placed, flat, place_at, put_at, pushed, popped, without_end, row_of};

@@ -1,5 +1,5 @@
 -- What holds of each stepper goes on to hold.
-use Rattle.std.proofs.Common.{◌≡◌, ℕ, ◌+◌, ◌≤◌, ◌<◌, Bool, true, false, cond, eqb, ltb, List, length, Option, Some, None, bit_and, ◌==◌, refl, sym, ap, ◌∙◌, subst, arith}
+use Rattle.std.proofs.Common.{◌≡◌, ℕ, ◌+◌, ◌≤◌, ◌<◌, Bool, true, false, cond, ltb, List, length, Option, Some, None, bit_and, ◌==◌, refl, sym, ap, ◌∙◌, subst, arith}
 use Rattle.std.proofs.lemmas.Bool.{ltb-true}
 use Rattle.std.specs.Prelude.{All}
 use Rattle.std.specs.Option.{unwrap_or}
@@ -40,6 +40,7 @@ moved t s idle i vars kept from within count held = record {
   vars_fit = rw count s.vars_fit;
   classes_fit = s.classes_fit;
   whole = s.whole;
+  blocks = s.blocks;
   few = s.few;
   held = held s.held;
   phase = s.phase;
@@ -61,6 +62,7 @@ made_one t s idle few event = record {
   vars_fit = s.vars_fit;
   classes_fit = s.classes_fit;
   whole = s.whole;
+  blocks = s.blocks;
   few = s.few;
   held = s.held;
   phase = s.phase;
@@ -82,6 +84,7 @@ took_one t s idle few event = record {
   vars_fit = s.vars_fit;
   classes_fit = s.classes_fit;
   whole = s.whole;
+  blocks = s.blocks;
   few = s.few;
   held = s.held;
   phase = s.phase;

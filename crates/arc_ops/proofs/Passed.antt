@@ -1,52 +1,134 @@
 -- How the operations of a phase begin: those that ask for no step are passed, and the first one that asks begins.
-use Rattle.std.proofs.Common.{◌≡◌, ℕ, suc, ◌+◌, ◌<◌, ◌≤◌, true, List, ◌∷◌, length, take, drop, get_or, Option, Some, None, refl, sym, ap, subst, ◌∙◌, add-one, arith}
+use Rattle.std.proofs.Common.{◌≡◌, ℕ, zero, suc, ◌+◌, ◌-◌, ◌<◌, ◌≤◌, Bool, true, false, cond, List, [], ◌∷◌, length, take, drop, get_or, Option, Some, None, refl, sym, ap, subst, ◌∙◌, add-one, le_of_eq, arith}
 use Rattle.std.proofs.lemmas.List.{length-take-le, get_or-take, get_or_default}
 use Rattle.std.proofs.lemmas.List.Elements.{All-get_or}
-use Rattle.std.proofs.lemmas.Option.{slice_get-get_or, slice_get_within, get_or_from_slice_get}
+use Rattle.std.proofs.lemmas.Bool.{lt-ltb, le-ltb}
+use Rattle.std.proofs.lemmas.Option.{slice_get_within, get_or_from_slice_get}
 use Rattle.std.proofs.Math.Seq.{drop-cons}
-use Rattle.std.specs.Prelude.{slice_get}
+use Rattle.std.specs.Prelude.{slice_get, All}
 use Rattle.arc_model.specs.declared.answer.Answer.{Answer}
 use Rattle.arc_script.specs.declared.script.Op.{Op}
 use Rattle.arc_script.specs.declared.script.Op.TheVariants as op
 use Rattle.arc_ops.specs.declared.stepper.Held.{Held}
 use Rattle.arc_ops.specs.Kept.{Kept, with_line}
-use Rattle.arc_ops.specs.Programs.{VarsFit}
-use Rattle.arc_ops.specs.Thread.{Thread, value, is_held, asks, begun, begun_at, begun_nil, begun_move, begun_op, phase_end, skipped, IsStepper}
+use Rattle.arc_ops.specs.Programs.{VarsFit, GoesForth, ordinal}
+use Rattle.arc_ops.specs.Thread.{Thread, value, is_held, asks, block_goes_on, at_place, begun, begun_at, begun_nil, begun_move, begun_op, phase_end, skipped, IsStepper}
 
 -- what an operation does that asks for no step, whatever goes on behind it
 abbrev pub IsDoneAtOnce : Op → (vars new : List (Option Held)) → Answer → Type 0
 IsDoneAtOnce o vars new answer = (t : Thread) (rest : Thread → Thread) → t.vars ≡ vars → begun_op o t rest ≡ rest (record (skipped answer t) { vars = new })
 
--- an operation of the phase stands in the program
-pub there : (program : List Op) (at : ℕ) (o d : Op) (end : ℕ) → at < end → end ≤ length program → o ≡ get_or program at d → slice_get program at ≡ Some o
-there program at o d end below within here = slice_get-get_or program at d (omega arith) ∙ ap (λ x. Some x) (sym here)
+-- what holds of each operation holds of this one
+pub there_fits : (P : Op → Type 0) (program : List Op) (at : ℕ) (o : Op) → slice_get program at ≡ Some o → All P program → P o
+there_fits P program at o here all = subst P (get_or_from_slice_get program at o o here) (All-get_or P program at o (slice_get_within program at o here) all)
 
 -- the rest of a phase, from an operation of the phase
-pub rest_from : (program : List Op) (end at : ℕ) (o d : Op) → at < end → end ≤ length program → o ≡ get_or program at d → drop at (take end program) ≡ o ∷ drop (at + 1) (take end program)
-rest_from program end at o d below within here =
-    rw add-one (drop-cons (take end program) at d (rw (length-take-le end program within) below) ∙ ap (λ x. x ∷ drop (suc at) (take end program)) (get_or-take end program at d below ∙ sym here))
+pub rest_from : (program : List Op) (end at : ℕ) (o : Op) → at < end → end ≤ length program → slice_get program at ≡ Some o → drop at (take end program) ≡ o ∷ drop (at + 1) (take end program)
+rest_from program end at o below within here =
+    rw add-one (drop-cons (take end program) at o (rw (length-take-le end program within) below) ∙ ap (λ x. x ∷ drop (suc at) (take end program)) (get_or-take end program at o below ∙ get_or_from_slice_get program at o o here))
 
-pub begun_behind : (program : List Op) (end at : ℕ) (o d : Op) (vars new : List (Option Held)) (answer : Answer) (kept : Kept) → at < end → end ≤ length program → o ≡ get_or program at d → IsDoneAtOnce o vars new answer →
+-- where the thread stands at an operation, that operation begins
+here_begun : (at : ℕ) (o : Op) (ops : List Op) (t : Thread) → t.index ≡ at → begun_at at (o ∷ ops) t ≡ begun_op o t (λ behind. begun_at (at + 1) ops behind)
+here_begun at o ops t place = ap (λ b. cond b (begun_at (at + 1) ops t) (begun_op o t (λ behind. begun_at (at + 1) ops behind))) (le-ltb at t.index (le_of_eq place))
+
+pub begun_behind : (program : List Op) (end at : ℕ) (o : Op) (vars new : List (Option Held)) (answer : Answer) (kept : Kept) → at < end → end ≤ length program → slice_get program at ≡ Some o → IsDoneAtOnce o vars new answer →
     (t : Thread) → t.program ≡ program → phase_end t ≡ end →
-    begun (record t { index = at; vars = vars; kept = kept }) ≡ begun (record t { index = at + 1; vars = new; kept = with_line (record { operation = at + 1; answer = answer }) kept })
-begun_behind program end at o d vars new answer kept below within here done t program_is end_is =
-    ap (λ ops. begun_at ops (record t { index = at; vars = vars; kept = kept })) rest
-    ∙ done (record t { index = at; vars = vars; kept = kept }) (λ behind. begun_at (drop (at + 1) (take (phase_end t) t.program)) behind) refl
+    begun (record t { index = at; vars = vars; kept = kept }) ≡ begun (record t { index = at + 1; vars = new; kept = with_line (record { operation = ordinal program at; answer = answer }) kept })
+begun_behind program end at o vars new answer kept below within here done t program_is end_is =
+    ap (λ ops. begun_at at ops (record t { index = at; vars = vars; kept = kept })) rest
+    ∙ here_begun at o (drop (at + 1) (take (phase_end t) t.program)) (record t { index = at; vars = vars; kept = kept }) refl
+    ∙ done (record t { index = at; vars = vars; kept = kept }) (λ behind. begun_at (at + 1) (drop (at + 1) (take (phase_end t) t.program)) behind) refl
+    ∙ ap (λ (p : List Op). begun (record t { index = at + 1; vars = new; kept = with_line (record { operation = ordinal p at; answer = answer }) kept })) program_is
   where
     rest : drop at (take (phase_end t) t.program) ≡ o ∷ drop (at + 1) (take (phase_end t) t.program)
-    rest = rw (end_is, program_is) (rest_from program end at o d below within here)
+    rest = rw (end_is, program_is) (rest_from program end at o below within here)
+
+-- ---- blocks
+
+-- operations that the thread has gone past are passed over
+passes : (ops : List Op) (j k n : ℕ) (t : Thread) → j + k ≡ n → t.index ≡ n → n ≤ length ops → begun_at j (drop j ops) t ≡ begun_at n (drop n ops) t
+passes ops j zero n t sum place within = let same : j ≡ n = omega (arith, sum) in ap (λ (m : ℕ). begun_at m (drop m ops) t) same
+passes ops j (suc k) n t sum place within = go ops refl (passes ops (j + 1) k n t (omega (arith, sum)) place within)
+  where
+    past : j < t.index
+    past = omega (arith, sum, place)
+
+    go : (xs : List Op) → xs ≡ ops → begun_at (j + 1) (drop (j + 1) ops) t ≡ begun_at n (drop n ops) t → begun_at j (drop j ops) t ≡ begun_at n (drop n ops) t
+    go [] e further = let none = ap length e in absurd (omega (arith, none, sum, within))
+    go (x ∷ xs) e further =
+        let next : drop j ops ≡ get_or ops j x ∷ drop (j + 1) ops = rw add-one (drop-cons ops j x (omega (arith, sum, within))) in
+        ap (λ rest. begun_at j rest t) next
+        ∙ ap (λ b. cond b (begun_at (j + 1) (drop (j + 1) ops) t) (begun_op (get_or ops j x) t (λ behind. begun_at (j + 1) (drop (j + 1) ops) behind))) (lt-ltb j t.index past)
+        ∙ further
+
+some_place : (a b : ℕ) → Path (Option ℕ) (Some a) (Some b) → a ≡ b
+some_place a b e = cc
+
+-- a block's place is behind its beginning and within the phase
+pub goes_forth : (vars : List (Option Held)) (at end on : ℕ) (o : Op) → at < end → GoesForth at end o → block_goes_on vars at o ≡ Some on → (at < on) × (on ≤ end)
+goes_forth vars at end on (op.New to class) below g e = absurd (cc)
+goes_forth vars at end on (op.Copy to from) below g e = absurd (cc)
+goes_forth vars at end on (op.Move to from) below g e = absurd (cc)
+goes_forth vars at end on (op.Drop v) below g e = absurd (cc)
+goes_forth vars at end on (op.Unown to of) below g e = absurd (cc)
+goes_forth vars at end on (op.Weak to of) below g e = absurd (cc)
+goes_forth vars at end on (op.Load to of) below g e = absurd (cc)
+goes_forth vars at end on (op.Get to c) below g e = absurd (cc)
+goes_forth vars at end on (op.Set c from) below g e = absurd (cc)
+goes_forth vars at end on (op.IfNil v to) below g e = go (is_held (value vars v)) e
+  where
+    go : (b : Bool) → Path (Option ℕ) (Some (cond b to (at + 1))) (Some on) → (at < on) × (on ≤ end)
+    go true e = let s = some_place to on e in let x = g.0 in let y = g.1 in (omega (arith, s, x), omega (arith, s, y))
+    go false e = let s = some_place (at + 1) on e in (omega (arith, s), omega (arith, s, below))
+goes_forth vars at end on (op.IfSome v to) below g e = go (is_held (value vars v)) e
+  where
+    go : (b : Bool) → Path (Option ℕ) (Some (cond b (at + 1) to)) (Some on) → (at < on) × (on ≤ end)
+    go false e = let s = some_place to on e in let x = g.0 in let y = g.1 in (omega (arith, s, x), omega (arith, s, y))
+    go true e = let s = some_place (at + 1) on e in (omega (arith, s), omega (arith, s, below))
+
+pub block_begun : (o : Op) (on : ℕ) (t : Thread) (rest : Thread → Thread) → block_goes_on t.vars t.index o ≡ Some on → begun_op o t rest ≡ rest (record t { index = on })
+block_begun (op.New to class) on t rest e = absurd (cc)
+block_begun (op.Copy to from) on t rest e = absurd (cc)
+block_begun (op.Move to from) on t rest e = absurd (cc)
+block_begun (op.Drop v) on t rest e = absurd (cc)
+block_begun (op.Unown to of) on t rest e = absurd (cc)
+block_begun (op.Weak to of) on t rest e = absurd (cc)
+block_begun (op.Load to of) on t rest e = absurd (cc)
+block_begun (op.Get to c) on t rest e = absurd (cc)
+block_begun (op.Set c from) on t rest e = absurd (cc)
+block_begun (op.IfNil v to) on t rest e = ap (λ (p : Option ℕ). rest (at_place p t)) e
+block_begun (op.IfSome v to) on t rest e = ap (λ (p : Option ℕ). rest (at_place p t)) e
+
+-- the thread comes to a block
+pub begun_at_block : (program : List Op) (end at on : ℕ) (o : Op) (vars : List (Option Held)) (kept : Kept) → at < end → end ≤ length program → slice_get program at ≡ Some o → GoesForth at end o → block_goes_on vars at o ≡ Some on →
+    (t : Thread) → t.program ≡ program → phase_end t ≡ end → begun (record t { index = at; vars = vars; kept = kept }) ≡ begun (record t { index = on; vars = vars; kept = kept })
+begun_at_block program end at on o vars kept below within here forth goes t program_is end_is =
+    ap (λ ops. begun_at at ops (record t { index = at; vars = vars; kept = kept })) rest
+    ∙ here_begun at o (drop (at + 1) (take (phase_end t) t.program)) (record t { index = at; vars = vars; kept = kept }) refl
+    ∙ block_begun o on (record t { index = at; vars = vars; kept = kept }) (λ behind. begun_at (at + 1) (drop (at + 1) (take (phase_end t) t.program)) behind) goes
+    ∙ passes (take (phase_end t) t.program) (at + 1) (on - (at + 1)) on (record t { index = on; vars = vars; kept = kept }) (omega (arith, place)) refl (omega (arith, place, long))
+  where
+    rest : drop at (take (phase_end t) t.program) ≡ o ∷ drop (at + 1) (take (phase_end t) t.program)
+    rest = rw (end_is, program_is) (rest_from program end at o below within here)
+
+    place : (at < on) × (on ≤ end)
+    place = goes_forth vars at end on o below forth goes
+
+    long : length (take (phase_end t) t.program) ≡ end
+    long = rw (end_is, program_is) (length-take-le end program within)
 
 -- the stepper begins where an operation of its phase asks for a step
-pub begun_from : (t new : Thread) (o d : Op) (i end : ℕ) (vars : List (Option Held)) (kept : Kept) → end ≡ phase_end t → end ≤ length t.program → i < end → o ≡ get_or t.program i d →
+pub begun_from : (t new : Thread) (o : Op) (i end : ℕ) (vars : List (Option Held)) (kept : Kept) → end ≡ phase_end t → end ≤ length t.program → i < end → slice_get t.program i ≡ Some o →
     ((u : Thread) → u.program ≡ t.program → phase_end u ≡ end → begun (record u { index = t.index; vars = t.vars; kept = t.kept }) ≡ begun (record u { index = i; vars = vars; kept = kept })) →
     ((rest : Thread → Thread) → new ≡ begun_op o (record t { index = i; vars = vars; kept = kept }) rest) → new ≡ begun t
-begun_from t new o d i end vars kept end_is within below here same begins =
-    begins (λ behind. begun_at (drop (i + 1) (take (phase_end t) t.program)) behind)
-    ∙ ap (λ ops. begun_at ops (record t { index = i; vars = vars; kept = kept })) (sym rest)
+begun_from t new o i end vars kept end_is within below here same begins =
+    begins (λ behind. begun_at (i + 1) (drop (i + 1) (take (phase_end t) t.program)) behind)
+    ∙ sym (here_begun i o (drop (i + 1) (take (phase_end t) t.program)) (record t { index = i; vars = vars; kept = kept }) refl)
+    ∙ ap (λ ops. begun_at i ops (record t { index = i; vars = vars; kept = kept })) (sym rest)
     ∙ sym (same t refl (sym end_is))
   where
     rest : drop i (take (phase_end t) t.program) ≡ o ∷ drop (i + 1) (take (phase_end t) t.program)
-    rest = let P : ℕ → Type 0 = λ e. drop i (take e t.program) ≡ o ∷ drop (i + 1) (take e t.program) in subst P end_is (rest_from t.program end i o d below within here)
+    rest = let P : ℕ → Type 0 = λ e. drop i (take e t.program) ≡ o ∷ drop (i + 1) (take e t.program) in subst P end_is (rest_from t.program end i o below within here)
 
 -- the operation that is next names variables that there are
 pub fits_at : (t : Thread) (o : Op) → IsStepper t → slice_get t.program t.index ≡ Some o → VarsFit (length t.vars) o

@@ -1,7 +1,8 @@
 -- The phases and operations of a thread, and what they may name.
-use Rattle.std.specs.Prelude.{ℕ, ◌==◌, ◌-◌, ◌+◌, ◌<◌, if◌then◌else◌, Bool, true, false, List, [], length, take, flat_map, sum_by, count_by, slice_get, Option, Some, None}
+use Rattle.std.specs.Prelude.{ℕ, ◌≡◌, ◌==◌, ◌-◌, ◌+◌, ◌<◌, ◌≤◌, if◌then◌else◌, Bool, true, false, List, [], length, take, flat_map, sum_by, count_by, slice_get, slice_index_or, Option, Some, None}
 use Rattle.arc_script.specs.declared.script.Op.{Op}
 use Rattle.arc_script.specs.declared.script.Op.TheVariants as op
+use Rattle.arc_script.specs.OneList.{in_one_list, numbered}
 use Rattle.arc_script.specs.declared.script.ThreadDecl.{ThreadDecl}
 use Rattle.arc_script.specs.declared.script.Script.{Script}
 
@@ -19,11 +20,36 @@ phases_of script thread = phases_in (declared_of script thread)
 
 -- the operations of the thread, phase by phase
 abbrev pub program_of : Script → ℕ → List Op
-program_of script thread = flat_map (λ ops. ops) (phases_of script thread)
+program_of script thread = in_one_list 0 (phases_of script thread)
+
+-- the number of the operation at this place: the beginnings of blocks have none
+abbrev pub ordinal : List Op → ℕ → ℕ
+ordinal program i = numbered (take (i + 1) program)
+
+-- the numbers of all operations, in order
+pub record IsNumbered (program : List Op) (numbers : List ℕ) : Type 0 where
+  pub count : length numbers ≡ length program
+  pub each : (i : ℕ) → i < length program → slice_index_or numbers i 0 ≡ ordinal program i
 
 -- how many operations there are in the first phases
 abbrev pub ops_in_first : ℕ → List (List Op) → ℕ
 ops_in_first k phases = length (flat_map (λ ops. ops) (take k phases))
+
+-- a block that begins at this place goes on behind it, and up to the end
+abbrev pub GoesForth : ℕ → ℕ → Op → Type 0
+GoesForth i end (op.IfNil var to) = (i < to) × (to ≤ end)
+GoesForth i end (op.IfSome var to) = (i < to) × (to ≤ end)
+GoesForth i end _ = Unit {0}
+
+-- the place behind a block is no farther than a program is long
+abbrev pub ToFits : Op → Type 0
+ToFits (op.IfNil var to) = to ≤ 100000
+ToFits (op.IfSome var to) = to ≤ 100000
+ToFits _ = Unit {0}
+
+-- no block goes past the end of its phase
+abbrev pub BlocksFit : List Op → List (List Op) → Type 0
+BlocksFit program phases = (k i : ℕ) (o : Op) → i < ops_in_first k phases → slice_get program i ≡ Some o → GoesForth i (ops_in_first k phases) o
 
 abbrev pub count_of_vars : Option ThreadDecl → ℕ
 count_of_vars None = 0
@@ -59,8 +85,8 @@ VarsFit vars (op.Weak to of) = ⊥
 VarsFit vars (op.Load to of) = ⊥
 VarsFit vars (op.Get to cell) = ⊥
 VarsFit vars (op.Set cell from) = ⊥
-VarsFit vars (op.IfNil var to) = ⊥
-VarsFit vars (op.IfSome var to) = ⊥
+VarsFit vars (op.IfNil var to) = var < vars
+VarsFit vars (op.IfSome var to) = var < vars
 
 -- an object that it makes has one of so many classes
 abbrev pub ClassFits : ℕ → Op → Type 0

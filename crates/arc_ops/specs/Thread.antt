@@ -1,5 +1,5 @@
 -- A thread's stepper: what it is after each word, and what it asks for then.
-use Rattle.std.specs.Prelude.{ℕ, Bool, true, false, ◌≡◌, ◌<◌, ◌≤◌, ◌+◌, ◌-◌, nat_lt, not, ◌&&◌, ◌||◌, if◌then◌else◌, List, [], ◌∷◌, length, take, drop, flat_map, All, slice_get, slice_index_or, slice_set, position, replicate, Option, Some, None, ⊤}
+use Rattle.std.specs.Prelude.{ℕ, Bool, true, false, ◌≡◌, ◌<◌, ◌≤◌, ◌+◌, ◌-◌, nat_lt, not, ◌&&◌, ◌||◌, if◌then◌else◌, List, [], ◌∷◌, length, take, drop, All, slice_get, slice_index_or, slice_set, position, replicate, Option, Some, None, ⊤}
 use Rattle.std.specs.Option.{unwrap_or}
 use Rattle.arc_bits.specs.declared.packing.Word.{Word}
 use Rattle.arc_bits.specs.declared.packing.Word.TheVariants.{Counts, Immortal}
@@ -39,8 +39,9 @@ use Rattle.arc_model.specs.declared.answer.Answer.TheVariants as answers
 use Rattle.arc_script.specs.declared.script.Op.{Op}
 use Rattle.arc_script.specs.declared.script.Op.TheVariants as op
 use Rattle.arc_script.specs.declared.script.Script.{Script}
+use Rattle.arc_script.specs.OneList.{in_one_list}
 use Rattle.arc_ops.specs.Kept.{Kept, with_line}
-use Rattle.arc_ops.specs.Programs.{VarsFit, ClassFits, phases_of, program_of, ops_in_first, vars_of, room_in}
+use Rattle.arc_ops.specs.Programs.{VarsFit, ClassFits, BlocksFit, ordinal, phases_of, program_of, ops_in_first, vars_of, room_in}
 use Rattle.arc_ops.specs.declared.stepper.Held.{Held}
 use Rattle.arc_ops.specs.declared.stepper.Doing.{Doing}
 use Rattle.arc_ops.specs.declared.stepper.Doing.TheVariants.{Ready, Making, Copying, Dropping, Dying, Ended}
@@ -96,12 +97,16 @@ stepper_of script thread = record {
 abbrev pub value : List (Option Held) → ℕ → Option Held
 value vars v = slice_index_or vars v None
 
+abbrev pub is_held : Option Held → Bool
+is_held None = false
+is_held (Some held) = true
+
 abbrev pub set_var : ℕ → Option Held → Thread → Thread
 set_var v new t = record t { vars = slice_set t.vars v new }
 
 -- the number of the operation that is under way, 0 at the end of the scope
 abbrev pub number_of : Thread → ℕ
-number_of t = if nat_lt t.index (length t.program) then t.index + 1 else 0
+number_of t = if nat_lt t.index (length t.program) then ordinal t.program t.index else 0
 
 -- a line of the operation that is under way
 abbrev pub put : Answer → Thread → Thread
@@ -128,7 +133,7 @@ drop_begun held t =
 
 -- an operation that asks for no step is done at once: its line, and the next one
 abbrev pub skipped : Answer → Thread → Thread
-skipped answer t = record t { index = t.index + 1; kept = with_line (record { operation = t.index + 1; answer = answer }) t.kept }
+skipped answer t = record t { index = t.index + 1; kept = with_line (record { operation = ordinal t.program t.index; answer = answer }) t.kept }
 
 abbrev pub creation_from : Thread → ObjectName → Creation
 creation_from t name = record { layout = t.layout; name = name; immortal = (class_at t.shape name.class).immortal; at = search.Start }
@@ -179,12 +184,24 @@ abbrev pub begun_drop : ℕ → Option Held → Thread → (rest : Thread → Th
 begun_drop v (Some held) t rest = drop_begun held (set_var v None (put answers.Ok (record t { first = true })))
 begun_drop v None t rest = rest (skipped answers.Nil t)
 
+-- where the thread goes on that comes to a block at this place: in the block where that is run, else behind it
+abbrev pub block_goes_on : List (Option Held) → ℕ → Op → Option ℕ
+block_goes_on vars i (op.IfNil v to) = Some (if is_held (value vars v) then to else i + 1)
+block_goes_on vars i (op.IfSome v to) = Some (if is_held (value vars v) then i + 1 else to)
+block_goes_on vars i _ = None
+
+abbrev pub at_place : Option ℕ → Thread → Thread
+at_place None t = t
+at_place (Some i) t = record t { index = i }
+
 -- The operation begins. Where it asks for no step it is done at once, and rest goes on from the thread behind it.
 abbrev pub begun_op : Op → Thread → (rest : Thread → Thread) → Thread
 begun_op (op.New to class) t rest = make_begun to class (record t { first = true })
 begun_op (op.Copy to from) t rest = begun_copy to (value t.vars from) (value t.vars to) t rest
 begun_op (op.Move to from) t rest = begun_move to from (value t.vars from) (value t.vars to) t rest
 begun_op (op.Drop v) t rest = begun_drop v (value t.vars v) t rest
+begun_op (op.IfNil v to) t rest = rest (at_place (block_goes_on t.vars t.index (op.IfNil v to)) t)
+begun_op (op.IfSome v to) t rest = rest (at_place (block_goes_on t.vars t.index (op.IfSome v to)) t)
 begun_op _ t rest = rest (skipped answers.Nil t)
 
 abbrev pub scope_drop : ℕ → Option Held → Thread → Thread
@@ -195,10 +212,6 @@ scope_drop v (Some held) t = drop_begun held (set_var v None t)
 abbrev pub scope_at : Option ℕ → Thread → Thread
 scope_at None t = record t { doing = Ended; asked = moves.Ended }
 scope_at (Some v) t = scope_drop v (value t.vars v) t
-
-abbrev pub is_held : Option Held → Bool
-is_held None = false
-is_held (Some held) = true
 
 abbrev pub scope_begun : Thread → Thread
 scope_begun t = scope_at (position is_held t.vars) t
@@ -211,13 +224,14 @@ phase_end t = ops_in_first (t.phase + 1) t.phases
 abbrev pub phase_over : Thread → Thread
 phase_over t = if nat_lt (t.phase + 1) (length t.phases) then record t { doing = Ready; asked = moves.PhaseEnd; phase = t.phase + 1 } else scope_begun t
 
-abbrev pub begun_at : List Op → Thread → Thread
-begun_at [] t = phase_over t
-begun_at (o ∷ ops) t = begun_op o t (λ (behind : Thread). begun_at ops behind)
+-- Operations from this place on; those that the thread has gone past are passed over.
+abbrev pub begun_at : ℕ → List Op → Thread → Thread
+begun_at at [] t = phase_over t
+begun_at at (o ∷ ops) t = if nat_lt at t.index then begun_at (at + 1) ops t else begun_op o t (λ (behind : Thread). begun_at (at + 1) ops behind)
 
 -- at the first operation of the rest of the phase that asks for a step
 abbrev pub begun : Thread → Thread
-begun t = begun_at (drop t.index (take (phase_end t) t.program)) t
+begun t = begun_at t.index (drop t.index (take (phase_end t) t.program)) t
 
 -- the operation, or a drop at the end of the scope, is over
 abbrev pub next_op : Thread → Thread
@@ -388,7 +402,8 @@ pub record IsStepper (t : Thread) : Type 0 where
   pub thread : t.thread ≤ 64
   pub vars_fit : All (VarsFit (length t.vars)) t.program
   pub classes_fit : All (ClassFits (length t.shape.classes)) t.program
-  pub whole : t.program ≡ flat_map (λ ops. ops) t.phases
+  pub whole : t.program ≡ in_one_list 0 t.phases
+  pub blocks : BlocksFit t.program t.phases
   pub few : length t.program ≤ 100000
   pub held : All (HeldFits t.layout.slots) t.vars
   -- one of its phases, and 0 where it has none

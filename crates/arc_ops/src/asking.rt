@@ -1,11 +1,14 @@
 //! What a stepper asks for next.
 
-ghost use Rattle.std.specs.Prelude.{ℕ, ◌≡◌, ◌<◌, ◌≤◌, false, All, length, position, replicate, IfOk};
+ghost use Rattle.std.specs.Prelude.{ℕ, ◌≡◌, ◌<◌, ◌≤◌, false, All, length, position, replicate, slice_get, None, Some, IfOk};
 ghost use Rattle.arc_model.specs.Shapes.{class_at};
-ghost use Rattle.arc_ops.specs.Programs.{VarsFit};
-ghost use Rattle.arc_ops.specs.Thread.{Thread, AsksAt, asks, begun, begun_op, HeldFits, is_held, phase_end, skipped};
+ghost use Rattle.arc_script.specs.declared.script.Op.{Op};
+ghost use Rattle.arc_script.specs.Valid.{begins_block};
+ghost use Rattle.arc_ops.specs.Programs.{VarsFit, GoesForth};
+ghost use Rattle.arc_ops.specs.Thread.{Thread, AsksAt, asks, block_goes_on, begun, begun_op, HeldFits, is_held, phase_end, skipped};
 
 use crate::kept::Lines;
+use crate::program::Program;
 use crate::stepper::Held;
 use arc_model::Shape;
 use arc_script::{Answer, Line, Op};
@@ -24,7 +27,7 @@ pub(crate) fn is_immortal(shape: &Shape, class: u32) -> bool
 /// The first operation from this one on that asks for a step, or the end of the phase. Those before it are done: their lines are put,
 /// and what they move is moved.
 pub(crate) fn first_asking(
-    program: &[Op],
+    program: &Program,
     end: usize,
     vars: &mut Vec<Option<Held>>,
     index: usize,
@@ -34,6 +37,7 @@ pub(crate) fn first_asking(
     requires few { length program.now ≤ 100000 }
     requires end { end ≤ length program.now }
     requires index { index ≤ length program.now }
+    requires blocks { (i : ℕ) (o : Op) → i < end → slice_get program.now i ≡ Some o → GoesForth i end o }
     ensures from { index ≤ result }
     ensures within { result ≤ length program.now }
     ensures count { length vars.new.items ≡ length vars.old.items }
@@ -43,24 +47,55 @@ pub(crate) fn first_asking(
 {
     let mut at = index;
     while at < end {
-        let op = program[at];
-        if asks(op, vars) {
-            return at;
+        let op = program.op(at);
+        if let Some(on) = block_goes_on(op, at, vars) {
+            at = on;
+        } else {
+            if asks(op, vars) {
+                return at;
+            }
+            let answer = do_at_once(op, vars);
+            lines.put(Line {
+                operation: program.number(at),
+                answer,
+            });
+            at += 1;
         }
-        let answer = do_at_once(op, vars);
-        lines.put(Line {
-            operation: at as u32 + 1,
-            answer,
-        });
-        at += 1;
     }
     at
+}
+
+/// Where the thread goes on that comes to a block at this place: in the block where that is run, else behind it.
+fn block_goes_on(op: Op, at: usize, vars: &[Option<Held>]) -> Option<usize>
+    requires fits { VarsFit (length vars.now) op }
+    requires few { at < 100000 }
+    ensures goes_on { result ≡ block_goes_on vars.now at op }
+    ensures operation { result ≡ None → begins_block op ≡ false }
+{
+    match op {
+        Op::IfNil { var, to } => {
+            if is_held(vars[var as usize]) {
+                Some(to as usize)
+            } else {
+                Some(at + 1)
+            }
+        }
+        Op::IfSome { var, to } => {
+            if is_held(vars[var as usize]) {
+                Some(at + 1)
+            } else {
+                Some(to as usize)
+            }
+        }
+        _ => None,
+    }
 }
 
 /// Does an operation that asks for no step.
 fn do_at_once(op: Op, vars: &mut Vec<Option<Held>>) -> Answer
     requires fits { VarsFit (length vars.old.items) op }
     requires asks { asks vars.old.items op ≡ false }
+    requires operation { begins_block op ≡ false }
     ensures count { length vars.new.items ≡ length vars.old.items }
     ensures held { (slots : ℕ) → All (HeldFits slots) vars.old.items → All (HeldFits slots) vars.new.items }
     ensures done { (t : Thread) (rest : Thread → Thread) → t.vars ≡ vars.old.items → begun_op op t rest ≡ rest (record (skipped result t) { vars = vars.new.items }) }
@@ -99,6 +134,8 @@ fn asks(op: Op, vars: &[Option<Held>]) -> bool
         Op::Copy { to, from } => is_held(vars[from as usize]) || is_held(vars[to as usize]),
         Op::Move { to, from: _ } => is_held(vars[to as usize]),
         Op::Drop { var } => is_held(vars[var as usize]),
+        Op::IfNil { .. } => false,
+        Op::IfSome { .. } => false,
         _ => unreachable!(),
     }
 }

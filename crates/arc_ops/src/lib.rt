@@ -4,6 +4,7 @@
 
 mod asking;
 mod kept;
+mod program;
 mod programs;
 mod served;
 mod stepper;

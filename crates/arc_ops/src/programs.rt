@@ -7,7 +7,6 @@ ghost use Rattle.std.specs.Option.{option_copied};
 
 use arc_script::{Op, Script, ThreadDecl};
 use sqlite_items::Items;
-use std::alloc::{AllocError, Global};
 
 fn declared_of(script: &Script, thread: u32) -> Option<&ThreadDecl>
     ensures { option_copied result ≡ declared_of script.now thread }
@@ -27,17 +26,6 @@ pub(crate) fn phases_of(script: &Script, thread: u32) -> &[Items<Op>]
         None => &[],
         Some(decl) => decl.phases.as_slice(),
     }
-}
-
-/// All operations of the phases, in their order.
-pub(crate) fn program_in(alloc: Global, phases: &[Items<Op>]) -> Result<Vec<Op>, AllocError>
-    ensures { IfOk result (λ ops. ops.items ≡ flat_map (λ phase. phase) phases.now) }
-{
-    let mut program = Vec::new(alloc);
-    for ops in phases.iter() {
-        program.extend_from_slice(ops.as_slice())?;
-    }
-    Ok(program)
 }
 
 /// How many operations there are in the first phases.

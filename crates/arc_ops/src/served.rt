@@ -15,6 +15,8 @@ fn is_served_op(op: &Op) -> bool
         Op::Copy { to: _, from: _ } => true,
         Op::Move { to: _, from: _ } => true,
         Op::Drop { var: _ } => true,
+        Op::IfNil { .. } => true,
+        Op::IfSome { .. } => true,
         _ => false,
     }
 }
@@ -66,7 +68,7 @@ fn are_greatest(caps: Caps) -> bool
 }
 
 /// Whether the script is one of those that are served so far: threads with strong variables and the operations `new`, `copy`, `move`
-/// and `drop`, in any phases and by any schedule; classes without fields, no globals and the greatest caps.
+/// and `drop`, in any blocks and phases and by any schedule; classes without fields, no globals and the greatest caps.
 pub fn is_served(script: &Script) -> bool
     ensures { IsTrue result ↔ IsServed script.now }
 {

@@ -12,7 +12,8 @@ ghost use Rattle.arc_ops.specs.Thread.{Thread, IsStepper, FewBefore, IsUnderWay,
 
 use crate::asking::{first_asking, first_held, is_immortal, nil_vars};
 use crate::kept::Lines;
-use crate::programs::{new_count, ops_in_first, phases_of, program_in, vars_of};
+use crate::program::Program;
+use crate::programs::{new_count, ops_in_first, phases_of, vars_of};
 use arc_cells::{Cascade, CascadeNext};
 use arc_model::{Act, Memory, ObjectName, Origin, Shape};
 use arc_plan::{
@@ -85,7 +86,7 @@ pub struct Stepper<'a> {
     shape: &'a Shape,
     thread: u32,
     phases: &'a [Items<Op>],
-    program: Vec<Op>,
+    program: Program,
     vars: Vec<Option<Held>>,
     phase: usize,
     index: usize,
@@ -103,9 +104,9 @@ impl<'a> Model for Stepper<'a> {
 
     ghost Value = { Thread };
 
-    ghost view = { λ t. record { layout = t.layout; shape = t.shape.now; thread = t.thread; phases = t.phases.now; program = t.program.items; vars = t.vars.items; phase = t.phase; index = t.index; doing = t.doing; asked = t.asked; first = t.first; hands = t.hands; made = t.made; event = t.event; kept = t.lines } };
+    ghost view = { λ t. record { layout = t.layout; shape = t.shape.now; thread = t.thread; phases = t.phases.now; program = t.program; vars = t.vars.items; phase = t.phase; index = t.index; doing = t.doing; asked = t.asked; first = t.first; hands = t.hands; made = t.made; event = t.event; kept = t.lines } };
 
-    ghost invariant = { λ t. IsStepper (record { layout = t.layout; shape = t.shape.now; thread = t.thread; phases = t.phases.now; program = t.program.items; vars = t.vars.items; phase = t.phase; index = t.index; doing = t.doing; asked = t.asked; first = t.first; hands = t.hands; made = t.made; event = t.event; kept = t.lines }) };
+    ghost invariant = { λ t. IsStepper (record { layout = t.layout; shape = t.shape.now; thread = t.thread; phases = t.phases.now; program = t.program; vars = t.vars.items; phase = t.phase; index = t.index; doing = t.doing; asked = t.asked; first = t.first; hands = t.hands; made = t.made; event = t.event; kept = t.lines }) };
 }
 
 impl<'a> Stepper<'a> {
@@ -124,7 +125,7 @@ impl<'a> Stepper<'a> {
         ensures { IfOk result (λ s. s ≡ stepper_of script.now thread) }
     {
         let phases = phases_of(script, thread);
-        let program = program_in(alloc, phases)?;
+        let program = Program::make(alloc, phases)?;
         let vars = nil_vars(alloc, vars_of(script, thread))?;
         let room = program.len() + new_count(script.threads.as_slice());
         let lines = Lines::make(alloc, room)?;
@@ -227,7 +228,7 @@ impl<'a> Stepper<'a> {
         ensures { result ≡ number_of self.now }
     {
         if self.index < self.program.len() {
-            self.index as u32 + 1
+            self.program.number(self.index)
         } else {
             0
         }
@@ -265,7 +266,7 @@ impl<'a> Stepper<'a> {
         );
         self.index = at;
         if at < end {
-            let op = self.program[at];
+            let op = self.program.op(at);
             self.begin_op(op);
         } else {
             self.end_phase();

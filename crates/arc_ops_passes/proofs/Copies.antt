@@ -44,7 +44,7 @@ use Rattle.arc_view.specs.declared.view.Working.{Working}
 use Rattle.arc_view.specs.declared.view.View.{View}
 use Rattle.arc_view.specs.Holding.{heap_of}
 use Rattle.arc_view.specs.Kinds.{act_of, kind_at, first_of, loaded_act, working_loaded}
-use Rattle.arc_view.specs.Built.{IsAllowed}
+use Rattle.arc_view.specs.Admission.{Admits}
 use Rattle.arc_view.specs.Steps.{Told}
 use Rattle.arc_view.specs.Calls.{Called}
 use Rattle.arc_view_laws.proofs.Moving.{moved}
@@ -83,14 +83,11 @@ module _ (w : Work) (t : Thread) (v : View) (to : ℕ) (held : Held) (a : Attemp
   free : v.working.owes ≡ None
   free = ap (λ (x : Working). x.owes) f.under_way.0.working
 
-  pub load_allowed : IsAllowed w.shape v (Load at) copy
-  load_allowed = let r = leads in ((Count held.place, refl, below, free, (r.0, r.1, r.3, r.4, inl (held.hand, Strong, r.2, strong≢weak)), tt), inr tt)
+  pub load_allowed : Admits w.shape v (Load at) copy
+  load_allowed = let r = leads in (Count held.place, refl, below, free, (r.0, r.1, r.3, r.4, inl (held.hand, Strong, r.2, strong≢weak)), tt)
 
-  pub swap_allowed : (seen new : ℕ) → a ≡ attempt.Exchanging seen new → IsAllowed w.shape v (Exchange at seen new) copy
-  swap_allowed seen new is = let r = leads in (
-    (Count held.place, refl, below, free, (Strong, r.0, r.1, (r.2, tt), r.3, ap (λ m. is_number m held.place) r.4 ∙ eq-eqb held.place held.place refl, subst (MayGoUp w.shape held.place) is f.under_way.1)),
-    tt,
-  )
+  pub swap_allowed : (seen new : ℕ) → a ≡ attempt.Exchanging seen new → Admits w.shape v (Exchange at seen new) copy
+  swap_allowed seen new is = let r = leads in (Count held.place, refl, below, free, (Strong, r.0, r.1, (r.2, tt), r.3, ap (λ m. is_number m held.place) r.4 ∙ eq-eqb held.place held.place refl, subst (MayGoUp w.shape held.place) is f.under_way.1))
 
   abbrev gained : Act
   gained = acts.Copy (origins.Hand held.hand) (t.hands + 1)
@@ -202,17 +199,17 @@ module _ (w : Work) (t : Thread) (v : View) (to : ℕ) (held : Held) (a : Attemp
 
 -- ---- by where the attempt is
 
-pub copies_allowed : (w : Work) (t : Thread) (v : View) (to : ℕ) (held : Held) (plan : CappedAttempt) (step : Step) (intent : Intent) → Facts w t v (doings.Copying to held plan) → t.asked ≡ moves.Step step intent → IsAllowed w.shape v step intent
+pub copies_allowed : (w : Work) (t : Thread) (v : View) (to : ℕ) (held : Held) (plan : CappedAttempt) (step : Step) (intent : Intent) → Facts w t v (doings.Copying to held plan) → t.asked ≡ moves.Step step intent → Admits w.shape v step intent
 copies_allowed w t v to held plan step intent f asked = at plan.at f.asks.1 (subst (λ (p : CappedAttempt). Facts w t v (doings.Copying to held p)) f.asks.0 f)
   where
-    at : (a : AttemptAt) → AttemptAsks w.shape t.asked held.place (intents.Copy (origins.Hand held.hand)) a → Facts w t v (copying w to held a) → IsAllowed w.shape v step intent
+    at : (a : AttemptAt) → AttemptAsks w.shape t.asked held.place (intents.Copy (origins.Hand held.hand)) a → Facts w t v (copying w to held a) → Admits w.shape v step intent
     at attempt.Start ask g = absurd ask
     at attempt.Loading ask g =
         let e = asked_is t.asked (Load (number (extent_of w.shape) (Count held.place))) step (intents.Copy (origins.Hand held.hand)) intent ask asked in
-        subst (λ (x : Step × Intent). IsAllowed w.shape v x.0 x.1) (λ j. (e.0 j, e.1 j)) (load_allowed w t v to held attempt.Loading g)
+        subst (λ (x : Step × Intent). Admits w.shape v x.0 x.1) (λ j. (e.0 j, e.1 j)) (load_allowed w t v to held attempt.Loading g)
     at (attempt.Exchanging seen new) ask g =
         let e = asked_is t.asked (Exchange (number (extent_of w.shape) (Count held.place)) seen new) step (intents.Copy (origins.Hand held.hand)) intent ask asked in
-        subst (λ (x : Step × Intent). IsAllowed w.shape v x.0 x.1) (λ j. (e.0 j, e.1 j)) (swap_allowed w t v to held (attempt.Exchanging seen new) g seen new refl)
+        subst (λ (x : Step × Intent). Admits w.shape v x.0 x.1) (λ j. (e.0 j, e.1 j)) (swap_allowed w t v to held (attempt.Exchanging seen new) g seen new refl)
     at attempt.Ended ask g = absurd ask
 
 pub copies_come : (w : Work) (t : Thread) (v : View) (to : ℕ) (held : Held) (plan : CappedAttempt) (step : Step) (intent : Intent) (found : ℕ) (v' : View) → Facts w t v (doings.Copying to held plan) → t.asked ≡ moves.Step step intent → IsServedWord w.shape step intent found

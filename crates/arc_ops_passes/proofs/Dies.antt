@@ -67,7 +67,7 @@ use Rattle.arc_view.specs.Holding.{At, HasClaim, heap_of}
 use Rattle.arc_view.specs.Rule.{InShape, IsWithin}
 use Rattle.arc_view.specs.Kinds.{act_of, event_list, is_last, is_last_in, stored_act, and_act, but_at, working_loaded, working_stored, working_hit, working_and, without_next, hit_act}
 use Rattle.arc_view.specs.Admission.{HasEntered, IsDown}
-use Rattle.arc_view.specs.Built.{IsAllowed}
+use Rattle.arc_view.specs.Admission.{Admits}
 use Rattle.arc_view.specs.Steps.{Told, IsKeptAt}
 use Rattle.arc_view.specs.Calls.{Called}
 use Rattle.arc_view.proofs.Within.{each_at}
@@ -136,38 +136,23 @@ module _ (w : Work) (t : Thread) (v : View) (s : ℕ) (a : CascadeAt) (e : Optio
         apart : Swap seen new ≡ Load (number (extent_of w.shape) (Isa slot)) → ⊥
         apart x = cc
 
-    pub enter_allowed : v.working ≡ idle → IsAllowed w.shape v (Store (number (extent_of w.shape) (Next s)) 0) deinit
-    enter_allowed is = (
-      (Next s, refl, below, (free idle is refl, (owes.place, owes.object, None, refl, owes.here, owes.slot, owes.owes, (λ (h : HasEntered v s). never h), tt, refl))),
-      refl,
-    )
+    pub enter_allowed : v.working ≡ idle → Admits w.shape v (Store (number (extent_of w.shape) (Next s)) 0) deinit
+    enter_allowed is = (Next s, refl, below, (free idle is refl, (owes.place, owes.object, None, refl, owes.here, owes.slot, owes.owes, (λ (h : HasEntered v s). never h), tt, refl)))
       where
         never : HasEntered v s → ⊥
         never (x, j, at, same) = None≢Some x (ap (λ (y : Working). slice_get y.entered j) (sym is) ∙ at)
 
-    pub name_allowed : v.working ≡ entered s → IsAllowed w.shape v (Load (number (extent_of w.shape) (Isa s))) deinit
-    name_allowed is = (
-      (Isa s, refl, below, free (entered s) is refl, (owes.place, owes.object, owes.here, owes.slot, inr owes.owes), tt),
-      (inl (λ x. refl, λ x. ap (λ (pl : Place). working_loaded v.working pl x deinit) (place_at-number (extent_of w.shape) (Isa s) below))),
-    )
+    pub name_allowed : v.working ≡ entered s → Admits w.shape v (Load (number (extent_of w.shape) (Isa s))) deinit
+    name_allowed is = (Isa s, refl, below, free (entered s) is refl, (owes.place, owes.object, owes.here, owes.slot, inr owes.owes), tt)
 
-    pub leave_allowed : v.working ≡ entered s → IsAllowed w.shape v (Load (number (extent_of w.shape) (Next s))) deinit
-    leave_allowed is = (
-      (Next s, refl, below, free (entered s) is refl, ((owes.place, owes.object, owes.here, owes.slot, owes.owes, all_nil), has_entered is), tt),
-      (inl (λ x. refl, λ x. ap (λ (pl : Place). working_loaded v.working pl x deinit) (place_at-number (extent_of w.shape) (Next s) below))),
-    )
+    pub leave_allowed : v.working ≡ entered s → Admits w.shape v (Load (number (extent_of w.shape) (Next s))) deinit
+    leave_allowed is = (Next s, refl, below, free (entered s) is refl, ((owes.place, owes.object, owes.here, owes.slot, owes.owes, all_nil), has_entered is), tt)
 
-    pub load_allowed : v.working ≡ entered s → IsAllowed w.shape v (Load (number (extent_of w.shape) (Count s))) deinit
-    load_allowed is = (
-      (Count s, refl, below, free (entered s) is refl, (owes.place, owes.object, owes.here, owes.slot, inr (inl (Deinit, owes.owes))), tt),
-      (inl (λ x. refl, λ x. ap (λ (pl : Place). working_loaded v.working pl x deinit) (place_at-number (extent_of w.shape) (Count s) below))),
-    )
+    pub load_allowed : v.working ≡ entered s → Admits w.shape v (Load (number (extent_of w.shape) (Count s))) deinit
+    load_allowed is = (Count s, refl, below, free (entered s) is refl, (owes.place, owes.object, owes.here, owes.slot, inr (inl (Deinit, owes.owes))), tt)
 
-    pub swap_allowed : (seen new : ℕ) → v.working ≡ entered s → IsDown Unowned (Count s) seen new → IsAllowed w.shape v (Swap seen new) deinit
-    swap_allowed seen new is down = (
-      (Count s, refl, below, free (entered s) is refl, (owes.place, owes.object, owes.here, owes.slot, owes.owes, all_nil, slot_is owes.object s owes.slot, down)),
-      tt,
-    )
+    pub swap_allowed : (seen new : ℕ) → v.working ≡ entered s → IsDown Unowned (Count s) seen new → Admits w.shape v (Swap seen new) deinit
+    swap_allowed seen new is down = (Count s, refl, below, free (entered s) is refl, (owes.place, owes.object, owes.here, owes.slot, owes.owes, all_nil, slot_is owes.object s owes.slot, down))
 
     -- ---- a step that has no event and leaves the duty
     module _ (step : Step) (found : ℕ) (v' : View) (told : Told w.shape deinit step v found v') (none : act_of w.shape v step deinit found ≡ None) where
@@ -496,8 +481,8 @@ module _ (w : Work) (t : Thread) (v : View) (s : ℕ) (a : CascadeAt) (e : Optio
     word_in : s / 64 < words_of w.shape.slots
     word_in = let b = inside in omega arith
 
-    pub vacate_allowed : IsAllowed w.shape v Clear intents.Vacate
-    vacate_allowed = ((SlotBits (s / 64), refl, word_in, ap (λ (x : Working). x.owes) is, (s, owes.place, owes.object, refl, inside, refl, owes.here, owes.slot, owes.owes)), tt)
+    pub vacate_allowed : Admits w.shape v Clear intents.Vacate
+    vacate_allowed = (SlotBits (s / 64), refl, word_in, ap (λ (x : Working). x.owes) is, (s, owes.place, owes.object, refl, inside, refl, owes.here, owes.slot, owes.owes))
 
     module _ (found : ℕ) (v' : View) (told : Told w.shape intents.Vacate Clear v found v') where
       abbrev h_left : History

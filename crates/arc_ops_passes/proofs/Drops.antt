@@ -57,7 +57,7 @@ use Rattle.arc_view.specs.declared.view.Working.{Working}
 use Rattle.arc_view.specs.declared.view.View.{View}
 use Rattle.arc_view.specs.Holding.{heap_of}
 use Rattle.arc_view.specs.Kinds.{act_of, kind_at, is_last, is_last_in, when, loaded_act, working_loaded, hit_act, working_after}
-use Rattle.arc_view.specs.Built.{IsAllowed}
+use Rattle.arc_view.specs.Admission.{Admits}
 use Rattle.arc_view.specs.Steps.{Told}
 use Rattle.arc_view.specs.Calls.{Called}
 use Rattle.arc_view_laws.proofs.Moving.{moved, legal_tail}
@@ -111,14 +111,11 @@ module _ (w : Work) (t : Thread) (v : View) (held : Held) (a : AttemptAt) (f : F
   load_same : (found : ℕ) → working_after w.shape v (Load at) drop found ≡ v.working
   load_same found = ap (λ (q : Place). working_loaded v.working q found drop) (place_at-number (extent_of w.shape) (Count held.place) below)
 
-  pub load_allowed : IsAllowed w.shape v (Load at) drop
-  load_allowed = let r = leads in ((Count held.place, refl, below, free, (r.0, r.1, r.3, r.4, inl (held.hand, Strong, r.2, strong≢weak)), tt), inr tt)
+  pub load_allowed : Admits w.shape v (Load at) drop
+  load_allowed = let r = leads in (Count held.place, refl, below, free, (r.0, r.1, r.3, r.4, inl (held.hand, Strong, r.2, strong≢weak)), tt)
 
-  pub swap_allowed : (seen new : ℕ) → a ≡ attempt.Exchanging seen new → IsAllowed w.shape v (Exchange at seen new) drop
-  swap_allowed seen new is = let r = leads in (
-    (Count held.place, refl, below, free, (Strong, r.0, r.1, r.2, no_access, r.3, ap (λ m. is_number m held.place) r.4 ∙ eq-eqb held.place held.place refl, subst (MayGoDown Strong held.place) is f.under_way.1)),
-    λ weak. strong≢weak (sym (ap kind_at r.2) ∙ weak),
-  )
+  pub swap_allowed : (seen new : ℕ) → a ≡ attempt.Exchanging seen new → Admits w.shape v (Exchange at seen new) drop
+  swap_allowed seen new is = let r = leads in (Count held.place, refl, below, free, (Strong, r.0, r.1, r.2, no_access, r.3, ap (λ m. is_number m held.place) r.4 ∙ eq-eqb held.place held.place refl, subst (MayGoDown Strong held.place) is f.under_way.1))
 
   -- ---- a step takes the reference away
   module _ (step : Step) (found : ℕ) (v' : View) (told : Told w.shape drop step v found v') where
@@ -301,17 +298,17 @@ module _ (w : Work) (t : Thread) (v : View) (held : Held) (a : AttemptAt) (f : F
 
 -- ---- by where the attempt is
 
-pub drops_allowed : (w : Work) (t : Thread) (v : View) (held : Held) (plan : Attempt) (step : Step) (intent : Intent) → Facts w t v (doings.Dropping held plan) → t.asked ≡ moves.Step step intent → IsAllowed w.shape v step intent
+pub drops_allowed : (w : Work) (t : Thread) (v : View) (held : Held) (plan : Attempt) (step : Step) (intent : Intent) → Facts w t v (doings.Dropping held plan) → t.asked ≡ moves.Step step intent → Admits w.shape v step intent
 drops_allowed w t v held plan step intent f asked = at plan.at f.asks.1 (subst (λ (p : Attempt). Facts w t v (doings.Dropping held p)) f.asks.0 f)
   where
-    at : (a : AttemptAt) → AttemptAsks w.shape t.asked held.place (intents.Drop held.hand) a → Facts w t v (dropping w held a) → IsAllowed w.shape v step intent
+    at : (a : AttemptAt) → AttemptAsks w.shape t.asked held.place (intents.Drop held.hand) a → Facts w t v (dropping w held a) → Admits w.shape v step intent
     at attempt.Start ask g = absurd ask
     at attempt.Loading ask g =
         let e = asked_is t.asked (Load (number (extent_of w.shape) (Count held.place))) step (intents.Drop held.hand) intent ask asked in
-        subst (λ (x : Step × Intent). IsAllowed w.shape v x.0 x.1) (λ j. (e.0 j, e.1 j)) (load_allowed w t v held attempt.Loading g)
+        subst (λ (x : Step × Intent). Admits w.shape v x.0 x.1) (λ j. (e.0 j, e.1 j)) (load_allowed w t v held attempt.Loading g)
     at (attempt.Exchanging seen new) ask g =
         let e = asked_is t.asked (Exchange (number (extent_of w.shape) (Count held.place)) seen new) step (intents.Drop held.hand) intent ask asked in
-        subst (λ (x : Step × Intent). IsAllowed w.shape v x.0 x.1) (λ j. (e.0 j, e.1 j)) (swap_allowed w t v held (attempt.Exchanging seen new) g seen new refl)
+        subst (λ (x : Step × Intent). Admits w.shape v x.0 x.1) (λ j. (e.0 j, e.1 j)) (swap_allowed w t v held (attempt.Exchanging seen new) g seen new refl)
     at attempt.Ended ask g = absurd ask
 
 pub drops_come : (w : Work) (t : Thread) (v : View) (held : Held) (plan : Attempt) (step : Step) (intent : Intent) (found : ℕ) (v' : View) → Facts w t v (doings.Dropping held plan) → t.asked ≡ moves.Step step intent → IsServedWord w.shape step intent found

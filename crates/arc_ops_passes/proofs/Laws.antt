@@ -54,7 +54,7 @@ use Rattle.arc_spelled.proofs.SteppersSpell.{steppers_begin, added_notes_are_tie
 use Rattle.arc_view.specs.declared.view.View.{View}
 use Rattle.arc_view.specs.Views.{private_words}
 use Rattle.arc_view.specs.Holding.{heap_of}
-use Rattle.arc_view.specs.Built.{IsAllowed}
+use Rattle.arc_view.specs.Admission.{Admits}
 use Rattle.arc_view.specs.Steps.{Told}
 use Rattle.arc_view.specs.Passes.{HoldsNothing}
 use Rattle.arc_ops_passes.specs.References.{weigh, in_vars, references, is_ref, has_hand, Owns}
@@ -71,16 +71,16 @@ use Rattle.arc_ops_passes.proofs.Dies.{dying}
 
 -- ---- an object dies: by where the cascade is
 
-may : (w : Work) (v : View) (m : Move) (step other : Step) (intent its : Intent) → m ≡ moves.Step other its → m ≡ moves.Step step intent → IsAllowed w.shape v other its → IsAllowed w.shape v step intent
-may w v m step other intent its ask asked x = let e = asked_is m other step its intent ask asked in subst (λ (p : Step × Intent). IsAllowed w.shape v p.0 p.1) (λ j. (e.0 j, e.1 j)) x
+may : (w : Work) (v : View) (m : Move) (step other : Step) (intent its : Intent) → m ≡ moves.Step other its → m ≡ moves.Step step intent → Admits w.shape v other its → Admits w.shape v step intent
+may w v m step other intent its ask asked x = let e = asked_is m other step its intent ask asked in subst (λ (p : Step × Intent). Admits w.shape v p.0 p.1) (λ j. (e.0 j, e.1 j)) x
 
-dies_allowed : (w : Work) (t : Thread) (v : View) (c : CascadeState) (step : Step) (intent : Intent) → Facts w t v (doings.Dying c) → t.asked ≡ moves.Step step intent → IsAllowed w.shape v step intent
+dies_allowed : (w : Work) (t : Thread) (v : View) (c : CascadeState) (step : Step) (intent : Intent) → Facts w t v (doings.Dying c) → t.asked ≡ moves.Step step intent → Admits w.shape v step intent
 dies_allowed w t v c step intent f asked = at c.at (subst (λ (d : CascadeState). Facts w t v (doings.Dying d)) f.asks.0 f)
   where
     s : ℕ
     s = c.slot
 
-    finishing : (b : AttemptAt) → Facts w t v (dying w c.slot (ats.Finishing (record { layout = extent_of w.shape; slot = c.slot; at = b })) c.event) → IsAllowed w.shape v step intent
+    finishing : (b : AttemptAt) → Facts w t v (dying w c.slot (ats.Finishing (record { layout = extent_of w.shape; slot = c.slot; at = b })) c.event) → Admits w.shape v step intent
     finishing attempt.Start g = absurd g.asks.1.1
     finishing attempt.Loading g = may w v t.asked step (Load (number (extent_of w.shape) (Count c.slot))) intent (intents.Deinit c.slot) g.asks.1.1 asked (dies.load_allowed w t v c.slot (ats.Finishing (record { layout = extent_of w.shape; slot = c.slot; at = attempt.Loading })) c.event g g.under_way.duty g.under_way.working)
     finishing (attempt.Exchanging seen new) g =
@@ -88,12 +88,12 @@ dies_allowed w t v c step intent f asked = at c.at (subst (λ (d : CascadeState)
         (dies.swap_allowed w t v c.slot (ats.Finishing (record { layout = extent_of w.shape; slot = c.slot; at = attempt.Exchanging seen new })) c.event g g.under_way.duty seen new g.under_way.working g.under_way.rests)
     finishing attempt.Ended g = absurd g.asks.1.1
 
-    vacating : (n : Once) → Facts w t v (dying w c.slot (ats.Vacating (record { layout = extent_of w.shape; slot = c.slot; at = n })) c.event) → IsAllowed w.shape v step intent
+    vacating : (n : Once) → Facts w t v (dying w c.slot (ats.Vacating (record { layout = extent_of w.shape; slot = c.slot; at = n })) c.event) → Admits w.shape v step intent
     vacating once.Start g = absurd g.asks.1.1
     vacating once.Asked g = may w v t.asked step (And (number (extent_of w.shape) (SlotBits (c.slot / 64))) (but_bit_of c.slot)) intent intents.Vacate g.asks.1.1 asked (dies.vacate_allowed w t v c.slot (ats.Vacating (record { layout = extent_of w.shape; slot = c.slot; at = once.Asked })) c.event g g.under_way.duty g.under_way.working)
     vacating once.Ended g = absurd g.asks.1.1
 
-    at : (a : CascadeAt) → Facts w t v (dying w c.slot a c.event) → IsAllowed w.shape v step intent
+    at : (a : CascadeAt) → Facts w t v (dying w c.slot a c.event) → Admits w.shape v step intent
     at ats.Start g = absurd g.asks.1
     at ats.Entering g = may w v t.asked step (Store (number (extent_of w.shape) (Next c.slot)) 0) intent (intents.Deinit c.slot) g.asks.1 asked (dies.enter_allowed w t v c.slot ats.Entering c.event g g.under_way.duty g.under_way.working)
     at ats.Naming g = may w v t.asked step (Load (number (extent_of w.shape) (Isa c.slot))) intent (intents.Deinit c.slot) g.asks.1 asked (dies.name_allowed w t v c.slot ats.Naming c.event g g.under_way.duty g.under_way.working)
@@ -153,7 +153,7 @@ no_end_step m step intent e asked = absurd (cc)
 pub steps_are_allowed : StepsAreAllowed
 steps_are_allowed w t v step intent served stepper sized d asked = at t.doing (facts w t v served stepper sized d)
   where
-    at : (e : Doing) → Facts w t v e → IsAllowed w.shape v step intent
+    at : (e : Doing) → Facts w t v e → Admits w.shape v step intent
     at doings.Ready f = no_step t.asked step intent f.asks asked
     at (doings.Making to name plan) f = makes_allowed w t v to name plan step intent f asked
     at (doings.Copying to held plan) f = copies_allowed w t v to held plan step intent f asked

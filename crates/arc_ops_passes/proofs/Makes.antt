@@ -57,7 +57,7 @@ use Rattle.arc_view.specs.Views.{made_in}
 use Rattle.arc_view.specs.Holding.{At, heap_of}
 use Rattle.arc_view.specs.Rule.{is_new, news}
 use Rattle.arc_view.specs.Kinds.{act_of, event_list, loaded_act, or_act, stored_act, working_loaded, working_or, working_stored, is_try, searched, is_fruitless, when}
-use Rattle.arc_view.specs.Built.{IsAllowed}
+use Rattle.arc_view.specs.Admission.{Admits}
 use Rattle.arc_view.specs.Steps.{Told}
 use Rattle.arc_view.specs.Calls.{Called}
 use Rattle.arc_view.proofs.Lists.{share_more}
@@ -143,8 +143,8 @@ module _ (w : Work) (t : Thread) (v : View) (to : ℕ) (name : ObjectName) where
     free : v.working.owes ≡ None
     free = ap (λ (x : Working). x.owes) f.under_way.0
 
-    pub look_allowed : IsAllowed w.shape v (looking (extent_of w.shape) k) new
-    look_allowed = ((SlotBits k, refl, inside, free, tt, tt), inr tt)
+    pub look_allowed : Admits w.shape v (looking (extent_of w.shape) k) new
+    look_allowed = (SlotBits k, refl, inside, free, tt, tt)
 
     -- the words before
     tries : searched at w.shape.slots (made_in v.number v.seen) k v.trail ≡ true
@@ -260,11 +260,8 @@ module _ (w : Work) (t : Thread) (v : View) (to : ℕ) (name : ObjectName) where
     room : news v.number v.seen < 100000
     room = let a = f.made in let b = f.in_op.0 in let c = f.in_op.1 in let d = f.stepper.few in omega arith
 
-    pub take_allowed : IsAllowed w.shape v (taking (extent_of w.shape) s) new
-    take_allowed = (
-      (SlotBits (s / 64), refl, word_in, not_owed, (s, refl, below, refl, class_fits w t to name.class f.stepper f.is_for.1 f.program is_making.begun.there, room)),
-      tt,
-    )
+    pub take_allowed : Admits w.shape v (taking (extent_of w.shape) s) new
+    take_allowed = (SlotBits (s / 64), refl, word_in, not_owed, (s, refl, below, refl, class_fits w t to name.class f.stepper f.is_for.1 f.program is_making.begun.there, room))
 
     module _ (found : ℕ) (v' : View) (told : Told w.shape new (taking (extent_of w.shape) s) v found v') where
       abbrev h_taken : History
@@ -388,21 +385,18 @@ module _ (w : Work) (t : Thread) (v : View) (to : ℕ) (name : ObjectName) where
     is_made : IsMade v name s
     is_made = f.under_way.2
 
-    pub count_allowed : IsAllowed w.shape v (counting (extent_of w.shape) immortal s) new
+    pub count_allowed : Admits w.shape v (counting (extent_of w.shape) immortal s) new
     count_allowed = let m = is_made in (
+      Count s,
+      refl,
+      in_slot_of,
       (
-        Count s,
-        refl,
-        in_slot_of,
-        (
-          record { slot = s; counted = false },
-          m.0,
-          ap (λ (x : Working). x.owes) f.under_way.0,
-          m.1,
-          inl (refl, refl, ap (λ (n : ObjectName). new_word (class_at w.shape n.class).immortal) (sym m.2)),
-        ),
+        record { slot = s; counted = false },
+        m.0,
+        ap (λ (x : Working). x.owes) f.under_way.0,
+        m.1,
+        inl (refl, refl, ap (λ (n : ObjectName). new_word (class_at w.shape n.class).immortal) (sym m.2)),
       ),
-      tt,
     )
 
     module _ (found : ℕ) (v' : View) (told : Told w.shape new (counting (extent_of w.shape) immortal s) v found v') where
@@ -454,11 +448,8 @@ module _ (w : Work) (t : Thread) (v : View) (to : ℕ) (name : ObjectName) where
     in_slot : s < w.shape.slots
     in_slot = subst (λ (e : Extent). s < e.slots) f.is_for.0 f.fits.3
 
-    pub name_allowed : IsAllowed w.shape v (naming (extent_of w.shape) name s) new
-    name_allowed = let n = f.under_way.2 in (
-      (Isa s, refl, in_slot, (record { slot = s; counted = true }, n.0, ap (λ (x : Working). x.owes) f.under_way.0, n.1, inr (refl, refl, ap isa_word_of (sym n.2)))),
-      tt,
-    )
+    pub name_allowed : Admits w.shape v (naming (extent_of w.shape) name s) new
+    name_allowed = let n = f.under_way.2 in (Isa s, refl, in_slot, (record { slot = s; counted = true }, n.0, ap (λ (x : Working). x.owes) f.under_way.0, n.1, inr (refl, refl, ap isa_word_of (sym n.2))))
 
     module _ (found : ℕ) (v' : View) (told : Told w.shape new (naming (extent_of w.shape) name s) v found v') where
       abbrev named_thread : Thread
@@ -481,13 +472,13 @@ module _ (w : Work) (t : Thread) (v : View) (to : ℕ) (name : ObjectName) where
 
 -- ---- by where the making is
 
-pub makes_allowed : (w : Work) (t : Thread) (v : View) (to : ℕ) (name : ObjectName) (plan : Creation) (step : Step) (intent : Intent) → Facts w t v (doings.Making to name plan) → t.asked ≡ moves.Step step intent → IsAllowed w.shape v step intent
+pub makes_allowed : (w : Work) (t : Thread) (v : View) (to : ℕ) (name : ObjectName) (plan : Creation) (step : Step) (intent : Intent) → Facts w t v (doings.Making to name plan) → t.asked ≡ moves.Step step intent → Admits w.shape v step intent
 makes_allowed w t v to name plan step intent f asked = at plan.at f.asks.1 (subst (λ (p : Creation). Facts w t v (doings.Making to name p)) f.asks.0 f)
   where
-    is : (x : Step) → t.asked ≡ moves.Step x (intents.New name.class) → IsAllowed w.shape v x (intents.New name.class) → IsAllowed w.shape v step intent
-    is x ask allowed = let e = asked_is t.asked x step (intents.New name.class) intent ask asked in subst (λ (y : Step × Intent). IsAllowed w.shape v y.0 y.1) (λ j. (e.0 j, e.1 j)) allowed
+    is : (x : Step) → t.asked ≡ moves.Step x (intents.New name.class) → Admits w.shape v x (intents.New name.class) → Admits w.shape v step intent
+    is x ask allowed = let e = asked_is t.asked x step (intents.New name.class) intent ask asked in subst (λ (y : Step × Intent). Admits w.shape v y.0 y.1) (λ j. (e.0 j, e.1 j)) allowed
 
-    at : (a : Search) → SearchAsks w.shape t.asked name a → Facts w t v (making w to name a) → IsAllowed w.shape v step intent
+    at : (a : Search) → SearchAsks w.shape t.asked name a → Facts w t v (making w to name a) → Admits w.shape v step intent
     at search.Start ask g = absurd ask
     at (search.Looking k) ask g = is (looking (extent_of w.shape) k) ask (look_allowed w t v to name k g)
     at (search.Taking s seen) ask g = is (taking (extent_of w.shape) s) ask (take_allowed w t v to name s seen g)

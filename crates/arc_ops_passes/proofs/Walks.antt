@@ -31,7 +31,7 @@ use Rattle.arc_ops.specs.declared.stepper.Doing.{Doing}
 use Rattle.arc_ops.specs.declared.stepper.Doing.TheVariants as doings
 use Rattle.arc_ops.specs.declared.stepper.Move.TheVariants as moves
 use Rattle.arc_ops.specs.Programs.{VarsFit}
-use Rattle.arc_ops.specs.Thread.{Thread, value, is_held, set_var, put, skipped, moved, phase_end, phase_over, begun, begun_at, begun_op, begun_nil, begun_copy, begun_move, begun_drop, copy_begun, drop_begun, make_begun_as, scope_at, scope_begun, scope_drop, next_op, replaced, replaced_old}
+use Rattle.arc_ops.specs.Thread.{Thread, value, is_held, set_var, put, skipped, moved, phase_end, phase_over, block_goes_on, at_place, begun, begun_at, begun_op, begun_nil, begun_copy, begun_move, begun_drop, copy_begun, drop_begun, make_begun_as, scope_at, scope_begun, scope_drop, next_op, replaced, replaced_old}
 use Rattle.arc_ops_passes.specs.References.{weigh, in_vars, references}
 use Rattle.arc_ops_passes.specs.Drives.{Asks}
 
@@ -202,8 +202,8 @@ op_walks shape o t rest own fits after = at o fits
     at (op.Load to of) fit = skips answers.Nil
     at (op.Get to cell) fit = skips answers.Nil
     at (op.Set cell from) fit = skips answers.Nil
-    at (op.IfNil v past) fit = skips answers.Nil
-    at (op.IfSome v past) fit = skips answers.Nil
+    at (op.IfNil v past) fit = after (at_place (block_goes_on t.vars t.index (op.IfNil v past)) t) own refl refl refl (λ f. refl)
+    at (op.IfSome v past) fit = after (at_place (block_goes_on t.vars t.index (op.IfSome v past)) t) own refl refl refl (λ f. refl)
 
 scope_walks : (shape : HeapShape) (t : Thread) → IsFor shape t → Walks shape t (scope_begun t) (in_vars t.vars)
 scope_walks shape t own = go (position is_held t.vars) refl
@@ -224,16 +224,25 @@ over_walks shape t own = go (ltb (t.phase + 1) (length t.phases))
     go true = record { hands = refl; event = refl; count = refl; same = λ f. omega arith; asks = refl; fresh = tt }
     go false = scope_walks shape t own
 
-begins_at : (shape : HeapShape) (ops : List Op) (t : Thread) → IsFor shape t → AllByRecursion (VarsFit (length t.vars)) ops → Walks shape t (begun_at ops t) (in_vars t.vars)
-begins_at shape [] t own fits = over_walks shape t own
-begins_at shape (o ∷ ops) t own fits = op_walks shape o t (λ (u : Thread). begun_at ops u) own fits.0 (λ u its hands event count same.
-    let m = begins_at shape ops u its (subst (λ n. AllByRecursion (VarsFit n) ops) (sym count) fits.1) in
-    record { hands = m.hands ∙ hands; event = m.event ∙ event; count = m.count ∙ count; same = λ f. m.same f ∙ same f; asks = m.asks; fresh = m.fresh })
+-- an operation that the thread has gone past is passed over, and else it begins
+past_or_begun : (shape : HeapShape) (place : ℕ) (o : Op) (ops : List Op) (t : Thread) → IsFor shape t → VarsFit (length t.vars) o
+    → ((u : Thread) → IsFor shape u → length u.vars ≡ length t.vars → Walks shape u (begun_at (place + 1) ops u) (in_vars u.vars)) → Walks shape t (begun_at place (o ∷ ops) t) (in_vars t.vars)
+past_or_begun shape place o ops t own fit further = go (ltb place t.index)
+  where
+    go : (b : Bool) → Walks shape t (cond b (begun_at (place + 1) ops t) (begun_op o t (λ (u : Thread). begun_at (place + 1) ops u))) (in_vars t.vars)
+    go true = further t own refl
+    go false = op_walks shape o t (λ (u : Thread). begun_at (place + 1) ops u) own fit (λ u its hands event count same.
+        let m = further u its count in
+        record { hands = m.hands ∙ hands; event = m.event ∙ event; count = m.count ∙ count; same = λ f. m.same f ∙ same f; asks = m.asks; fresh = m.fresh })
+
+begins_at : (shape : HeapShape) (place : ℕ) (ops : List Op) (t : Thread) → IsFor shape t → AllByRecursion (VarsFit (length t.vars)) ops → Walks shape t (begun_at place ops t) (in_vars t.vars)
+begins_at shape place [] t own fits = over_walks shape t own
+begins_at shape place (o ∷ ops) t own fits = past_or_begun shape place o ops t own fits.0 (λ u its count. begins_at shape (place + 1) ops u its (subst (λ n. AllByRecursion (VarsFit n) ops) (sym count) fits.1))
 
 pub begins_walks : (shape : HeapShape) (t : Thread) → IsFor shape t → Fit t.vars t.program → Walks shape t (begun t) (in_vars t.vars)
 begins_walks shape t own fits =
     let ops = drop t.index (take (phase_end t) t.program) in
-    begins_at shape ops t own (recursion_from_All (VarsFit (length t.vars)) ops (All-drop (VarsFit (length t.vars)) t.index (take (phase_end t) t.program) (All-take (VarsFit (length t.vars)) (phase_end t) t.program fits)))
+    begins_at shape t.index ops t own (recursion_from_All (VarsFit (length t.vars)) ops (All-drop (VarsFit (length t.vars)) t.index (take (phase_end t) t.program) (All-take (VarsFit (length t.vars)) (phase_end t) t.program fits)))
 
 pub next_walks : (shape : HeapShape) (t : Thread) → IsFor shape t → Fit t.vars t.program → Walks shape t (next_op t) (in_vars t.vars)
 next_walks shape t own fits =

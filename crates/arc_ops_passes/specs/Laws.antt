@@ -23,7 +23,7 @@ use Rattle.arc_view.specs.declared.view.View.{View}
 use Rattle.arc_view.specs.Views.{idle}
 use Rattle.arc_view.specs.Rule.{InShape, IsSized}
 use Rattle.arc_view.specs.Kinds.{act_of}
-use Rattle.arc_view.specs.Built.{IsAllowed}
+use Rattle.arc_view.specs.Admission.{Admits}
 use Rattle.arc_view.specs.Steps.{Told}
 use Rattle.arc_view.specs.Passes.{HoldsNothing}
 use Rattle.arc_view.specs.Calls.{Called, Took}
@@ -72,7 +72,7 @@ PhasesAreDone = (script : Script) (p : ℕ) (came any : Hands) (t : Thread) (v :
 -- The pass may make the step that its stepper asks for.
 abbrev pub StepsAreAllowed : Type 0
 StepsAreAllowed = (w : Work) (t : Thread) (v : View) (step : Step) (intent : Intent) → IsServedWork w → IsStepper t → IsSized w.shape → Drives w t v → t.asked ≡ moves.Step step intent →
-    IsAllowed w.shape v step intent
+    Admits w.shape v step intent
 
 -- So far a count that is read lies in the inline word, and is that of a live object and below its cap, or says that the object is immortal, where a
 -- reference is to be copied.

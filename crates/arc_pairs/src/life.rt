@@ -40,6 +40,7 @@ pub fn created<R: Wait>(rt: &R, heap: &Heap, pass: &mut Pass) -> Option<Strong>
 }
 
 /// One more reference to the same object. `None` where a count stands at its greatest.
+#[inline(always)]
 pub fn copied<R: Wait>(rt: &R, heap: &Heap, pass: &mut Pass, of: &Strong) -> Option<Strong>
     requires ready { IsReady heap.now pass.old }
     requires held { IsOurs heap.now pass.old of.now }
@@ -59,6 +60,7 @@ pub fn copied<R: Wait>(rt: &R, heap: &Heap, pass: &mut Pass, of: &Strong) -> Opt
 }
 
 /// One reference fewer. The duty to end the object, where it was the last one.
+#[inline(always)]
 pub fn given_up<R: Wait>(rt: &R, heap: &Heap, pass: &mut Pass, held: Strong) -> Option<Dying>
     requires ready { IsReady heap.now pass.old }
     requires held { IsOurs heap.now pass.old held }
@@ -100,6 +102,7 @@ pub fn end<R: Wait>(rt: &R, heap: &Heap, pass: &mut Pass, dying: Dying)
 }
 
 /// One reference fewer, and the end of the object where it was the last. Says whether the object ended.
+#[inline(always)]
 pub fn let_go<R: Wait>(rt: &R, heap: &Heap, pass: &mut Pass, held: Strong) -> bool
     requires ready { IsReady heap.now pass.old }
     requires plain { IsPlain heap.now }

@@ -9,6 +9,7 @@ use arc_table::{Heap, Pass, Strong};
 use std::sync::Wait;
 
 /// A retain, and a release of the copy. Says whether the object ended.
+#[inline(always)]
 fn pair<R: Wait>(rt: &R, heap: &Heap, pass: &mut Pass, held: &Strong) -> bool
     requires ready { IsReady heap.now pass.old }
     requires plain { IsPlain heap.now }

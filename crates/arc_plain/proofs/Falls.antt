@@ -1,6 +1,7 @@
 -- A step that a thread makes alone brings it nearer to the end of its phase, whatever word it finds.
 use Rattle.std.proofs.Common.{◌≡◌, ℕ, ◌+◌, ◌*◌, ◌/◌, ◌≤◌, ◌<◌, Bool, true, false, cond, eqb, ltb, eq-eqb, List, length, Option, Some, None, refl, ap, ◌∙◌, subst, sym, arith, rules}
-use Rattle.std.specs.Prelude.{bit_and, slice_index}
+use Rattle.std.specs.Prelude.{bit_and, slice_get, slice_index}
+use Rattle.std.proofs.lemmas.Option.{slice_get_within}
 use Rattle.arc_bits.specs.declared.packing.Word.{Word}
 use Rattle.arc_bits.specs.declared.packing.Word.TheVariants as word
 use Rattle.arc_bits.specs.Words.{packed, unpacked}
@@ -45,6 +46,12 @@ use Rattle.arc_rule.specs.Bits.{words_of, bit_of}
 use Rattle.arc_cells.specs.declared.cascade.At.{At}
 use Rattle.arc_cells.specs.declared.cascade.At.TheVariants as at
 use Rattle.arc_cells.specs.Cascades.{CascadeState, finish_turned, finish_says}
+use Rattle.arc_script.specs.declared.script.Op.{Op}
+use Rattle.arc_script.specs.declared.script.Op.TheVariants as op
+use Rattle.arc_script.specs.OneList.{in_one_list}
+use Rattle.arc_ops.specs.Programs.{GoesForth, BlocksFit, ops_in_first}
+use Rattle.arc_ops.proofs.Blocks.{long_as_phases}
+use Rattle.arc_ops.proofs.Counts.{first_all}
 use Rattle.arc_ops.specs.declared.stepper.Held.{Held}
 use Rattle.arc_ops.specs.declared.stepper.Doing.{Doing}
 use Rattle.arc_ops.specs.declared.stepper.Doing.TheVariants as doings
@@ -53,7 +60,7 @@ use Rattle.arc_ops.specs.declared.stepper.Move.TheVariants as moves
 use Rattle.arc_ops.specs.Thread.{Thread, IsStepper, IsUnderWay, IsMakingIn, IsInOperation, turned, turned_at, put, begun, next_op, made_on, copied_on, dropped_on, dying_on}
 use Rattle.arc_ops_passes.specs.Drives.{Asks, SearchAsks, AttemptAsks, VacateAsks, CascadeAsks}
 use Rattle.arc_plain.specs.Left.{units, busy_units, count_at, doing_left, left}
-use Rattle.arc_plain.proofs.Walks.{IsPhase, Comes, Same, after_same, begins, next_comes, replaced_comes}
+use Rattle.arc_plain.proofs.Walks.{IsPhase, IsForth, Fits, Comes, Same, after_same, begins, next_comes, replaced_comes}
 
 -- what the thread is while it is given a word
 abbrev pub quiet : Thread → Thread
@@ -97,9 +104,9 @@ abbrev bits_at : List ℕ → Extent → ℕ → ℕ
 bits_at words l k = slice_index words (number l (SlotBits k))
 
 -- a word of the bits was read
-looking_on : (t : Thread) (words : List ℕ) (l : Extent) (to : ℕ) (name : ObjectName) (immortal : Bool) (k : ℕ) → t.layout.slots ≤ 4096 → k < words_of l.slots →
+looking_on : (t : Thread) (words : List ℕ) (l : Extent) (to : ℕ) (name : ObjectName) (immortal : Bool) (k : ℕ) → Fits t → k < words_of l.slots →
     Goes t words words (making_at l to name immortal (search.Looking k)) (turned_at (Some (bits_at words l k)) (making_at l to name immortal (search.Looking k)) (quiet t))
-looking_on t words l to name immortal k slots inside = go (free_slot l.slots k (bits_at words l k)) refl
+looking_on t words l to name immortal k fits inside = go (free_slot l.slots k (bits_at words l k)) refl
   where
     more : (b : Bool) →
         Goes t words words (making_at l to name immortal (search.Looking k))
@@ -107,7 +114,7 @@ looking_on t words l to name immortal k slots inside = go (free_slot l.slots k (
     more true = record { layout = refl; phases = refl; program = refl; count = refl; phase = refl; fewer = omega (arith, inside) }
     more false =
         goes_to t (put answers.Full (record t { doing = doings.Ended; first = false; event = Some acts.Full })) _ words words _ (4200 * busy_units t) (record { layout = refl; phases = refl; program = refl; count = refl; phase = refl })
-        (next_comes (put answers.Full (record t { doing = doings.Ended; first = false; event = Some acts.Full })) slots) (omega arith)
+        (next_comes (put answers.Full (record t { doing = doings.Ended; first = false; event = Some acts.Full })) fits) (omega arith)
 
     go : (o : Option ℕ) → free_slot l.slots k (bits_at words l k) ≡ o →
         Goes t words words (making_at l to name immortal (search.Looking k))
@@ -136,11 +143,11 @@ counted_on : (t : Thread) (words after : List ℕ) (l : Extent) (to : ℕ) (name
     Goes t words after (making_at l to name immortal (search.Counting s)) (turned_at (Some found) (making_at l to name immortal (search.Counting s)) (quiet t))
 counted_on t words after l to name immortal s found = record { layout = refl; phases = refl; program = refl; count = refl; phase = refl; fewer = omega arith }
 
-named : (t : Thread) (words after : List ℕ) (l : Extent) (to : ℕ) (name : ObjectName) (immortal : Bool) (slot found : ℕ) → t.layout.slots ≤ 4096 → t.index < length t.program →
+named : (t : Thread) (words after : List ℕ) (l : Extent) (to : ℕ) (name : ObjectName) (immortal : Bool) (slot found : ℕ) → Fits t → t.index < length t.program →
     Goes t words after (making_at l to name immortal (search.Naming slot)) (turned_at (Some found) (making_at l to name immortal (search.Naming slot)) (quiet t))
-named t words after l to name immortal slot found slots here =
+named t words after l to name immortal slot found fits here =
     goes_to t (put (answers.New name) (quiet t)) _ words after _ (4200 * busy_units t + 8) (record { layout = refl; phases = refl; program = refl; count = refl; phase = refl })
-    (replaced_comes (put (answers.New name) (quiet t)) to (record { hand = t.hands; place = slot }) slots here) (omega arith)
+    (replaced_comes (put (answers.New name) (quiet t)) to (record { hand = t.hands; place = slot }) fits here) (omega arith)
 
 -- ---- a reference is copied
 
@@ -155,9 +162,9 @@ up_by t l cap to held w r = copied_on to held (up_plan l held.place cap (exchang
 abbrev up_got : Thread → Held → Thread
 up_got t held = put answers.Ok (record (quiet t) { hands = t.hands + 1; event = Some (acts.Copy (Hand held.hand) (t.hands + 1)) })
 
-up_read : (t : Thread) (words : List ℕ) (l : Extent) (cap to : ℕ) (held : Held) (step : Step) (intent : Intent) → t.layout.slots ≤ 4096 → t.index < length t.program → t.asked ≡ moves.Step step intent →
+up_read : (t : Thread) (words : List ℕ) (l : Extent) (cap to : ℕ) (held : Held) (step : Step) (intent : Intent) → Fits t → t.index < length t.program → t.asked ≡ moves.Step step intent →
     Goes t words words (doings.Copying to held (up_plan l held.place cap attempt.Loading)) (turned_at (Some (count_at words l held.place)) (doings.Copying to held (up_plan l held.place cap attempt.Loading)) (quiet t))
-up_read t words l cap to held step intent slots here asked = go (unpacked (count_at words l held.place))
+up_read t words l cap to held step intent fits here asked = go (unpacked (count_at words l held.place))
   where
     told : Goes t words words (doings.Copying to held (up_plan l held.place cap attempt.Loading)) (quiet t)
     told = record { layout = refl; phases = refl; program = refl; count = refl; phase = stays t.asked step intent t.phase asked; fewer = omega arith }
@@ -171,16 +178,16 @@ up_read t words l cap to held step intent slots here asked = go (unpacked (count
     go None = told
     go (Some word.Free) = told
     go (Some (word.Slow e)) = told
-    go (Some word.Immortal) = goes_to t (up_got t held) _ words words _ (4200 * busy_units t + 8) (record { layout = refl; phases = refl; program = refl; count = refl; phase = refl }) (replaced_comes (up_got t held) to (record { hand = t.hands + 1; place = held.place }) slots here) (omega arith)
+    go (Some word.Immortal) = goes_to t (up_got t held) _ words words _ (4200 * busy_units t + 8) (record { layout = refl; phases = refl; program = refl; count = refl; phase = refl }) (replaced_comes (up_got t held) to (record { hand = t.hands + 1; place = held.place }) fits here) (omega arith)
     go (Some (word.Counts c)) = on c.deiniting (eqb c.strong_extra cap) (packed (word.Counts (strong_more c)))
 
-up_made : (t : Thread) (words after : List ℕ) (l : Extent) (cap to : ℕ) (held : Held) (seen new : ℕ) → t.layout.slots ≤ 4096 → t.index < length t.program →
+up_made : (t : Thread) (words after : List ℕ) (l : Extent) (cap to : ℕ) (held : Held) (seen new : ℕ) → Fits t → t.index < length t.program →
     Goes t words after (doings.Copying to held (up_plan l held.place cap (attempt.Exchanging seen new))) (turned_at (Some (count_at words l held.place)) (doings.Copying to held (up_plan l held.place cap (attempt.Exchanging seen new))) (quiet t))
-up_made t words after l cap to held seen new slots here = go (eqb (count_at words l held.place) seen) refl
+up_made t words after l cap to held seen new fits here = go (eqb (count_at words l held.place) seen) refl
   where
     go : (b : Bool) → eqb (count_at words l held.place) seen ≡ b → Goes t words after (doings.Copying to held (up_plan l held.place cap (attempt.Exchanging seen new)))
         (copied_on to held (up_plan l held.place cap attempt.Ended) (nexts.Done (cond b ups.Up (ups.Again (record { seen = seen; found = count_at words l held.place })))) (quiet t))
-    go true e = goes_to t (up_got t held) _ words after _ (4200 * busy_units t + 8) (record { layout = refl; phases = refl; program = refl; count = refl; phase = refl }) (replaced_comes (up_got t held) to (record { hand = t.hands + 1; place = held.place }) slots here) (rw e (omega arith))
+    go true e = goes_to t (up_got t held) _ words after _ (4200 * busy_units t + 8) (record { layout = refl; phases = refl; program = refl; count = refl; phase = refl }) (replaced_comes (up_got t held) to (record { hand = t.hands + 1; place = held.place }) fits here) (rw e (omega arith))
     go false e = record { layout = refl; phases = refl; program = refl; count = refl; phase = refl; fewer = rw e (omega arith) }
 
 -- ---- a reference is given up
@@ -194,13 +201,13 @@ down_by t l held w r = dropped_on held (down_plan l held.place (exchanging w r))
 abbrev down_told : Thread → Extent → Held → StrongDownAnswer → Thread
 down_told t l held a = dropped_on held (down_plan l held.place attempt.Ended) (nexts.Done a) (quiet t)
 
-down_read : (t : Thread) (words : List ℕ) (l : Extent) (held : Held) (step : Step) (intent : Intent) → t.layout.slots ≤ 4096 → t.asked ≡ moves.Step step intent →
+down_read : (t : Thread) (words : List ℕ) (l : Extent) (held : Held) (step : Step) (intent : Intent) → Fits t → t.asked ≡ moves.Step step intent →
     Goes t words words (doings.Dropping held (down_plan l held.place attempt.Loading)) (turned_at (Some (count_at words l held.place)) (doings.Dropping held (down_plan l held.place attempt.Loading)) (quiet t))
-down_read t words l held step intent slots asked = go (unpacked (count_at words l held.place))
+down_read t words l held step intent fits asked = go (unpacked (count_at words l held.place))
   where
     more : Goes t words words (doings.Dropping held (down_plan l held.place attempt.Loading)) (next_op (record (quiet t) { event = Some (acts.Drop held.hand false) }))
     more = goes_to t (record (quiet t) { event = Some (acts.Drop held.hand false) }) _ words words _ (4200 * busy_units t) (record { layout = refl; phases = refl; program = refl; count = refl; phase = refl })
-        (next_comes (record (quiet t) { event = Some (acts.Drop held.hand false) }) slots) (omega arith)
+        (next_comes (record (quiet t) { event = Some (acts.Drop held.hand false) }) fits) (omega arith)
 
     go : (o : Option Word) → Goes t words words (doings.Dropping held (down_plan l held.place attempt.Loading)) (down_by t l held (count_at words l held.place) (strong_down_row o))
     go None = more
@@ -209,13 +216,13 @@ down_read t words l held step intent slots asked = go (unpacked (count_at words 
     go (Some (word.Slow e)) = record { layout = refl; phases = refl; program = refl; count = refl; phase = stays t.asked step intent t.phase asked; fewer = omega arith }
     go (Some (word.Counts c)) = record { layout = refl; phases = refl; program = refl; count = refl; phase = refl; fewer = rw (eqb_same (count_at words l held.place)) (omega arith) }
 
-down_made : (t : Thread) (words after : List ℕ) (l : Extent) (held : Held) (seen new : ℕ) → t.layout.slots ≤ 4096 →
+down_made : (t : Thread) (words after : List ℕ) (l : Extent) (held : Held) (seen new : ℕ) → Fits t →
     Goes t words after (doings.Dropping held (down_plan l held.place (attempt.Exchanging seen new))) (turned_at (Some (count_at words l held.place)) (doings.Dropping held (down_plan l held.place (attempt.Exchanging seen new))) (quiet t))
-down_made t words after l held seen new slots = go (eqb (count_at words l held.place) seen) refl
+down_made t words after l held seen new fits = go (eqb (count_at words l held.place) seen) refl
   where
     more : eqb (count_at words l held.place) seen ≡ true → Goes t words after (doings.Dropping held (down_plan l held.place (attempt.Exchanging seen new))) (next_op (record (quiet t) { event = Some (acts.Drop held.hand false) }))
     more e = goes_to t (record (quiet t) { event = Some (acts.Drop held.hand false) }) _ words after _ (4200 * busy_units t) (record { layout = refl; phases = refl; program = refl; count = refl; phase = refl })
-        (next_comes (record (quiet t) { event = Some (acts.Drop held.hand false) }) slots) (rw e (omega arith))
+        (next_comes (record (quiet t) { event = Some (acts.Drop held.hand false) }) fits) (rw e (omega arith))
 
     counted : (b : Bool) → eqb (count_at words l held.place) seen ≡ true → Goes t words after (doings.Dropping held (down_plan l held.place (attempt.Exchanging seen new))) (down_told t l held (cond b downs.Last downs.More))
     counted true e = record { layout = refl; phases = refl; program = refl; count = refl; phase = refl; fewer = rw e (omega arith) }
@@ -239,10 +246,10 @@ abbrev dying_state : Extent → HeapShape → ℕ → Option Act → At → Casc
 dying_state l shape s event at = record { layout = l; shape = shape; slot = s; at = at; event = event }
 
 -- the deinit is over
-over : (t : Thread) (words after : List ℕ) (event : Option Act) (d : Doing) → t.layout.slots ≤ 4096 → 4200 * busy_units t < doing_left words t d → Goes t words after d (next_op (record (quiet t) { event = event }))
-over t words after event d slots lt =
+over : (t : Thread) (words after : List ℕ) (event : Option Act) (d : Doing) → Fits t → 4200 * busy_units t < doing_left words t d → Goes t words after d (next_op (record (quiet t) { event = event }))
+over t words after event d fits lt =
     goes_to t (record (quiet t) { event = event }) (next_op (record (quiet t) { event = event })) words after d (4200 * busy_units t) (record { layout = refl; phases = refl; program = refl; count = refl; phase = refl })
-    (next_comes (record (quiet t) { event = event }) slots) lt
+    (next_comes (record (quiet t) { event = event }) fits) lt
 
 -- a cascade at its end goes on, by what its attempt says
 abbrev dying_by : Thread → Extent → HeapShape → ℕ → Option Act → (before after : AttemptAt) → NextStep UnownedDownAnswer → Thread
@@ -250,35 +257,35 @@ dying_by t l shape s event before after next =
     dying_on (finish_turned (dying_state l shape s None at.Ended) (down_plan l s after) next) (finish_says (dying_state l shape s event (at.Finishing (down_plan l s before))) next)
     (record (quiet t) { event = (finish_turned (dying_state l shape s None at.Ended) (down_plan l s after) next).event })
 
-finish_read : (t : Thread) (words : List ℕ) (l : Extent) (shape : HeapShape) (s : ℕ) (event : Option Act) → t.layout.slots ≤ 4096 →
+finish_read : (t : Thread) (words : List ℕ) (l : Extent) (shape : HeapShape) (s : ℕ) (event : Option Act) → Fits t →
     Goes t words words (doings.Dying (dying_state l shape s event (at.Finishing (down_plan l s attempt.Loading)))) (turned_at (Some (count_at words l s)) (doings.Dying (dying_state l shape s event (at.Finishing (down_plan l s attempt.Loading)))) (quiet t))
-finish_read t words l shape s event slots = go (unpacked (count_at words l s))
+finish_read t words l shape s event fits = go (unpacked (count_at words l s))
   where
     go : (o : Option Word) → Goes t words words (doings.Dying (dying_state l shape s event (at.Finishing (down_plan l s attempt.Loading)))) (dying_by t l shape s event attempt.Loading (exchanging (count_at words l s) (unowned_down_row o)) (chosen (number l (Count s)) (count_at words l s) (unowned_down_row o)))
-    go None = over t words words _ _ slots (omega arith)
-    go (Some word.Free) = over t words words _ _ slots (omega arith)
-    go (Some word.Immortal) = over t words words _ _ slots (omega arith)
-    go (Some (word.Slow e)) = over t words words _ _ slots (omega arith)
+    go None = over t words words _ _ fits (omega arith)
+    go (Some word.Free) = over t words words _ _ fits (omega arith)
+    go (Some word.Immortal) = over t words words _ _ fits (omega arith)
+    go (Some (word.Slow e)) = over t words words _ _ fits (omega arith)
     go (Some (word.Counts c)) = record { layout = refl; phases = refl; program = refl; count = refl; phase = refl; fewer = rw (eqb_same (count_at words l s)) (omega arith) }
 
 abbrev Gone : Thread → (words after : List ℕ) → Extent → HeapShape → ℕ → Option Act → (seen new : ℕ) → UnownedDownAnswer → Type 0
 Gone t words after l shape s event seen new a =
     Goes t words after (doings.Dying (dying_state l shape s event (at.Finishing (down_plan l s (attempt.Exchanging seen new))))) (dying_by t l shape s event (attempt.Exchanging seen new) attempt.Ended (nexts.Done a))
 
-finish_made : (t : Thread) (words after : List ℕ) (l : Extent) (shape : HeapShape) (s : ℕ) (event : Option Act) (seen new : ℕ) → t.layout.slots ≤ 4096 →
+finish_made : (t : Thread) (words after : List ℕ) (l : Extent) (shape : HeapShape) (s : ℕ) (event : Option Act) (seen new : ℕ) → Fits t →
     Goes t words after (doings.Dying (dying_state l shape s event (at.Finishing (down_plan l s (attempt.Exchanging seen new)))))
     (turned_at (Some (count_at words l s)) (doings.Dying (dying_state l shape s event (at.Finishing (down_plan l s (attempt.Exchanging seen new))))) (quiet t))
-finish_made t words after l shape s event seen new slots = go (eqb (count_at words l s) seen) refl
+finish_made t words after l shape s event seen new fits = go (eqb (count_at words l s) seen) refl
   where
     counted : (b : Bool) → eqb (count_at words l s) seen ≡ true → Gone t words after l shape s event seen new (cond b less.Last less.More)
     counted true e = record { layout = refl; phases = refl; program = refl; count = refl; phase = refl; fewer = rw e (omega arith) }
-    counted false e = over t words after _ _ slots (rw e (omega arith))
+    counted false e = over t words after _ _ fits (rw e (omega arith))
 
     hit : (o : Option Word) → eqb (count_at words l s) seen ≡ true → Gone t words after l shape s event seen new (unowned_down_end o)
-    hit None e = over t words after _ _ slots (rw e (omega arith))
-    hit (Some word.Free) e = over t words after _ _ slots (rw e (omega arith))
-    hit (Some word.Immortal) e = over t words after _ _ slots (rw e (omega arith))
-    hit (Some (word.Slow x)) e = over t words after _ _ slots (rw e (omega arith))
+    hit None e = over t words after _ _ fits (rw e (omega arith))
+    hit (Some word.Free) e = over t words after _ _ fits (rw e (omega arith))
+    hit (Some word.Immortal) e = over t words after _ _ fits (rw e (omega arith))
+    hit (Some (word.Slow x)) e = over t words after _ _ fits (rw e (omega arith))
     hit (Some (word.Counts c)) e = counted (eqb c.unowned 1) e
 
     go : (b : Bool) → eqb (count_at words l s) seen ≡ b → Gone t words after l shape s event seen new (cond b (unowned_down_end (unpacked seen)) (less.Again (record { seen = seen; found = count_at words l s })))
@@ -291,9 +298,9 @@ finish_made t words after l shape s event seen new slots = go (eqb (count_at wor
 abbrev Falls : Thread → List ℕ → Step → Doing → Type 0
 Falls t words step d = Goes t words (made_by step words) d (turned_at (Some (found_by step words)) d (quiet t))
 
-falls_at : (shape : HeapShape) (t : Thread) (words : List ℕ) (step : Step) (intent : Intent) (d : Doing) → t.layout.slots ≤ 4096 → t.asked ≡ moves.Step step intent → Asks shape t d →
+falls_at : (shape : HeapShape) (t : Thread) (words : List ℕ) (step : Step) (intent : Intent) (d : Doing) → Fits t → t.asked ≡ moves.Step step intent → Asks shape t d →
     IsUnderWay t.layout t.shape (length t.vars) d → IsInOperation t d → Falls t words step d
-falls_at shape t words step intent d slots asked a u o = go d a u o
+falls_at shape t words step intent d fits asked a u o = go d a u o
   where
     l : Extent
     l = extent_of shape
@@ -303,47 +310,47 @@ falls_at shape t words step intent d slots asked a u o = go d a u o
     making to name immortal search.Start h same inside here = absurd h
     making to name immortal (search.Looking k) h same inside here =
         let is = asked_is t.asked step (looking (extent_of shape) k) intent (intents.New name.class) asked h in
-        rw is (looking_on t words (extent_of shape) to name immortal k slots (subst (λ (e : Extent). k < words_of e.slots) (sym same) inside))
+        rw is (looking_on t words (extent_of shape) to name immortal k fits (subst (λ (e : Extent). k < words_of e.slots) (sym same) inside))
     making to name immortal (search.Taking s seen) h same inside here =
         let is = asked_is t.asked step (taking (extent_of shape) s) intent (intents.New name.class) asked h in
         rw is (taking_on t words (made_by (taking (extent_of shape) s) words) (extent_of shape) to name immortal s seen same)
     making to name immortal (search.Counting s) h same inside here = counted_on t words (made_by step words) (extent_of shape) to name immortal s (found_by step words)
-    making to name immortal (search.Naming s) h same inside here = named t words (made_by step words) (extent_of shape) to name immortal s (found_by step words) slots here
+    making to name immortal (search.Naming s) h same inside here = named t words (made_by step words) (extent_of shape) to name immortal s (found_by step words) fits here
     making to name immortal search.Ended h same inside here = absurd h
 
     copying : (to : ℕ) (held : Held) (x : AttemptAt) → AttemptAsks shape t.asked held.place (intents.Copy (Hand held.hand)) x → t.index < length t.program → Falls t words step (doings.Copying to held (up_plan (extent_of shape) held.place shape.caps.strong x))
     copying to held attempt.Start h here = absurd h
     copying to held attempt.Loading h here =
         let is = asked_is t.asked step (Load (number (extent_of shape) (Count held.place))) intent (intents.Copy (Hand held.hand)) asked h in
-        rw is (up_read t words (extent_of shape) shape.caps.strong to held step intent slots here asked)
+        rw is (up_read t words (extent_of shape) shape.caps.strong to held step intent fits here asked)
     copying to held (attempt.Exchanging seen new) h here =
         let is = asked_is t.asked step (Exchange (number (extent_of shape) (Count held.place)) seen new) intent (intents.Copy (Hand held.hand)) asked h in
-        rw is (up_made t words (made_by (Exchange (number (extent_of shape) (Count held.place)) seen new) words) (extent_of shape) shape.caps.strong to held seen new slots here)
+        rw is (up_made t words (made_by (Exchange (number (extent_of shape) (Count held.place)) seen new) words) (extent_of shape) shape.caps.strong to held seen new fits here)
     copying to held attempt.Ended h here = absurd h
 
     dropping : (held : Held) (x : AttemptAt) → AttemptAsks shape t.asked held.place (intents.Drop held.hand) x → Falls t words step (doings.Dropping held (down_plan (extent_of shape) held.place x))
     dropping held attempt.Start h = absurd h
     dropping held attempt.Loading h =
         let is = asked_is t.asked step (Load (number (extent_of shape) (Count held.place))) intent (intents.Drop held.hand) asked h in
-        rw is (down_read t words (extent_of shape) held step intent slots asked)
+        rw is (down_read t words (extent_of shape) held step intent fits asked)
     dropping held (attempt.Exchanging seen new) h =
         let is = asked_is t.asked step (Exchange (number (extent_of shape) (Count held.place)) seen new) intent (intents.Drop held.hand) asked h in
-        rw is (down_made t words (made_by (Exchange (number (extent_of shape) (Count held.place)) seen new) words) (extent_of shape) held seen new slots)
+        rw is (down_made t words (made_by (Exchange (number (extent_of shape) (Count held.place)) seen new) words) (extent_of shape) held seen new fits)
     dropping held attempt.Ended h = absurd h
 
     finishing : (s : ℕ) (event : Option Act) (x : AttemptAt) → AttemptAsks shape t.asked s (intents.Deinit s) x → Falls t words step (doings.Dying (dying_state (extent_of shape) shape s event (at.Finishing (down_plan (extent_of shape) s x))))
     finishing s event attempt.Start h = absurd h
     finishing s event attempt.Loading h =
         let is = asked_is t.asked step (Load (number (extent_of shape) (Count s))) intent (intents.Deinit s) asked h in
-        rw is (finish_read t words (extent_of shape) shape s event slots)
+        rw is (finish_read t words (extent_of shape) shape s event fits)
     finishing s event (attempt.Exchanging seen new) h =
         let is = asked_is t.asked step (Exchange (number (extent_of shape) (Count s)) seen new) intent (intents.Deinit s) asked h in
-        rw is (finish_made t words (made_by (Exchange (number (extent_of shape) (Count s)) seen new) words) (extent_of shape) shape s event seen new slots)
+        rw is (finish_made t words (made_by (Exchange (number (extent_of shape) (Count s)) seen new) words) (extent_of shape) shape s event seen new fits)
     finishing s event attempt.Ended h = absurd h
 
     vacating : (s : ℕ) (event : Option Act) (x : Once) → VacateAsks shape t.asked s x → Falls t words step (doings.Dying (dying_state (extent_of shape) shape s event (at.Vacating (record { layout = extent_of shape; slot = s; at = x }))))
     vacating s event once.Start h = absurd h
-    vacating s event once.Asked h = over t words (made_by step words) _ _ slots (omega arith)
+    vacating s event once.Asked h = over t words (made_by step words) _ _ fits (omega arith)
     vacating s event once.Ended h = absurd h
 
     dying : (s : ℕ) (event : Option Act) (x : At) → CascadeAsks shape t.asked s x → Falls t words step (doings.Dying (dying_state (extent_of shape) shape s event x))
@@ -366,9 +373,34 @@ falls_at shape t words step intent d slots asked a u o = go d a u o
     go (doings.Dying c) a u o = rw (a.0) (dying c.slot c.event c.at a.1)
     go doings.Ended a u o = absurd (let k : t.asked ≡ moves.Ended = a.0 in cc)
 
+-- ---- what a stepper fits
+
+is_forth : (i end : ℕ) (o : Op) → GoesForth i end o → IsForth i o
+is_forth i end (op.New to class) g = tt
+is_forth i end (op.Copy to from) g = tt
+is_forth i end (op.Move to from) g = tt
+is_forth i end (op.Drop v) g = tt
+is_forth i end (op.Unown to of) g = tt
+is_forth i end (op.Weak to of) g = tt
+is_forth i end (op.Load to of) g = tt
+is_forth i end (op.Get to cell) g = tt
+is_forth i end (op.Set cell from) g = tt
+is_forth i end (op.IfNil v to) g = g.0
+is_forth i end (op.IfSome v to) g = g.0
+
+pub blocks_forth : (program : List Op) (phases : List (List Op)) → program ≡ in_one_list 0 phases → BlocksFit program phases → (i : ℕ) (o : Op) → slice_get program i ≡ Some o → IsForth i o
+blocks_forth program phases whole blocks i o there =
+    let within = slice_get_within program i o there in
+    let long = long_as_phases program phases whole in
+    let all = first_all (length phases) phases (omega arith) in
+    is_forth i (ops_in_first (length phases) phases) o (blocks (length phases) i o (omega (arith, within, long, all)) there)
+
+stepper_fits : (t : Thread) → IsStepper t → Fits t
+stepper_fits t s = (s.slots, blocks_forth t.program t.phases s.whole s.blocks)
+
 -- A thread that is given what its step finds has fewer steps left.
 pub falls : (shape : HeapShape) (t : Thread) (words : List ℕ) (step : Step) (intent : Intent) → IsStepper t → Asks shape t t.doing → t.asked ≡ moves.Step step intent → Falls t words step t.doing
-falls shape t words step intent s a asked = falls_at shape t words step intent t.doing s.slots asked a s.under_way s.in_operation
+falls shape t words step intent s a asked = falls_at shape t words step intent t.doing (stepper_fits t s) asked a s.under_way s.in_operation
 
 -- a thread that waits for its next phase has nothing under way
 ready : (shape : HeapShape) (t : Thread) (d : Doing) → Asks shape t d → t.asked ≡ moves.PhaseEnd → d ≡ doings.Ready
@@ -415,8 +447,8 @@ ready shape t d a asked = go d a
     go doings.Ended a = absurd (let h : t.asked ≡ moves.Ended = a.0 in cc)
 
 -- A thread that waits for its next phase begins it.
-pub begins_phase : (shape : HeapShape) (t : Thread) → t.layout.slots ≤ 4096 → Asks shape t t.doing → t.asked ≡ moves.PhaseEnd → Comes t (turned t None) (4200 * units t)
-begins_phase shape t slots asks asked = go t.doing (ready shape t t.doing asks asked)
+pub begins_phase : (shape : HeapShape) (t : Thread) → Fits t → Asks shape t t.doing → t.asked ≡ moves.PhaseEnd → Comes t (turned t None) (4200 * units t)
+begins_phase shape t fits asks asked = go t.doing (ready shape t t.doing asks asked)
   where
     go : (d : Doing) → d ≡ doings.Ready → Comes t (turned_at None d (quiet t)) (4200 * units t)
-    go d e = rw e (after_same t (quiet t) (begun (quiet t)) (4200 * units t) (4200 * units t) (record { layout = refl; phases = refl; program = refl; count = refl; phase = refl }) (begins (quiet t) slots) (omega arith))
+    go d e = rw e (after_same t (quiet t) (begun (quiet t)) (4200 * units t) (4200 * units t) (record { layout = refl; phases = refl; program = refl; count = refl; phase = refl }) (begins (quiet t) fits) (omega arith))

@@ -17,7 +17,9 @@ use Rattle.arc_script.specs.declared.script.ThreadDecl.{ThreadDecl}
 use Rattle.arc_script.specs.Valid.{IsScript, IsThread}
 use Rattle.arc_replays.proofs.Phases.{IsInPhase, reached_phased}
 use Rattle.arc_ops.specs.Served.{IsServed}
-use Rattle.arc_ops.specs.Programs.{phases_in, phases_of, vars_of}
+use Rattle.arc_script.specs.declared.script.Op.{Op}
+use Rattle.arc_ops.specs.Programs.{phases_in, phases_of, program_of, vars_of}
+use Rattle.arc_ops.proofs.Made.{blocks_fit}
 use Rattle.arc_ops.specs.declared.stepper.Move.{Move}
 use Rattle.arc_ops.specs.declared.stepper.Move.TheVariants as moves
 use Rattle.arc_ops.specs.Thread.{Thread, stepper_of, turned}
@@ -25,8 +27,8 @@ use Rattle.arc_replays.specs.Stages.{Stage, Reached, MayStep, is_step, is_phase_
 use Rattle.arc_replays.specs.Stages.Reached.{new, begins, makes, passes, by_number, last, last_step}
 use Rattle.arc_replays.proofs.Laws.{threads_are_at_work}
 use Rattle.arc_plain.proofs.Lists.{set_there, set_apart}
-use Rattle.arc_plain.proofs.Walks.{Comes}
-use Rattle.arc_plain.proofs.Falls.{falls, begins_phase}
+use Rattle.arc_plain.proofs.Walks.{IsForth, Comes}
+use Rattle.arc_plain.proofs.Falls.{falls, begins_phase, blocks_forth}
 use Rattle.arc_plain.specs.Left.{units}
 
 pub record Keeps (script : Script) (p : ℕ) (t : Thread) : Type 0 where
@@ -64,7 +66,8 @@ turns script s p t valid served r there waiting =
     let work = threads_are_at_work script s p t valid served r there in
     let fits = valid.heading.slots.1 in
     let slots : t.layout.slots ≤ 4096 = subst (λ (l : Extent). l.slots ≤ 4096) (sym work.layout) fits in
-    begins_phase script.shape t slots work.asks (waits t.asked waiting)
+    let forth : (i : ℕ) (o : Op) → slice_get (program_of script p) i ≡ Some o → IsForth i o = blocks_forth (program_of script p) (phases_of script p) refl (blocks_fit script p valid) in
+    begins_phase script.shape t (slots, subst (λ (ops : List Op). (i : ℕ) (o : Op) → slice_get ops i ≡ Some o → IsForth i o) (sym work.program) forth) work.asks (waits t.asked waiting)
 
 begins_keep : (script : Script) (s : Stage) (p : ℕ) (t : Thread) → IsScript script → IsServed script → Reached script s → slice_get s.threads p ≡ Some t → Keeps script p t → Keeps script p (begun_thread t)
 begins_keep script s p t valid served r there k = go (awaits_phase t) refl

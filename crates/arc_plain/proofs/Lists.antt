@@ -1,5 +1,5 @@
 -- What a list holds after one element of it was set.
-use Rattle.std.proofs.Common.{◌≡◌, ◌≢◌, ℕ, zero, suc, ◌+◌, ◌≤◌, ◌<◌, List, [], ◌∷◌, length, drop, set, Some, refl, ap, ◌∙◌, sym, arith, add-one}
+use Rattle.std.proofs.Common.{◌≡◌, ◌≢◌, ℕ, zero, suc, ◌+◌, ◌≤◌, ◌<◌, List, [], ◌∷◌, length, take, drop, set, Some, refl, ap, ◌∙◌, sym, arith, add-one}
 use Rattle.std.specs.Prelude.{slice_get, sum_by}
 use Rattle.std.proofs.lemmas.List.Sums.{sum_by-cons}
 
@@ -36,6 +36,18 @@ pub drop_next : {X : Type 0} (n : ℕ) (xs : List X) → drop (n + 1) xs ≡ dro
 drop_next zero xs = refl
 drop_next (suc n) [] = ap (λ (k : ℕ). drop k []) (add-one (suc n))
 drop_next (suc n) (x ∷ xs) = ap (λ (k : ℕ). drop k (x ∷ xs)) (add-one (suc n)) ∙ (ap (λ (k : ℕ). drop k xs) (sym (add-one n)) ∙ drop_next n xs)
+
+-- an element of a part of a list
+pub get_taken : {X : Type 0} (n : ℕ) (xs : List X) (i : ℕ) (x : X) → slice_get (take n xs) i ≡ Some x → slice_get xs i ≡ Some x
+get_taken zero xs i x at = absurd (cc)
+get_taken (suc n) [] i x at = absurd (cc)
+get_taken (suc n) (y ∷ xs) zero x at = at
+get_taken (suc n) (y ∷ xs) (suc i) x at = get_taken n xs i x at
+
+pub get_dropped : {X : Type 0} (n : ℕ) (xs : List X) (i : ℕ) (x : X) → slice_get (drop n xs) i ≡ Some x → slice_get xs (n + i) ≡ Some x
+get_dropped zero xs i x at = ap (λ (k : ℕ). slice_get xs k) (let e : 0 + i ≡ i = omega arith in e) ∙ at
+get_dropped (suc n) [] i x at = absurd (cc)
+get_dropped (suc n) (y ∷ xs) i x at = ap (λ (k : ℕ). slice_get (y ∷ xs) k) (let e : suc n + i ≡ suc (n + i) = omega arith in e) ∙ get_dropped n xs i x at
 
 -- lists with the same element at each place
 pub same_elements : {X : Type 0} (xs ys : List X) → ((i : ℕ) → slice_get xs i ≡ slice_get ys i) → xs ≡ ys

@@ -4,7 +4,7 @@ use Rattle.std.proofs.lemmas.List.{length-set, length-take}
 use Rattle.std.proofs.lemmas.List.Sums.{sum_by-cons}
 use Rattle.std.proofs.lemmas.Bool.{ltb-false}
 use Rattle.std.proofs.lemmas.List.Quantifiers.{position-Some}
-use Rattle.std.specs.Prelude.{position, sum_by}
+use Rattle.std.specs.Prelude.{position, slice_get, sum_by, ⊤}
 use Rattle.arc_rule.specs.Extents.{Extent}
 use Rattle.arc_script.specs.declared.script.Op.{Op}
 use Rattle.arc_script.specs.declared.script.Op.TheVariants as op
@@ -16,6 +16,7 @@ use Rattle.arc_ops.specs.declared.stepper.Move.{Move}
 use Rattle.arc_ops.specs.declared.stepper.Move.TheVariants as moves
 use Rattle.arc_ops.specs.Thread.{Thread, value, set_var, put, skipped, moved, is_held, drop_begun, make_begun, begun_nil, begun_copy, begun_move, begun_drop, begun_op, scope_at, scope_drop, scope_begun, phase_end, phase_over, begun_at, begun, next_op, replaced, replaced_old}
 use Rattle.arc_plain.specs.Left.{held_unit, units, busy_units, left}
+use Rattle.arc_plain.proofs.Lists.{get_taken, get_dropped}
 
 -- where a thread comes to the end of a phase it is at the next one, and else at the same one
 abbrev pub IsPhase : ℕ → Move → ℕ → Type 0
@@ -31,6 +32,16 @@ pub record Comes (t u : Thread) (bound : ℕ) : Type 0 where
   pub count : length u.vars ≡ length t.vars
   pub phase : IsPhase t.phase u.asked u.phase
   pub few : (words : List ℕ) → left words u ≤ bound
+
+-- a block goes on behind the place where it begins
+abbrev pub IsForth : ℕ → Op → Type 0
+IsForth i (op.IfNil v to) = i < to
+IsForth i (op.IfSome v to) = i < to
+IsForth i _ = ⊤
+
+-- the heap isn't larger than scripts allow, and each block of the program goes forth
+abbrev pub Fits : Thread → Type 0
+Fits t = (t.layout.slots ≤ 4096) × ((i : ℕ) (o : Op) → slice_get t.program i ≡ Some o → IsForth i o)
 
 -- nothing of this changed but the variables' values, the place in the program and what is told
 pub record Same (t u : Thread) : Type 0 where
@@ -95,18 +106,18 @@ phase_comes t = go (ltb (t.phase + 1) (length t.phases))
     go false = scope_comes t
 
 -- what an operation does that begins, where an operation that asks for no step leaves the rest for later
-op_comes : (o : Op) (t : Thread) (rest : Thread → Thread) → t.index < length t.program → t.layout.slots ≤ 4096 →
-    ((u : Thread) → Same t u → u.index ≡ t.index + 1 → sum_by held_unit u.vars ≤ sum_by held_unit t.vars + 1 → Comes u (rest u) (4200 * units u)) → Comes t (begun_op o t rest) (4200 * units t)
-op_comes o t rest here slots later = at o
+op_comes : (o : Op) (t : Thread) (rest : Thread → Thread) → t.index < length t.program → t.layout.slots ≤ 4096 → IsForth t.index o →
+    ((u : Thread) → Same t u → t.index + 1 ≤ u.index → sum_by held_unit u.vars ≤ sum_by held_unit t.vars + 1 → Comes u (rest u) (4200 * units u)) → Comes t (begun_op o t rest) (4200 * units t)
+op_comes o t rest here slots forth later = at o forth
   where
-    -- an operation that is done at once
-    behind : (u : Thread) → Same t u → u.index ≡ t.index + 1 → sum_by held_unit u.vars ≤ sum_by held_unit t.vars + 1 → Comes t (rest u) (4200 * units t)
+    -- an operation that is done at once, or the beginning of a block
+    behind : (u : Thread) → Same t u → t.index + 1 ≤ u.index → sum_by held_unit u.vars ≤ sum_by held_unit t.vars + 1 → Comes t (rest u) (4200 * units t)
     behind u same index vars =
         let program : length u.program ≡ length t.program = ap (λ (ops : List Op). length ops) same.program in
         after_same t u (rest u) (4200 * units u) (4200 * units t) same (later u same index vars) (omega arith)
 
     skips : (answer : Answer) → Comes t (rest (skipped answer t)) (4200 * units t)
-    skips answer = behind (skipped answer t) (record { layout = refl; phases = refl; program = refl; count = refl; phase = refl }) refl (omega arith)
+    skips answer = behind (skipped answer t) (record { layout = refl; phases = refl; program = refl; count = refl; phase = refl }) (omega arith) (omega arith)
 
     -- the old value of a variable is dropped, by an operation that is under way
     drops : (u : Thread) (v : ℕ) (held : Held) → Same t u → u.index ≡ t.index → sum_by held_unit u.vars ≤ sum_by held_unit t.vars → value u.vars v ≡ Some held → Comes t (drop_begun held (set_var v None u)) (4200 * units t)
@@ -143,55 +154,85 @@ op_comes o t rest here slots later = at o
     moving to from (Some held) None is =
         let a = units_set t.vars to (Some held) in
         let b = units_set (set t.vars to (Some held)) from None in
-        behind (moved to from held (skipped answers.Ok t)) (record { layout = refl; phases = refl; program = refl; count = counts to from held; phase = refl }) refl (omega arith)
+        behind (moved to from held (skipped answers.Ok t)) (record { layout = refl; phases = refl; program = refl; count = counts to from held; phase = refl }) (omega arith) (omega arith)
     moving to from None old is = nil to old is
 
     dropping : (v : ℕ) (held : Option Held) → value t.vars v ≡ held → Comes t (begun_drop v held t rest) (4200 * units t)
     dropping v (Some held) is = drops (put answers.Ok (record t { first = true })) v held (record { layout = refl; phases = refl; program = refl; count = refl; phase = refl }) refl (omega arith) is
     dropping v None is = skips answers.Nil
 
-    at : (o : Op) → Comes t (begun_op o t rest) (4200 * units t)
-    at (op.New to class) = makes to class
-    at (op.Copy to from) = copying to (value t.vars from) (value t.vars to) refl
-    at (op.Move to from) = moving to from (value t.vars from) (value t.vars to) refl
-    at (op.Drop v) = dropping v (value t.vars v) refl
-    at (op.Unown to of) = skips answers.Nil
-    at (op.Weak to of) = skips answers.Nil
-    at (op.Load to of) = skips answers.Nil
-    at (op.Get to cell) = skips answers.Nil
-    at (op.Set cell from) = skips answers.Nil
-    at (op.IfNil v past) = skips answers.Nil
-    at (op.IfSome v past) = skips answers.Nil
+    goes : (b : Bool) (there elsewhere : ℕ) → t.index + 1 ≤ there → t.index + 1 ≤ elsewhere → Comes t (rest (record t { index = cond b there elsewhere })) (4200 * units t)
+    goes true there elsewhere above below = behind (record t { index = there }) (record { layout = refl; phases = refl; program = refl; count = refl; phase = refl }) above (omega arith)
+    goes false there elsewhere above below = behind (record t { index = elsewhere }) (record { layout = refl; phases = refl; program = refl; count = refl; phase = refl }) below (omega arith)
+
+    at : (o : Op) → IsForth t.index o → Comes t (begun_op o t rest) (4200 * units t)
+    at (op.New to class) f = makes to class
+    at (op.Copy to from) f = copying to (value t.vars from) (value t.vars to) refl
+    at (op.Move to from) f = moving to from (value t.vars from) (value t.vars to) refl
+    at (op.Drop v) f = dropping v (value t.vars v) refl
+    at (op.Unown to of) f = skips answers.Nil
+    at (op.Weak to of) f = skips answers.Nil
+    at (op.Load to of) f = skips answers.Nil
+    at (op.Get to cell) f = skips answers.Nil
+    at (op.Set cell from) f = skips answers.Nil
+    at (op.IfNil v to) f = goes (is_held (value t.vars v)) to (t.index + 1) (omega arith) (omega arith)
+    at (op.IfSome v to) f = goes (is_held (value t.vars v)) (t.index + 1) to (omega arith) (omega arith)
+
+forth_before : (i j : ℕ) (o : Op) → i ≤ j → IsForth j o → IsForth i o
+forth_before i j (op.New to class) le f = tt
+forth_before i j (op.Copy to from) le f = tt
+forth_before i j (op.Move to from) le f = tt
+forth_before i j (op.Drop v) le f = tt
+forth_before i j (op.Unown to of) le f = tt
+forth_before i j (op.Weak to of) le f = tt
+forth_before i j (op.Load to of) le f = tt
+forth_before i j (op.Get to cell) le f = tt
+forth_before i j (op.Set cell from) le f = tt
+forth_before i j (op.IfNil v to) le f = omega arith
+forth_before i j (op.IfSome v to) le f = omega arith
+
+-- an operation that the thread has gone past is passed over, and else it begins
+past_or_begun : (place : ℕ) (o : Op) (ops : List Op) (t : Thread) → t.layout.slots ≤ 4096 → place < length t.program → IsForth place o →
+    ((u : Thread) → Same t u → Comes u (begun_at (place + 1) ops u) (4200 * units u)) → Comes t (begun_at place (o ∷ ops) t) (4200 * units t)
+past_or_begun place o ops t slots within forth further = go (ltb place t.index) refl
+  where
+    go : (b : Bool) → ltb place t.index ≡ b → Comes t (cond b (begun_at (place + 1) ops t) (begun_op o t (λ (behind : Thread). begun_at (place + 1) ops behind))) (4200 * units t)
+    go true e = further t (record { layout = refl; phases = refl; program = refl; count = refl; phase = refl })
+    go false e =
+        let before = ltb-false place t.index e in
+        op_comes o t (λ (behind : Thread). begun_at (place + 1) ops behind) (omega arith) slots (forth_before t.index place o before forth) (λ u same index vars. further u same)
 
 -- the thread goes on to the first of these operations that asks for a step
-begins_at : (ops : List Op) (t : Thread) → t.layout.slots ≤ 4096 → length ops ≤ length t.program - t.index → Comes t (begun_at ops t) (4200 * units t)
-begins_at [] t slots few = phase_comes t
-begins_at (o ∷ ops) t slots few =
-    op_comes o t (λ (behind : Thread). begun_at ops behind) (omega arith) slots
-    (λ u same index vars.
+begins_at : (place : ℕ) (ops : List Op) (t : Thread) → t.layout.slots ≤ 4096 → length ops ≤ length t.program - place → ((i : ℕ) (o : Op) → slice_get ops i ≡ Some o → IsForth (place + i) o) → Comes t (begun_at place ops t) (4200 * units t)
+begins_at place [] t slots few forth = phase_comes t
+begins_at place (o ∷ ops) t slots few forth =
+    past_or_begun place o ops t slots (omega arith) (subst (λ (n : ℕ). IsForth n o) (let e : place + 0 ≡ place = omega arith in e) (forth 0 o refl))
+    (λ u same.
     let program : length u.program ≡ length t.program = ap (λ (xs : List Op). length xs) same.program in
     let fits : u.layout.slots ≤ 4096 = subst (λ (l : Extent). l.slots ≤ 4096) (sym same.layout) slots in
-    begins_at ops u fits (omega arith))
+    begins_at (place + 1) ops u fits (omega arith) (λ i x there. subst (λ (n : ℕ). IsForth n x) (let e : place + suc i ≡ place + 1 + i = omega arith in e) (forth (suc i) x there)))
 
-pub begins : (t : Thread) → t.layout.slots ≤ 4096 → Comes t (begun t) (4200 * units t)
-begins t slots = begins_at (drop t.index (take (phase_end t) t.program)) t slots (let a = length-drop t.index (take (phase_end t) t.program) in let b = length-take (phase_end t) t.program in omega arith)
+pub begins : (t : Thread) → Fits t → Comes t (begun t) (4200 * units t)
+begins t fits =
+    begins_at t.index (drop t.index (take (phase_end t) t.program)) t fits.0 (let a = length-drop t.index (take (phase_end t) t.program) in let b = length-take (phase_end t) t.program in omega arith)
+    (λ i o there. fits.1 (t.index + i) o (get_taken (phase_end t) t.program (t.index + i) o (get_dropped t.index (take (phase_end t) t.program) i o there)))
 
 -- the operation, or a drop at the end of the scope, is over
-pub next_comes : (t : Thread) → t.layout.slots ≤ 4096 → Comes t (next_op t) (4200 * busy_units t)
-next_comes t slots = go (ltb t.index (length t.program)) refl
+pub next_comes : (t : Thread) → Fits t → Comes t (next_op t) (4200 * busy_units t)
+next_comes t fits = go (ltb t.index (length t.program)) refl
   where
     go : (b : Bool) → ltb t.index (length t.program) ≡ b → Comes t (begun (record t { doing = doings.Ended; index = cond b (t.index + 1) t.index })) (4200 * busy_units t)
     go true e =
         after_same t (record t { doing = doings.Ended; index = t.index + 1 }) (begun (record t { doing = doings.Ended; index = t.index + 1 })) (4200 * units (record t { doing = doings.Ended; index = t.index + 1 })) (4200 * busy_units t)
-        (record { layout = refl; phases = refl; program = refl; count = refl; phase = refl }) (begins (record t { doing = doings.Ended; index = t.index + 1 }) slots) (omega arith)
+        (record { layout = refl; phases = refl; program = refl; count = refl; phase = refl }) (begins (record t { doing = doings.Ended; index = t.index + 1 }) fits) (omega arith)
     go false e =
         let past = ltb-false t.index (length t.program) e in
         after_same t (record t { doing = doings.Ended }) (begun (record t { doing = doings.Ended })) (4200 * units (record t { doing = doings.Ended })) (4200 * busy_units t)
-        (record { layout = refl; phases = refl; program = refl; count = refl; phase = refl }) (begins (record t { doing = doings.Ended }) slots) (omega arith)
+        (record { layout = refl; phases = refl; program = refl; count = refl; phase = refl }) (begins (record t { doing = doings.Ended }) fits) (omega arith)
 
 -- a variable gets a reference, and what it held before is dropped last
-pub replaced_comes : (t : Thread) (to : ℕ) (held : Held) → t.layout.slots ≤ 4096 → t.index < length t.program → Comes t (replaced to held t) (4200 * busy_units t + 8)
-replaced_comes t to held slots here = go (value t.vars to) refl
+pub replaced_comes : (t : Thread) (to : ℕ) (held : Held) → Fits t → t.index < length t.program → Comes t (replaced to held t) (4200 * busy_units t + 8)
+replaced_comes t to held fits here = go (value t.vars to) refl
   where
     same : Same t (set_var to (Some held) t)
     same = record { layout = refl; phases = refl; program = refl; count = length-set t.vars to (Some held); phase = refl }
@@ -212,5 +253,5 @@ replaced_comes t to held slots here = go (value t.vars to) refl
             after_same t (record t { vars = set t.vars to (Some held); doing = doings.Ended; index = t.index + 1 }) (begun (record t { vars = set t.vars to (Some held); doing = doings.Ended; index = t.index + 1 }))
             (4200 * units (record t { vars = set t.vars to (Some held); doing = doings.Ended; index = t.index + 1 })) (4200 * busy_units t + 8)
             (record { layout = refl; phases = refl; program = refl; count = length-set t.vars to (Some held); phase = refl })
-            (begins (record t { vars = set t.vars to (Some held); doing = doings.Ended; index = t.index + 1 }) slots) (omega arith)
+            (begins (record t { vars = set t.vars to (Some held); doing = doings.Ended; index = t.index + 1 }) fits) (omega arith)
         ends_op false e = let past = ltb-false t.index (length t.program) e in absurd (omega arith)

@@ -1,3 +1,4 @@
+//! A new object's plan: a free slot by the bit words, the words stored, the bit set; and the plan that gives a slot up.
 ghost use Rattle.std.specs.Prelude.{◌≡◌, ◌<◌, ◌≤◌, ◌/◌, Some, IfSome};
 ghost use Rattle.arc_rule.specs.Bits.{words_of, bit_of};
 ghost use Rattle.arc_rule.specs.Isa.{IsName};

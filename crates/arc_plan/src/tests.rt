@@ -1,3 +1,4 @@
+//! Tests: each plan meets a word that another thread has changed.
 ghost use Rattle.std.specs.Prelude.{◌≡◌, IfSome};
 
 use crate::{

@@ -1,3 +1,4 @@
+//! Plans of an unowned reference on the inline word: one more, one fewer.
 ghost use Rattle.std.specs.Prelude.{◌≡◌, ◌<◌, ◌≤◌, true};
 ghost use Rattle.std.specs.Option.{unwrap_or};
 ghost use Rattle.arc_bits.specs.Words.{IsUnownedCap, unpacked};

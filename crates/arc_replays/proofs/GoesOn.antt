@@ -32,7 +32,7 @@ use Rattle.arc_view.specs.Steps.{Told}
 use Rattle.arc_view.proofs.Lists.{others_came}
 use Rattle.arc_ops_passes.specs.Drives.{Drives}
 use Rattle.arc_ops_passes.specs.Laws.{GoesOn, NamesVariables}
-use Rattle.arc_view.specs.Built.{IsAllowed}
+use Rattle.arc_view.specs.Admission.{Admits}
 use Rattle.arc_replays.specs.Replaying.{StepMade, Replaying, MayTurn, ReplaysBeginPhases, ReplaysGoOn, ReplaysAreOneHistory, EndedThreadsSpell}
 use Rattle.arc_spelled.proofs.SteppersSpell.{ended_steppers_spell}
 use Rattle.arc_ops_passes.proofs.Goes.{event_is}
@@ -85,7 +85,7 @@ module _ (shape : HeapShape) (work : ℕ → Work) (threads : List Thread) (word
   pub turn : Turn
   turn =
       let sized : IsSized (work i).shape = subst IsSized (sym m.same_shape) r.kept.sized in
-      let may : IsAllowed shape its.0 step intent = subst (λ (s : HeapShape). IsAllowed s its.0 step intent) m.same_shape (steps_are_allowed (work i) t its.0 step intent m.served m.stepper sized its.2 m.asked) in
+      let may : Admits shape its.0 step intent = subst (λ (s : HeapShape). Admits s its.0 step intent) m.same_shape (steps_are_allowed (work i) t its.0 step intent m.served m.stepper sized its.2 m.asked) in
       let made = plain_steps_keep shape words r.views i its.0 step intent r.kept its.1 its.2.pass may in
       let told : Told (work i).shape intent step its.0 found made.view = subst (λ (s : HeapShape). Told s intent step its.0 found made.view) (sym m.same_shape) made.told in
       let g = steppers_drive_on (work i) t its.0 step intent found made.view m.served m.stepper sized its.2 m.asked told m.word in

@@ -139,10 +139,10 @@ module _ (script : Script) (came : Hands) (valid : IsScript script) (served : Is
       its = h.replaying.drives p t there
 
       serves_it : Serves (work_of script p came) s.words h.replaying.views h.replaying.kept p its.0 its.1 its.2.pass (came_in log) bare few_came t step intent asked step intent
-      serves_it = serves (work_of script p came) s.words h.replaying.views h.replaying.kept p its.0 its.1 its.2.pass (came_in log) bare few_came t step intent asked (served-work script p came served) stepper its.2
+      serves_it = serves (work_of script p came) s.words h.replaying.views h.replaying.kept p its.0 its.1 its.2.pass (came_in log) bare few_came t step intent asked (served-work script p came valid served) stepper its.2
 
       abbrev may_turn : MayTurn script.shape (λ q. work_of script q came) s.threads s.words p t step intent
-      may_turn = record { there = there; asked = asked; stepper = stepper; served = served-work script p came served; same_shape = refl; word = serves_it.word }
+      may_turn = record { there = there; asked = asked; stepper = stepper; served = served-work script p came valid served; same_shape = refl; word = serves_it.word }
 
       -- so many references came to the thread
       few_hands : next_hand p log ≤ 100003
@@ -171,7 +171,7 @@ module _ (script : Script) (came : Hands) (valid : IsScript script) (served : Is
 
     pub holds_begun : (after : List Thread) (n : ℕ) → AreBegun s.threads after → Holds script came (record s { begun = n; threads = after })
     holds_begun after n b = record {
-      replaying = replays_begin_phases script.shape work s.threads after s.words log h.replaying (λ i t at. (served-work script i came served, scripts_name_variables script i came valid served (let lt = slice_get_within s.threads i t at in let long = h.as_many in omega arith))) b;
+      replaying = replays_begin_phases script.shape work s.threads after s.words log h.replaying (λ i t at. (served-work script i came valid served, scripts_name_variables script i came valid served (let lt = slice_get_within s.threads i t at in let long = h.as_many in omega arith))) b;
       as_many = b.as_many ∙ h.as_many;
       events_fit = h.events_fit;
       few = h.few;

@@ -12,7 +12,7 @@ use Rattle.arc_programs.specs.Programs.{Hands}
 use Rattle.arc_spelled.specs.Spelled.{work_of}
 use Rattle.arc_spelled.proofs.SteppersSpell.{served-work}
 use Rattle.arc_view.specs.declared.view.View.{View}
-use Rattle.arc_view.specs.Built.{IsAllowed}
+use Rattle.arc_view.specs.Admission.{Admits}
 use Rattle.arc_view.proofs.Words.{number_below}
 use Rattle.arc_ops_passes.proofs.Laws.{steps_are_allowed, phases_begin, scripts_name_variables}
 use Rattle.arc_replays.specs.Stages.{Stage, Reached}
@@ -32,26 +32,26 @@ stages_are_whole script s valid served r = let h = holds script valid served s r
 pub threads_are_at_work : ThreadsAreAtWork
 threads_are_at_work script s p t valid served r there =
     let d = ((holds script valid served s r).replaying.drives p t there).2 in
-    record { thread = d.stands.works.thread_is; shape = d.stands.works.shape_is; layout = d.stands.works.layout_is; asks = d.asks }
+    record { thread = d.stands.works.thread_is; shape = d.stands.works.shape_is; layout = d.stands.works.layout_is; program = d.stands.works.program_is; asks = d.asks }
 
 pub steps_may_be_made : StepsMayBeMade
 steps_may_be_made script s p t step intent valid served r there stepper asked =
     let h = holds script valid served s r in
     let d = h.replaying.drives p t there in
     record {
-      place = by d.0 step (steps_are_allowed (work_of script p nothing) t d.0 step intent (served-work script p nothing served) stepper h.replaying.kept.sized d.2 asked) h.replaying.kept.words.whole;
+      place = by d.0 step (steps_are_allowed (work_of script p nothing) t d.0 step intent (served-work script p nothing valid served) stepper h.replaying.kept.sized d.2 asked) h.replaying.kept.words.whole;
       takes_it = (goes_to script nothing valid served s h p t step intent there stepper asked).takes_it;
     }
   where
-    by : (v : View) (st : Step) → IsAllowed script.shape v st intent → length s.words ≡ word_count (extent_of script.shape) → place_of st < length s.words
-    by v (Load place) a whole = let b = number_below (extent_of script.shape) a.0.0 a.0.2 in let e = a.0.1 in omega arith
-    by v (Exchange place old new) a whole = let b = number_below (extent_of script.shape) a.0.0 a.0.2 in let e = a.0.1 in omega arith
-    by v (Store place new) a whole = let b = number_below (extent_of script.shape) a.0.0 a.0.2 in let e = a.0.1 in omega arith
-    by v (Or place bits) a whole = let b = number_below (extent_of script.shape) a.0.0 a.0.2 in let e = a.0.1 in omega arith
-    by v (And place bits) a whole = let b = number_below (extent_of script.shape) a.0.0 a.0.2 in let e = a.0.1 in omega arith
+    by : (v : View) (st : Step) → Admits script.shape v st intent → length s.words ≡ word_count (extent_of script.shape) → place_of st < length s.words
+    by v (Load place) a whole = let b = number_below (extent_of script.shape) a.0 a.2 in let e = a.1 in omega arith
+    by v (Exchange place old new) a whole = let b = number_below (extent_of script.shape) a.0 a.2 in let e = a.1 in omega arith
+    by v (Store place new) a whole = let b = number_below (extent_of script.shape) a.0 a.2 in let e = a.1 in omega arith
+    by v (Or place bits) a whole = let b = number_below (extent_of script.shape) a.0 a.2 in let e = a.1 in omega arith
+    by v (And place bits) a whole = let b = number_below (extent_of script.shape) a.0 a.2 in let e = a.1 in omega arith
 
 pub phases_may_begin : PhasesMayBegin
 phases_may_begin script s p t valid served r there asked =
     let h = holds script valid served s r in
     let d = h.replaying.drives p t there in
-    (phases_begin (work_of script p nothing) t d.0 (served-work script p nothing served) (scripts_name_variables script p nothing valid served (let lt = slice_get_within s.threads p t there in let long = h.as_many in omega arith)) d.2 asked).0
+    (phases_begin (work_of script p nothing) t d.0 (served-work script p nothing valid served) (scripts_name_variables script p nothing valid served (let lt = slice_get_within s.threads p t there in let long = h.as_many in omega arith)) d.2 asked).0

@@ -1,6 +1,6 @@
 -- In a replay the phases follow each other: at the beginning of each the threads have done the ones before, no less and no more.
 use Rattle.std.proofs.Common.{◌≡◌, ◌≢◌, ◌⊎◌, inl, inr, ⊎_elim, ℕ, zero, suc, ◌+◌, ◌-◌, ◌≤◌, ◌<◌, false, cond, List, [], ◌∷◌, ◌++◌, length, map, Option, Some, None, refl, sym, ap, ◌∙◌, subst, arith, ne_eqb}
-use Rattle.std.specs.Prelude.{slice_get, flat_map}
+use Rattle.std.specs.Prelude.{slice_get}
 use Rattle.std.specs.List.{AllByRecursion}
 use Rattle.std.proofs.lemmas.Bool.{cases_lt}
 use Rattle.std.proofs.lemmas.Option.{slice_get_within}
@@ -16,6 +16,7 @@ use Rattle.arc_script.specs.declared.script.VarDecl.{VarDecl}
 use Rattle.arc_script.specs.declared.script.ThreadDecl.{ThreadDecl}
 use Rattle.arc_script.specs.declared.script.Script.{Script}
 use Rattle.arc_script.specs.declared.script.Op.{Op}
+use Rattle.arc_script.specs.OneList.{in_one_list}
 use Rattle.arc_script.specs.Valid.{IsScript, IsThread}
 use Rattle.arc_programs.specs.Programs.{Hands, OpsDone, IsProgram}
 use Rattle.arc_programs.specs.ProgramsTied.{hands_in, operations, Spells}
@@ -31,7 +32,7 @@ use Rattle.arc_ops.specs.declared.stepper.Move.TheVariants as moves
 use Rattle.arc_ops.specs.Thread.{Thread, stepper_of, turned}
 use Rattle.arc_spelled.specs.StepperStands.{Asks, variables}
 use Rattle.arc_spelled.specs.Spelled.{work_of, with_event_of}
-use Rattle.arc_spelled.proofs.SteppersSpell.{one-list, ready_steppers_have_done}
+use Rattle.arc_spelled.proofs.SteppersSpell.{ready_steppers_have_done}
 use Rattle.arc_replays.specs.Histories.{history_of}
 use Rattle.arc_replays.specs.Stages.{Stage, Reached, IsNone, first_stage, new_threads, begun_thread, begun_threads, has_step, is_step, is_phase_end, stepped}
 use Rattle.arc_replays.specs.Stages.Reached.{new, begins, makes, passes, by_number, last, last_step}
@@ -141,8 +142,7 @@ module _ (script : Script) (came : Hands) (valid : IsScript script) (served : Is
           done_some
           (subst (λ (x : ℕ × List (List Op)). x.0 < length x.1) (λ j. (phase j, phases_are j)) below)
           n.2
-          (subst (λ (x : List Op). OpsDone script.shape p (hands_in p log) x (length decl.vars) (ops_in_first k decl.phases) (variables t.vars) n.0) (sym (one-list script (p - 1) decl served there))
-          (subst (λ (x : Option ThreadDecl × ℕ). OpsDone script.shape p (hands_in p log) (flat_map (λ ops. ops) (phases_in x.0)) (count_of_vars x.0) (ops_in_first x.1 (phases_in x.0)) (variables t.vars) n.0) (λ j. (declared j, phase j)) ops))
+          (subst (λ (x : Option ThreadDecl × ℕ). OpsDone script.shape p (hands_in p log) (in_one_list 0 (phases_in x.0)) (count_of_vars x.0) (ops_in_first x.1 (phases_in x.0)) (variables t.vars) n.0) (λ j. (declared j, phase j)) ops)
       by t at (inr (asked, few)) =
           let le : p ≤ length script.threads = let lt = slice_get_within s.threads p t at in let long = h.as_many in omega arith in
           let x = ended_threads_spell script came (hands_in p log) s.threads s.words log p t valid served le h.replaying at asked in

@@ -16,10 +16,8 @@ use Rattle.arc_view.specs.declared.view.View.{View}
 use Rattle.arc_view.specs.Rule.{IsKept}
 use Rattle.arc_view.specs.Kinds.{act_of, event_list}
 use Rattle.arc_view.specs.Admission.{Admits}
-use Rattle.arc_view.specs.Built.{IsBuilt}
 use Rattle.arc_view.specs.Steps.{Told}
 use Rattle.arc_view.proofs.Moves.{loads, exchanges, stores, ors, ands}
-use Rattle.arc_view.specs.Built.{IsAllowed}
 use Rattle.arc_replays.specs.Replaying.{table, PlainStepsKeep}
 
 -- the rule says nothing of slots
@@ -52,37 +50,37 @@ module _ (shape : HeapShape) (words : List ℕ) (views : List View) (id : ℕ) (
   abbrev Made : Step → Intent → List ℕ → ℕ → Type 0
   Made step intent ws found = (w : View) × (kept : IsKept shape (table ws (set views id w))) × (kept.log ≡ event_list v.number (act_of shape v step intent found) ++ k.log) × Told shape intent step v found w
 
-  load_made : (place : ℕ) (intent : Intent) → Admits shape v (Load place) intent → IsBuilt shape v (Load place) intent → Made (Load place) intent (set words place (slice_index words place)) (slice_index words place)
-  load_made place intent admits built = let r = loads shape id (v, []) intent place pass admits built (table words views) k at in (r.view, bare shape _ r.kept, bare_log shape _ r.kept ∙ r.log_is, r.told)
+  load_made : (place : ℕ) (intent : Intent) → Admits shape v (Load place) intent → Made (Load place) intent (set words place (slice_index words place)) (slice_index words place)
+  load_made place intent admits = let r = loads shape id (v, []) intent place pass admits (table words views) k at in (r.view, bare shape _ r.kept, bare_log shape _ r.kept ∙ r.log_is, r.told)
 
-  exchange_made : (place old new : ℕ) (intent : Intent) → Admits shape v (Exchange place old new) intent → IsBuilt shape v (Exchange place old new) intent
+  exchange_made : (place old new : ℕ) (intent : Intent) → Admits shape v (Exchange place old new) intent
       → Made (Exchange place old new) intent (set words place (either (eqb (slice_index words place) old) new (slice_index words place))) (slice_index words place)
-  exchange_made place old new intent admits built = let r = exchanges shape id (v, []) intent place old new pass admits built (table words views) k at in (r.view, bare shape _ r.kept, bare_log shape _ r.kept ∙ r.log_is, r.told)
+  exchange_made place old new intent admits = let r = exchanges shape id (v, []) intent place old new pass admits (table words views) k at in (r.view, bare shape _ r.kept, bare_log shape _ r.kept ∙ r.log_is, r.told)
 
-  store_made : (place new : ℕ) (intent : Intent) → Admits shape v (Store place new) intent → IsBuilt shape v (Store place new) intent → Made (Store place new) intent (set words place new) 0
-  store_made place new intent admits built = let r = stores shape id (v, []) intent place new pass admits built (table words views) k at in (r.view, bare shape _ r.kept, bare_log shape _ r.kept ∙ r.log_is, r.told)
+  store_made : (place new : ℕ) (intent : Intent) → Admits shape v (Store place new) intent → Made (Store place new) intent (set words place new) 0
+  store_made place new intent admits = let r = stores shape id (v, []) intent place new pass admits (table words views) k at in (r.view, bare shape _ r.kept, bare_log shape _ r.kept ∙ r.log_is, r.told)
 
-  or_made : (place bits : ℕ) (intent : Intent) → Admits shape v (Or place bits) intent → IsBuilt shape v (Or place bits) intent → Made (Or place bits) intent (set words place (bit_or (slice_index words place) bits)) (slice_index words place)
-  or_made place bits intent admits built = let r = ors shape id (v, []) intent place bits pass admits built (table words views) k at in (r.view, bare shape _ r.kept, bare_log shape _ r.kept ∙ r.log_is, r.told)
+  or_made : (place bits : ℕ) (intent : Intent) → Admits shape v (Or place bits) intent → Made (Or place bits) intent (set words place (bit_or (slice_index words place) bits)) (slice_index words place)
+  or_made place bits intent admits = let r = ors shape id (v, []) intent place bits pass admits (table words views) k at in (r.view, bare shape _ r.kept, bare_log shape _ r.kept ∙ r.log_is, r.told)
 
-  and_made : (place bits : ℕ) (intent : Intent) → Admits shape v (And place bits) intent → IsBuilt shape v (And place bits) intent → Made (And place bits) intent (set words place (bit_and (slice_index words place) bits)) (slice_index words place)
-  and_made place bits intent admits built = let r = ands shape id (v, []) intent place bits pass admits built (table words views) k at in (r.view, bare shape _ r.kept, bare_log shape _ r.kept ∙ r.log_is, r.told)
+  and_made : (place bits : ℕ) (intent : Intent) → Admits shape v (And place bits) intent → Made (And place bits) intent (set words place (bit_and (slice_index words place) bits)) (slice_index words place)
+  and_made place bits intent admits = let r = ands shape id (v, []) intent place bits pass admits (table words views) k at in (r.view, bare shape _ r.kept, bare_log shape _ r.kept ∙ r.log_is, r.told)
 
   of_words : (step : Step) (intent : Intent) (ws new : List ℕ) (found : ℕ) → ws ≡ new → Made step intent ws found → Made step intent new found
   of_words step intent ws new found same = subst (λ (l : List ℕ). Made step intent l found) same
 
-  plain : (step : Step) (intent : Intent) → IsAllowed shape v step intent → Made step intent (made_by step words) (found_by step words)
-  plain (Load place) intent (admits, built) = of_words (Load place) intent (set words place (slice_index words place)) words (slice_index words place) (set-get_or words place 0) (load_made place intent admits built)
-  plain (Exchange place old new) intent (admits, built) =
+  plain : (step : Step) (intent : Intent) → Admits shape v step intent → Made step intent (made_by step words) (found_by step words)
+  plain (Load place) intent admits = of_words (Load place) intent (set words place (slice_index words place)) words (slice_index words place) (set-get_or words place 0) (load_made place intent admits)
+  plain (Exchange place old new) intent admits =
       of_words (Exchange place old new) intent (set words place (either (eqb (slice_index words place) old) new (slice_index words place))) (cond (eqb (slice_index words place) old) (set words place new) words) (slice_index words place)
-      (go (eqb (slice_index words place) old)) (exchange_made place old new intent admits built)
+      (go (eqb (slice_index words place) old)) (exchange_made place old new intent admits)
     where
       go : (b : Bool) → set words place (either b new (slice_index words place)) ≡ cond b (set words place new) words
       go true = refl
       go false = set-get_or words place 0
-  plain (Store place new) intent (admits, built) = store_made place new intent admits built
-  plain (Or place bits) intent (admits, built) = or_made place bits intent admits built
-  plain (And place bits) intent (admits, built) = and_made place bits intent admits built
+  plain (Store place new) intent admits = store_made place new intent admits
+  plain (Or place bits) intent admits = or_made place bits intent admits
+  plain (And place bits) intent admits = and_made place bits intent admits
 
 pub plain_steps_keep : PlainStepsKeep
 plain_steps_keep shape words views id v step intent k at pass may =

@@ -30,7 +30,7 @@ use Rattle.arc_ops.specs.declared.stepper.Doing.{Doing}
 use Rattle.arc_ops.specs.declared.stepper.Doing.TheVariants.{Ready, Making, Copying, Dropping, Dying, Ended}
 use Rattle.arc_ops.specs.declared.stepper.Move.{Move}
 use Rattle.arc_ops.specs.declared.stepper.Move.TheVariants as moves
-use Rattle.arc_ops.specs.Thread.{Thread, value, set_var, put, drop_begun, make_begun, make_begun_as, copy_begun, asking, came_to, skipped, begun_nil, begun_copy, moved, begun_move, begun_drop, begun_op, scope_drop, scope_at, is_held, scope_begun, phase_end, phase_over, begun_at, begun, next_op, replaced_old, replaced, made_on, copied_on, dying_asks, dropped_on, dying_on, turned_at, turned}
+use Rattle.arc_ops.specs.Thread.{Thread, value, set_var, put, drop_begun, make_begun, make_begun_as, copy_begun, asking, came_to, skipped, begun_nil, begun_copy, moved, begun_move, begun_drop, begun_op, scope_drop, scope_at, is_held, scope_begun, phase_end, phase_over, block_goes_on, at_place, begun_at, begun, next_op, replaced_old, replaced, made_on, copied_on, dying_asks, dropped_on, dying_on, turned_at, turned}
 
 -- Where a thread of so many phases is that was in phase n: it asks for a step in it, waits for the next one, or that was its last.
 abbrev pub IsBehind : (phases n : ℕ) → Move → Doing → (phase : ℕ) → Type 0
@@ -129,6 +129,11 @@ module _ (phases : List (List Op)) (n : ℕ) where
       skips : IsAfter phases n (rest (skipped answers.Nil t))
       skips = go (skipped answers.Nil t) (record { phases_are = i.phases_are; phase_is = i.phase_is; idle = i.idle })
 
+      -- at a block
+      goes_by : (place : Option ℕ) → IsAfter phases n (rest (at_place place t))
+      goes_by None = go t i
+      goes_by (Some place) = go (record t { index = place }) (record { phases_are = i.phases_are; phase_is = i.phase_is; idle = i.idle })
+
       by : (o : Op) → IsAfter phases n (begun_op o t rest)
       by (op.New to class) = make_after to class (record t { first = true }) firstly
       by (op.Copy to from) = copies to (value t.vars from) (value t.vars to)
@@ -139,15 +144,23 @@ module _ (phases : List (List Op)) (n : ℕ) where
       by (op.Load to of) = skips
       by (op.Get to cell) = skips
       by (op.Set cell from) = skips
-      by (op.IfNil v place) = skips
-      by (op.IfSome v place) = skips
+      by (op.IfNil v to) = goes_by (block_goes_on t.vars t.index (op.IfNil v to))
+      by (op.IfSome v to) = goes_by (block_goes_on t.vars t.index (op.IfSome v to))
 
-  at_after : (ops : List Op) (t : Thread) → IsIdle phases n t → IsAfter phases n (begun_at ops t)
-  at_after [] t i = over_after t i
-  at_after (o ∷ ops) t i = op_after o t (λ (behind : Thread). begun_at ops behind) i (λ u j. at_after ops u j)
+  -- an operation that the thread has gone past is passed over, and else it begins
+  past_or_begun : (place : ℕ) (o : Op) (ops : List Op) (t : Thread) → IsIdle phases n t → ((u : Thread) → IsIdle phases n u → IsAfter phases n (begun_at (place + 1) ops u)) → IsAfter phases n (begun_at place (o ∷ ops) t)
+  past_or_begun place o ops t i further = go (ltb place t.index)
+    where
+      go : (b : Bool) → IsAfter phases n (cond b (begun_at (place + 1) ops t) (begun_op o t (λ (behind : Thread). begun_at (place + 1) ops behind)))
+      go true = further t i
+      go false = op_after o t (λ (behind : Thread). begun_at (place + 1) ops behind) i further
+
+  at_after : (place : ℕ) (ops : List Op) (t : Thread) → IsIdle phases n t → IsAfter phases n (begun_at place ops t)
+  at_after place [] t i = over_after t i
+  at_after place (o ∷ ops) t i = past_or_begun place o ops t i (λ u j. at_after (place + 1) ops u j)
 
   begun_after : (t : Thread) → IsIdle phases n t → IsAfter phases n (begun t)
-  begun_after t i = at_after (drop t.index (take (phase_end t) t.program)) t i
+  begun_after t i = at_after t.index (drop t.index (take (phase_end t) t.program)) t i
 
   next_after : (t : Thread) → IsIdle phases n t → IsAfter phases n (next_op t)
   next_after t i = begun_after (record t { doing = Ended; index = cond (ltb t.index (length t.program)) (t.index + 1) t.index }) (record { phases_are = i.phases_are; phase_is = i.phase_is; idle = refl })

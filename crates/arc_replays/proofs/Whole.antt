@@ -28,6 +28,7 @@ use Rattle.arc_script.specs.declared.answer.Line.{Line}
 use Rattle.arc_script.specs.declared.script.VarDecl.{VarDecl}
 use Rattle.arc_script.specs.declared.script.Script.{Script}
 use Rattle.arc_script.specs.Valid.{IsScript}
+use Rattle.arc_script.proofs.OneList.{length_in_one}
 use Rattle.arc_programs.specs.Programs.{Hands, GlobalsCleared}
 use Rattle.arc_programs.specs.Programs.GlobalsCleared.{begins as cleared_none, nil as cleared_nil, cleared as cleared_one}
 use Rattle.arc_programs.specs.ProgramsLines.{told}
@@ -44,7 +45,7 @@ use Rattle.arc_programs_laws.proofs.ClassesNamed.{lines_name_classes}
 use Rattle.arc_programs_laws.proofs.Totals.{claims_end, deinit_lines_are_emptied, every_line_finds_room}
 use Rattle.arc_ops.specs.declared.told.Stamped.{Stamped}
 use Rattle.arc_ops.specs.declared.told.ThreadLines.{ThreadLines}
-use Rattle.arc_ops.specs.Programs.{room_in}
+use Rattle.arc_ops.specs.Programs.{phases_of, new_count, room_in}
 use Rattle.arc_ops.specs.Served.{IsServed}
 use Rattle.arc_ops.specs.Thread.{Thread}
 use Rattle.arc_spelled.specs.Spelled.{work_of}
@@ -165,7 +166,7 @@ module _ (script : Script) (s : Stage) (valid : IsScript script) (served : IsSer
   finish p le = let t = there_is s.threads p (let long = holds.as_many in omega arith) in (told (spelled p t.0 t.1).notes, program p t.0 t.1)
 
   room_is : (p : ℕ) → room script p ≡ room_in script p
-  room_is p = refl
+  room_is p = ap (λ n. n + new_count script) (sym (length_in_one 0 (phases_of script p)))
 
   all_lines : (p : ℕ) (t : Thread) (at : slice_get s.threads p ≡ Some t) → t.kept.lines ≡ told (spelled p t at).notes
   all_lines p t at =

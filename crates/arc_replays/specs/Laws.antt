@@ -8,6 +8,7 @@ use Rattle.arc_script.specs.declared.script.Script.{Script}
 use Rattle.arc_script.specs.Valid.{IsScript}
 use Rattle.arc_ops.specs.declared.stepper.Move.TheVariants as moves
 use Rattle.arc_ops.specs.Served.{IsServed}
+use Rattle.arc_ops.specs.Programs.{program_of}
 use Rattle.arc_ops.specs.Thread.{Thread, IsStepper, takes}
 use Rattle.arc_ops_passes.specs.Drives.{Asks}
 use Rattle.arc_ops.specs.declared.told.Stamped.{Stamped}
@@ -25,11 +26,12 @@ pub record IsWhole (script : Script) (s : Stage) : Type 0 where
 abbrev pub StagesAreWhole : Type 0
 StagesAreWhole = (script : Script) (s : Stage) → IsScript script → IsServed script → Reached script s → IsWhole script s
 
--- A thread is at work in the script's heap, and its plan waits for the word of the step that it asks for.
+-- A thread is at work on its program in the script's heap, and its plan waits for the word of the step that it asks for.
 pub record IsAtWork (script : Script) (p : ℕ) (t : Thread) : Type 0 where
   pub thread : t.thread ≡ p
   pub shape : t.shape ≡ script.shape
   pub layout : t.layout ≡ extent_of script.shape
+  pub program : t.program ≡ program_of script p
   pub asks : Asks script.shape t t.doing
 
 abbrev pub ThreadsAreAtWork : Type 0

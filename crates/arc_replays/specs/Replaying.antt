@@ -27,7 +27,7 @@ use Rattle.arc_view.specs.Rule.{IsSized, IsKept}
 use Rattle.arc_view.specs.Kinds.{act_of, event_list}
 use Rattle.arc_view.specs.Steps.{Told}
 use Rattle.arc_ops_passes.specs.Drives.{Drives}
-use Rattle.arc_view.specs.Built.{IsAllowed}
+use Rattle.arc_view.specs.Admission.{Admits}
 use Rattle.arc_ops_passes.specs.Laws.{IsServedWord, NamesVariables}
 
 -- words and views as a table with no slot
@@ -43,7 +43,7 @@ pub record StepMade (shape : HeapShape) (step : Step) (intent : Intent) (words :
 
 abbrev pub PlainStepsKeep : Type 0
 PlainStepsKeep = (shape : HeapShape) (words : List ℕ) (views : List View) (id : ℕ) (v : View) (step : Step) (intent : Intent) (k : IsKept shape (table words views)) → get_elem? views id ≡ some v → v.role ≡ Pass →
-    IsAllowed shape v step intent → StepMade shape step intent words views id v k.log
+    Admits shape v step intent → StepMade shape step intent words views id v k.log
 
 -- The threads at work, each at the seat of its place, on words that show the history but for what is under way.
 pub record Replaying (shape : HeapShape) (work : ℕ → Work) (threads : List Thread) (words : List ℕ) (log : History) : Type 0 where

@@ -1,3 +1,4 @@
+//! The word of an object that says which object it is.
 ghost use Rattle.std.specs.Prelude.{◌≡◌};
 ghost use Rattle.arc_rule.specs.Isa.{isa_word_of, isa_name_of, IsName, IsIsaWord};
 

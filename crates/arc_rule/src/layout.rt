@@ -1,3 +1,4 @@
+//! Where each word of a heap lies, by its shape.
 ghost use Rattle.std.specs.Prelude.{◌≡◌, ◌≢◌, ◌≤◌, ◌<◌, ◌/◌, length};
 ghost use Rattle.arc_rule.specs.declared.layout.Place.TheVariants.{Global, Count, Isa, Next, Field, Link, Strong, Unowned, Weak, SlotBits, EntryBits};
 ghost use Rattle.arc_rule.specs.Bits.{words_of};

@@ -1,3 +1,4 @@
+//! What a plan comes to when it is asked: a step, or its answer.
 ghost use Rattle.std.specs.Prelude.{◌≡◌};
 ghost use Rattle.arc_rule.specs.Plans.{WaitsFor, FewerLeft, RestsOn, HoldsChange};
 

@@ -1,3 +1,4 @@
+//! An atomic step on one word, and what it is made for.
 use arc_model::{CellName, Kind, Origin};
 
 /// One atomic step on one word. What it gives back is the word that was found, but by a Store, which gives back 0, and that means nothing.

@@ -1,14 +1,15 @@
 -- Operations and drops begin, and the scope ends.
-use Rattle.std.proofs.Common.{◌≡◌, ◌≢◌, ℕ, zero, suc, ◌+◌, ◌<◌, ◌≤◌, Bool, true, false, not, cond, ltb, List, [], ◌∷◌, length, take, drop, set, get_or, Option, Some, None, ◌⊎◌, inl, inr, refl, sym, ap, subst, ◌∙◌, arith, add-one}
+use Rattle.std.proofs.Common.{◌≡◌, ◌≢◌, ℕ, zero, suc, ◌+◌, ◌<◌, ◌≤◌, Bool, true, false, not, cond, ltb, List, [], ◌∷◌, length, map, take, drop, set, get_or, Option, Some, None, ◌⊎◌, inl, inr, refl, sym, ap, subst, ◌∙◌, arith, add-one}
 use Rattle.std.proofs.lemmas.Bool.{ltb-true, ltb-false, lt-ltb, cases_lt}
 use Rattle.std.proofs.Math.ListN.{get_or-map}
 use Rattle.std.proofs.lemmas.List.{map-set, set-get_or, length-set, length-map, get_or-set_same, get_or-set_other, drop_all}
 use Rattle.std.proofs.lemmas.List.Elements.{All-set, recursion_from_All}
 use Rattle.std.proofs.lemmas.List.Quantifiers.{position-Some}
 use Rattle.std.proofs.lemmas.List.Sums.{prefix_len_passes}
-use Rattle.std.proofs.lemmas.Option.{slice_get_within}
-use Rattle.std.specs.Prelude.{slice_get, position, All}
+use Rattle.std.proofs.lemmas.Option.{slice_get_within, same_Some, slice_get-map}
+use Rattle.std.specs.Prelude.{slice_get, position, is_some}
 use Rattle.std.specs.List.{prefix_len, AllByRecursion}
+use Rattle.std.specs.Option.{option_map}
 use Rattle.arc_model.specs.declared.answer.Answer.TheVariants as answers
 use Rattle.arc_model.specs.declared.event.ObjectName.{ObjectName}
 use Rattle.arc_model.specs.Shapes.{HeapShape, class_at}
@@ -18,27 +19,29 @@ use Rattle.arc_plan.specs.declared.attempt.At.TheVariants as attempt
 use Rattle.arc_plan.specs.declared.slots.Making.TheVariants as search
 use Rattle.arc_script.specs.declared.script.Op.{Op}
 use Rattle.arc_script.specs.declared.script.Op.TheVariants as op
+use Rattle.arc_script.specs.OneList.{in_one_list, moved_behind, numbered}
+use Rattle.arc_script.proofs.OneList.{length_in_one}
 use Rattle.arc_ops.specs.declared.stepper.Held.{Held}
 use Rattle.arc_ops.specs.declared.stepper.Doing.TheVariants.{Ready, Ended}
 use Rattle.arc_ops.specs.declared.stepper.Move.TheVariants as moves
-use Rattle.arc_ops.specs.Programs.{ops_in_first}
+use Rattle.arc_ops.specs.Programs.{GoesForth, ops_in_first}
 use Rattle.arc_ops.specs.Served.{IsServedOp}
-use Rattle.arc_ops.specs.Thread.{Thread, HeldFits, value, is_held, put, set_var, skipped, moved, drop_from, creation_from, copy_from, drop_begun, begun_nil, begun_copy, begun_move, begun_drop, phase_over, begun_at, begun, scope_drop, scope_at, scope_begun, next_op, replaced_old, replaced}
+use Rattle.arc_ops.specs.Thread.{Thread, HeldFits, value, is_held, put, set_var, skipped, moved, drop_from, creation_from, copy_from, drop_begun, begun_nil, begun_copy, begun_move, begun_drop, phase_over, begun_op, begun_at, begun, scope_drop, scope_at, scope_begun, next_op, replaced_old, replaced}
 use Rattle.arc_schedule.specs.Made.{Point, Made}
 use Rattle.arc_schedule.specs.Plans.{Starts, new_object, strong_up, strong_down}
 use Rattle.arc_schedule.specs.Plans.Starts.{first as starts_first}
-use Rattle.arc_schedule.specs.Operations.{State, Holding, Variables, strong_to, next_name, Drops, Does}
+use Rattle.arc_schedule.specs.Operations.{State, Holding, Variables, strong_to, Drops, Does, goes_on}
 use Rattle.arc_schedule.specs.Operations.Drops.{nothing as drops_nothing}
 use Rattle.arc_schedule.specs.Operations.Does.{copies_nil, moves as does_move, moves_nil, drops as does_drop}
 use Rattle.arc_schedule.specs.Operations as operations
 use Rattle.arc_schedule.specs.Threads.{point_of, OpsDone, ScopeEnds}
-use Rattle.arc_schedule.specs.Threads.OpsDone.{none as ops_none, one as ops_one}
+use Rattle.arc_schedule.specs.Threads.OpsDone.{none as ops_none, one as ops_one, block as ops_block}
 use Rattle.arc_schedule.specs.Threads.PhasesDone.{one as phases_one}
 use Rattle.arc_schedule.specs.Threads.ScopeEnds.{none as scope_none, one as scope_one}
 use Rattle.arc_ops.proofs.Counts.{first_few, first_all}
 use Rattle.arc_schedule.proofs.Lists.{there-is, all-there, get-drop, nothing-left}
 use Rattle.arc_schedule.proofs.Phases.{all-ops, phase-next, phase-rest}
-use Rattle.arc_schedule.proofs.Stands.{waits, begun-from, Task, Job, start_of, ref, refs, state_of, AreDone, here, IsInScope, IsOverIf, IsOver, Works, WorksAt, AreIn, Stands}
+use Rattle.arc_schedule.proofs.Stands.{waits, begun-from, Task, Job, start_of, ref, refs, state_of, AreDone, here, IsInScope, IsOverIf, IsOver, AreServed, Works, WorksAt, AreIn, Stands}
 
 -- ---- variables
 
@@ -92,32 +95,79 @@ pub op-done : (k : Task) (j : Job k) (i : ℕ) (o : Op) (state new : State) (bas
     AreDone k j (i + 1) new after
 op-done k j i o state new base after d there does =
     let within : i < length j.ops = slice_get_within j.ops i o there in
-    let same : here k j i ≡ point_of k.thread j.phase (i + 1) = rw (lt-ltb i (length j.ops) within) refl in
+    let same : here k j i ≡ point_of k.thread j.phase (numbered (take (i + 1) j.ops)) = rw (lt-ltb i (length j.ops) within) refl in
     let Q : Point → Type 0 = λ (p : Point). Does k.shape p o state base new after in
     ops_one d there (subst Q same does)
 
-done-within : {shape : HeapShape} {thread phase : ℕ} {ops : List Op} {first : State} {b : List Made} {i : ℕ} {state : State} {now : List Made} → OpsDone shape thread phase ops first b i state now → i ≤ length ops
-done-within ops_none = omega arith
-done-within {ops = ops} (ops_one {i = i} {o = o} d there x) = let h = slice_get_within ops i o there in omega arith
+-- a block goes on behind its beginning, and within the phase
+on-within : (vars : Variables) (i end : ℕ) (o : Op) → i < end → GoesForth i end o → (i < goes_on vars i o) × (goes_on vars i o ≤ end)
+on-within vars i end (op.New to class) below g = (omega arith, omega arith)
+on-within vars i end (op.Copy to from) below g = (omega arith, omega arith)
+on-within vars i end (op.Move to from) below g = (omega arith, omega arith)
+on-within vars i end (op.Drop v) below g = (omega arith, omega arith)
+on-within vars i end (op.Unown to of) below g = (omega arith, omega arith)
+on-within vars i end (op.Weak to of) below g = (omega arith, omega arith)
+on-within vars i end (op.Load to of) below g = (omega arith, omega arith)
+on-within vars i end (op.Get to cell) below g = (omega arith, omega arith)
+on-within vars i end (op.Set cell from) below g = (omega arith, omega arith)
+on-within vars i end (op.IfNil v past) below g = go (is_some (operations.value vars v))
+  where
+    go : (b : Bool) → (i < cond b past (i + 1)) × (cond b past (i + 1) ≤ end)
+    go true = g
+    go false = (omega arith, omega arith)
+on-within vars i end (op.IfSome v past) below g = go (is_some (operations.value vars v))
+  where
+    go : (b : Bool) → (i < cond b (i + 1) past) × (cond b (i + 1) past ≤ end)
+    go true = (omega arith, omega arith)
+    go false = g
+
+done-within : {shape : HeapShape} {thread phase : ℕ} {ops : List Op} {first : State} {b : List Made} {i : ℕ} {state : State} {now : List Made} → AreServed ops → OpsDone shape thread phase ops first b i state now → i ≤ length ops
+done-within served ops_none = omega arith
+done-within {ops = ops} served (ops_one {i = i} {o = o} d there x) = let h = slice_get_within ops i o there in omega arith
+done-within {ops = ops} served (ops_block {i = i} {n = n} {o = o} {state = state} d there begins goes further) =
+    let h = on-within state.vars i (length ops) o (slice_get_within ops i o there) (served.forth i o there) in
+    let most = h.1 in
+    rw goes most
+
+-- a variable holds a reference where the stepper's does
+block-is : (vars : List (Option Held)) (v : ℕ) → is_some (operations.value (refs vars) v) ≡ is_held (value vars v)
+block-is vars v = ap (λ (o : Option Holding). is_some o) (value-ref vars v (value vars v) refl) ∙ same (value vars v)
+  where
+    same : (o : Option Held) → is_some (ref o) ≡ is_held o
+    same None = refl
+    same (Some h) = refl
 
 -- ---- phases
 
--- what is left of the stepper's phase
-pub rest-is : (k : Task) (j : Job k) (i : ℕ) (phases : List (List Op)) (program : List Op) (phase index : ℕ) → phases ≡ k.decl.phases → program ≡ all-ops k.decl.phases → phase ≡ j.phase → index ≡ start_of k j + i →
-    drop index (take (ops_in_first (phase + 1) phases) program) ≡ drop i j.ops
-rest-is k j i phases program phase index a b c d = rw (a, b, c, d, add-one) (phase-rest k.decl.phases j.phase i j.ops j.there)
+-- the operations of the phase as they stand in the stepper's program
+abbrev pub moved-ops : (k : Task) → Job k → List Op
+moved-ops k j = map (moved_behind (start_of k j)) j.ops
 
-works-next : {n : ℕ} (k : Task) (j : Job k) (i : ℕ) (t : Thread) → WorksAt k j i n t → Works k j (i + 1) n t.layout t.shape t.thread t.phases t.program t.phase (t.index + 1)
-works-next {n = n} k j i t works = record {
+in-map : (f : Op → Op) (found : Option Op) (o : Op) → option_map f found ≡ Some o → (x : Op) × (found ≡ Some x) × (f x ≡ o)
+in-map f None o e = absurd (cc)
+in-map f (Some x) o e = (x, refl, same_Some (f x) o e)
+
+-- what is left of the stepper's phase
+pub rest-is : (k : Task) (j : Job k) (i : ℕ) (phases : List (List Op)) (program : List Op) (phase index : ℕ) → phases ≡ k.decl.phases → program ≡ in_one_list 0 k.decl.phases → phase ≡ j.phase → index ≡ start_of k j + i →
+    drop index (take (ops_in_first (phase + 1) phases) program) ≡ drop i (moved-ops k j)
+rest-is k j i phases program phase index a b c d =
+    let start : 0 + start_of k j ≡ start_of k j = omega arith in
+    rw (a, b, c, d, add-one) (phase-rest 0 k.decl.phases j.phase i j.ops j.there ∙ ap (λ (m : ℕ). drop i (map (moved_behind m) j.ops)) start)
+
+works-at : {n : ℕ} (k : Task) (j : Job k) (i next : ℕ) (t : Thread) (index : ℕ) → WorksAt k j i n t → index ≡ start_of k j + next → Works k j next n t.layout t.shape t.thread t.phases t.program t.phase index
+works-at {n = n} k j i next t index works place = record {
   layout_is = works.layout_is;
   shape_is = works.shape_is;
   thread_is = works.thread_is;
   phases_is = works.phases_is;
   program_is = works.program_is;
   phase_is = works.phase_is;
-  index_is = let h = works.index_is in omega arith;
+  index_is = place;
   begun_is = works.begun_is;
 }
+
+works-next : {n : ℕ} (k : Task) (j : Job k) (i : ℕ) (t : Thread) → WorksAt k j i n t → Works k j (i + 1) n t.layout t.shape t.thread t.phases t.program t.phase (t.index + 1)
+works-next {n = n} k j i t works = works-at k j i (i + 1) t (t.index + 1) works (let h = works.index_is in omega arith)
 
 -- ---- plans begin
 
@@ -320,14 +370,12 @@ nil-begins {n = n} k j i t now works vars within to done rest skip None e =
     let Q : List (Option Held) → Type 0 = λ (vs : List (Option Held)). AreDone k j (i + 1) (state_of vs t.made t.hands) now in
     skip (subst Q same (done None e now drops_nothing))
 
--- the first operation of the rest that asks for a step begins, or the phase is over
-pub begins : {n : ℕ} (k : Task) (j : Job k) → All IsServedOp j.ops → (rest : List Op) (i : ℕ) (t : Thread) (now : List Made) → WorksAt k j i n t → AreIn k.shape t.vars →
-    rest ≡ drop i j.ops → AreDone k j i (state_of t.vars t.made t.hands) now → Stands k n (begun_at rest t) now
-begins {n = n} k j served [] i t now works vars r d =
-    let least = done-within d in
-    let most : length j.ops ≤ i = nothing-left j.ops i r in
-    phase-ends k j i t now works vars (omega arith) d
-begins {n = n} k j served (op.New to class ∷ rest) i t now works vars r d =
+-- the operation begins, and where it asks for no step, the thread goes on behind it
+begins-op : {n : ℕ} (k : Task) (j : Job k) → AreServed j.ops → (o : Op) (i : ℕ) (t : Thread) (now : List Made) → WorksAt k j i n t → AreIn k.shape t.vars →
+    slice_get j.ops i ≡ Some o → AreDone k j i (state_of t.vars t.made t.hands) now → (rest : Thread → Thread) →
+    ((on : ℕ) (u : Thread) → i < on → WorksAt k j on n u → AreIn k.shape u.vars → AreDone k j on (state_of u.vars u.made u.hands) now → Stands k n (rest u) now) →
+    Stands k n (begun_op (moved_behind (start_of k j) o) t rest) now
+begins-op {n = n} k j served (op.New to class) i t now works vars there d rest next =
     let name : ObjectName = record { class = class; thread = t.thread; number = t.made + 1 } in
     let same : record { layout = extent_of k.shape; name = name; immortal = (class_at k.shape class).immortal; at = search.Start } ≡ creation_from t name = rw (works.layout_is, works.shape_is) refl in
     record {
@@ -342,19 +390,16 @@ begins {n = n} k j served (op.New to class ∷ rest) i t now works vars r d =
         before = t.made;
         held = t.hands;
         done = d;
-        there = (get-drop j.ops rest i (op.New to class) r).0;
+        there = there;
         named = rw works.thread_is refl;
         waits = waits (new_object (extent_of k.shape) (class_at k.shape class).immortal name (t.hands + 1)) (here k j i) now now _ _
             (begun-from (new_object (extent_of k.shape) (class_at k.shape class).immortal name (t.hands + 1)) (here k j i) now now (creation_from t name) starts_first same);
         count = (refl, refl);
       };
     }
-begins {n = n} k j served (op.Copy to from ∷ rest) i t now works vars r d = copying (value t.vars from) refl (λ e.
-    begins k j served rest (i + 1) (skipped answers.Nil t) now (works-next k j i t works) vars (get-drop j.ops rest i (op.Copy to from) r).1 e)
+begins-op {n = n} k j served (op.Copy to from) i t now works vars there d rest next = copying (value t.vars from) refl (λ e.
+    next (i + 1) (skipped answers.Nil t) (omega arith) (works-next k j i t works) vars e)
   where
-    there : slice_get j.ops i ≡ Some (op.Copy to from)
-    there = (get-drop j.ops rest i (op.Copy to from) r).0
-
     nil_done : value t.vars from ≡ None → (old : Option Held) → value t.vars to ≡ old → (after : List Made) → Drops k.shape (here k j i) (ref old) now after →
         AreDone k j (i + 1) (state_of (set t.vars to None) t.made t.hands) after
     nil_done e old f after x =
@@ -362,8 +407,8 @@ begins {n = n} k j served (op.Copy to from ∷ rest) i t now works vars r d = co
         op-done k j i (op.Copy to from) (state_of t.vars t.made t.hands) (state_of (set t.vars to None) t.made t.hands) now after d there
         (copies_nil (value-ref t.vars from None e) (subst Q (sym (value-ref t.vars to old f)) x) (ap (λ (vs : Variables). record { vars = vs; made = t.made; hands = t.hands }) (put-ref t.vars to None)))
 
-    copying : (source : Option Held) → value t.vars from ≡ source → (AreDone k j (i + 1) (state_of t.vars t.made t.hands) now → Stands k n (begun_at rest (skipped answers.Nil t)) now) →
-        Stands k n (begun_copy to source (value t.vars to) t (λ (behind : Thread). begun_at rest behind)) now
+    copying : (source : Option Held) → value t.vars from ≡ source → (AreDone k j (i + 1) (state_of t.vars t.made t.hands) now → Stands k n (rest (skipped answers.Nil t)) now) →
+        Stands k n (begun_copy to source (value t.vars to) t rest) now
     copying (Some h) e skip =
         let same : record { layout = extent_of k.shape; slot = h.place; cap = k.shape.caps.strong; at = attempt.Start } ≡ copy_from t h = rw (works.layout_is, works.shape_is) refl in
         record {
@@ -385,14 +430,11 @@ begins {n = n} k j served (op.Copy to from ∷ rest) i t now works vars r d = co
           };
         }
     copying None e skip =
-        nil-begins k j i t now works vars (slice_get_within j.ops i (op.Copy to from) there) to (nil_done e) (λ (behind : Thread). begun_at rest behind) skip (value t.vars to) refl
-begins {n = n} k j served (op.Move to from ∷ rest) i t now works vars r d = moving (value t.vars from) refl (λ e.
-    begins k j served rest (i + 1) (skipped answers.Nil t) now (works-next k j i t works) vars (get-drop j.ops rest i (op.Move to from) r).1 e) (λ h e x.
-    begins k j served rest (i + 1) (moved to from h (skipped answers.Ok t)) now (works-next k j i t works) (moved-in h e) (get-drop j.ops rest i (op.Move to from) r).1 x)
+        nil-begins k j i t now works vars (slice_get_within j.ops i (op.Copy to from) there) to (nil_done e) rest skip (value t.vars to) refl
+begins-op {n = n} k j served (op.Move to from) i t now works vars there d rest next = moving (value t.vars from) refl (λ e.
+    next (i + 1) (skipped answers.Nil t) (omega arith) (works-next k j i t works) vars e) (λ h e x.
+    next (i + 1) (moved to from h (skipped answers.Ok t)) (omega arith) (works-next k j i t works) (moved-in h e) x)
   where
-    there : slice_get j.ops i ≡ Some (op.Move to from)
-    there = (get-drop j.ops rest i (op.Move to from) r).0
-
     within : i < length j.ops
     within = slice_get_within j.ops i (op.Move to from) there
 
@@ -415,23 +457,20 @@ begins {n = n} k j served (op.Move to from ∷ rest) i t now works vars r d = mo
         op-done k j i (op.Move to from) (state_of t.vars t.made t.hands) (state_of (set (set t.vars to (Some h)) from None) t.made t.hands) now after d there
         (does_move (value-ref t.vars from (Some h) e) (subst Q (sym (value-ref t.vars to old f)) x) (ap (λ (vs : Variables). record { vars = vs; made = t.made; hands = t.hands }) vars_are))
 
-    moving : (source : Option Held) → value t.vars from ≡ source → (AreDone k j (i + 1) (state_of t.vars t.made t.hands) now → Stands k n (begun_at rest (skipped answers.Nil t)) now) →
-        ((h : Held) → value t.vars from ≡ Some h → AreDone k j (i + 1) (state_of (set (set t.vars to (Some h)) from None) t.made t.hands) now → Stands k n (begun_at rest (moved to from h (skipped answers.Ok t))) now) →
-        Stands k n (begun_move to from source (value t.vars to) t (λ (behind : Thread). begun_at rest behind)) now
-    moving None e skip on = nil-begins k j i t now works vars within to (nil_done e) (λ (behind : Thread). begun_at rest behind) skip (value t.vars to) refl
+    moving : (source : Option Held) → value t.vars from ≡ source → (AreDone k j (i + 1) (state_of t.vars t.made t.hands) now → Stands k n (rest (skipped answers.Nil t)) now) →
+        ((h : Held) → value t.vars from ≡ Some h → AreDone k j (i + 1) (state_of (set (set t.vars to (Some h)) from None) t.made t.hands) now → Stands k n (rest (moved to from h (skipped answers.Ok t))) now) →
+        Stands k n (begun_move to from source (value t.vars to) t rest) now
+    moving None e skip on = nil-begins k j i t now works vars within to (nil_done e) rest skip (value t.vars to) refl
     moving (Some h) e skip on = dropping (value t.vars to) refl
       where
-        dropping : (old : Option Held) → value t.vars to ≡ old → Stands k n (begun_move to from (Some h) old t (λ (behind : Thread). begun_at rest behind)) now
+        dropping : (old : Option Held) → value t.vars to ≡ old → Stands k n (begun_move to from (Some h) old t rest) now
         dropping None f = on h e (moved_done h e None f now drops_nothing)
         dropping (Some old) f =
             drop-asks k j i (moved to from h (put answers.Ok (record t { first = true }))) old now now works (moved-in h e) (held-in k.shape t.vars to old vars f) starts_first
             (λ after x. over-done k j i (set (set t.vars to (Some h)) from None) t.made t.hands after within (moved_done h e (Some old) f after x))
-begins {n = n} k j served (op.Drop v ∷ rest) i t now works vars r d = dropping (value t.vars v) refl (λ e.
-    begins k j served rest (i + 1) (skipped answers.Nil t) now (works-next k j i t works) vars (get-drop j.ops rest i (op.Drop v) r).1 (stays e))
+begins-op {n = n} k j served (op.Drop v) i t now works vars there d rest next = dropping (value t.vars v) refl (λ e.
+    next (i + 1) (skipped answers.Nil t) (omega arith) (works-next k j i t works) vars (stays e))
   where
-    there : slice_get j.ops i ≡ Some (op.Drop v)
-    there = (get-drop j.ops rest i (op.Drop v) r).0
-
     within : i < length j.ops
     within = slice_get_within j.ops i (op.Drop v) there
 
@@ -448,19 +487,62 @@ begins {n = n} k j served (op.Drop v ∷ rest) i t now works vars r d = dropping
         let Q : List (Option Held) → Type 0 = λ (vs : List (Option Held)). AreDone k j (i + 1) (state_of vs t.made t.hands) now in
         subst Q same (dropped None f now drops_nothing)
 
-    dropping : (old : Option Held) → value t.vars v ≡ old → (value t.vars v ≡ None → Stands k n (begun_at rest (skipped answers.Nil t)) now) →
-        Stands k n (begun_drop v old t (λ (behind : Thread). begun_at rest behind)) now
+    dropping : (old : Option Held) → value t.vars v ≡ old → (value t.vars v ≡ None → Stands k n (rest (skipped answers.Nil t)) now) →
+        Stands k n (begun_drop v old t rest) now
     dropping (Some old) e skip =
         drop-asks k j i (set_var v None (put answers.Ok (record t { first = true }))) old now now works (nil-in k.shape t.vars v vars) (held-in k.shape t.vars v old vars e) starts_first
         (λ after x. over-done k j i (set t.vars v None) t.made t.hands after within (dropped (Some old) e after x))
     dropping None e skip = skip e
-begins {n = n} k j served (op.Unown to of ∷ rest) i t now works vars r d = absurd (all-there IsServedOp j.ops i (op.Unown to of) served (get-drop j.ops rest i (op.Unown to of) r).0)
-begins {n = n} k j served (op.Weak to of ∷ rest) i t now works vars r d = absurd (all-there IsServedOp j.ops i (op.Weak to of) served (get-drop j.ops rest i (op.Weak to of) r).0)
-begins {n = n} k j served (op.Load to of ∷ rest) i t now works vars r d = absurd (all-there IsServedOp j.ops i (op.Load to of) served (get-drop j.ops rest i (op.Load to of) r).0)
-begins {n = n} k j served (op.Get to cell ∷ rest) i t now works vars r d = absurd (all-there IsServedOp j.ops i (op.Get to cell) served (get-drop j.ops rest i (op.Get to cell) r).0)
-begins {n = n} k j served (op.Set cell from ∷ rest) i t now works vars r d = absurd (all-there IsServedOp j.ops i (op.Set cell from) served (get-drop j.ops rest i (op.Set cell from) r).0)
-begins {n = n} k j served (op.IfNil v past ∷ rest) i t now works vars r d = absurd (all-there IsServedOp j.ops i (op.IfNil v past) served (get-drop j.ops rest i (op.IfNil v past) r).0)
-begins {n = n} k j served (op.IfSome v past ∷ rest) i t now works vars r d = absurd (all-there IsServedOp j.ops i (op.IfSome v past) served (get-drop j.ops rest i (op.IfSome v past) r).0)
+begins-op {n = n} k j served (op.Unown to of) i t now works vars there d rest next = absurd (all-there IsServedOp j.ops i (op.Unown to of) served.served there)
+begins-op {n = n} k j served (op.Weak to of) i t now works vars there d rest next = absurd (all-there IsServedOp j.ops i (op.Weak to of) served.served there)
+begins-op {n = n} k j served (op.Load to of) i t now works vars there d rest next = absurd (all-there IsServedOp j.ops i (op.Load to of) served.served there)
+begins-op {n = n} k j served (op.Get to cell) i t now works vars there d rest next = absurd (all-there IsServedOp j.ops i (op.Get to cell) served.served there)
+begins-op {n = n} k j served (op.Set cell from) i t now works vars there d rest next = absurd (all-there IsServedOp j.ops i (op.Set cell from) served.served there)
+begins-op {n = n} k j served (op.IfNil v past) i t now works vars there d rest next = go (is_held (value t.vars v)) refl
+  where
+    go : (b : Bool) → is_held (value t.vars v) ≡ b → Stands k n (rest (record t { index = cond b (start_of k j + past) (t.index + 1) })) now
+    go true e =
+        next past (record t { index = start_of k j + past }) (served.forth i (op.IfNil v past) there).0 (works-at k j i past t (start_of k j + past) works refl) vars
+        (ops_block d there refl (ap (λ (b : Bool). cond b past (i + 1)) (sym e ∙ sym (block-is t.vars v))) (served.forth i (op.IfNil v past) there).0)
+    go false e =
+        next (i + 1) (record t { index = t.index + 1 }) (omega arith) (works-next k j i t works) vars
+        (ops_block d there refl (ap (λ (b : Bool). cond b past (i + 1)) (sym e ∙ sym (block-is t.vars v))) (omega arith))
+begins-op {n = n} k j served (op.IfSome v past) i t now works vars there d rest next = go (is_held (value t.vars v)) refl
+  where
+    go : (b : Bool) → is_held (value t.vars v) ≡ b → Stands k n (rest (record t { index = cond b (t.index + 1) (start_of k j + past) })) now
+    go true e =
+        next (i + 1) (record t { index = t.index + 1 }) (omega arith) (works-next k j i t works) vars
+        (ops_block d there refl (ap (λ (b : Bool). cond b (i + 1) past) (sym e ∙ sym (block-is t.vars v))) (omega arith))
+    go false e =
+        next past (record t { index = start_of k j + past }) (served.forth i (op.IfSome v past) there).0 (works-at k j i past t (start_of k j + past) works refl) vars
+        (ops_block d there refl (ap (λ (b : Bool). cond b (i + 1) past) (sym e ∙ sym (block-is t.vars v))) (served.forth i (op.IfSome v past) there).0)
+
+-- the first operation of the rest that asks for a step begins, or the phase is over
+pub begins : {n : ℕ} (k : Task) (j : Job k) → AreServed j.ops → (rest : List Op) (place at i : ℕ) (t : Thread) (now : List Made) → WorksAt k j i n t → AreIn k.shape t.vars →
+    place ≡ start_of k j + at → at ≤ i → rest ≡ drop at (moved-ops k j) → AreDone k j i (state_of t.vars t.made t.hands) now → Stands k n (begun_at place rest t) now
+begins {n = n} k j served [] place at i t now works vars place_is least r d =
+    let within = done-within served d in
+    let most : length (moved-ops k j) ≤ at = nothing-left (moved-ops k j) at r in
+    let long : length (moved-ops k j) ≡ length j.ops = length-map j.ops (moved_behind (start_of k j)) in
+    phase-ends k j i t now works vars (omega arith) d
+begins {n = n} k j served (o ∷ rest) place at i t now works vars place_is least r d =
+    go (λ on u past works_on vars_on done. begins k j served rest (place + 1) (at + 1) on u now works_on vars_on (omega (arith, place_is)) past (get-drop (moved-ops k j) rest at o r).1 done) (ltb place t.index) refl
+  where
+    go : ((on : ℕ) (u : Thread) → at + 1 ≤ on → WorksAt k j on n u → AreIn k.shape u.vars → AreDone k j on (state_of u.vars u.made u.hands) now → Stands k n (begun_at (place + 1) rest u) now) →
+        (b : Bool) → ltb place t.index ≡ b → Stands k n (cond b (begun_at (place + 1) rest t) (begun_op o t (λ (behind : Thread). begun_at (place + 1) rest behind))) now
+    go next true e =
+        let below = ltb-true place t.index e in
+        let index = works.index_is in
+        next i t (omega (arith, below, index, place_is)) works vars d
+    go next false e =
+        let past = ltb-false place t.index e in
+        let index = works.index_is in
+        let here_is : at ≡ i = omega (arith, past, index, place_is, least) in
+        let there : slice_get (moved-ops k j) at ≡ Some o = (get-drop (moved-ops k j) rest at o r).0 in
+        let x = in-map (moved_behind (start_of k j)) (slice_get j.ops at) o (sym (slice_get-map (moved_behind (start_of k j)) j.ops at) ∙ there) in
+        let Q : Op → Type 0 = λ (y : Op). Stands k n (begun_op y t (λ (behind : Thread). begun_at (place + 1) rest behind)) now in
+        subst Q x.2 (begins-op k j served x.0 i t now works vars (ap (λ (m : ℕ). slice_get j.ops m) (sym here_is) ∙ x.1) d (λ (behind : Thread). begun_at (place + 1) rest behind)
+        (λ on u further. next on u (omega (arith, further, here_is))))
 
 -- ---- what was under way is over
 
@@ -469,7 +551,7 @@ program-many : {n : ℕ} (k : Task) (j : Job k) (i : ℕ) (t : Thread) → Works
 program-many {n = n} k j i t works within =
     let next = phase-next k.decl.phases j.phase j.ops j.there in
     let few = first_few (suc j.phase) k.decl.phases in
-    let many : length t.program ≡ length (all-ops k.decl.phases) = ap (λ (os : List Op). length os) works.program_is in
+    let many : length t.program ≡ length (all-ops k.decl.phases) = ap (λ (os : List Op). length os) works.program_is ∙ length_in_one 0 k.decl.phases in
     let index : t.index ≡ ops_in_first j.phase k.decl.phases + i = works.index_is in
     lt-ltb t.index (length t.program) (omega arith)
 
@@ -482,11 +564,11 @@ program-over {n = n} k j i t works most last = go (ltb t.index (length t.program
         let below = ltb-true t.index (length t.program) e in
         let next = phase-next k.decl.phases j.phase j.ops j.there in
         let whole = first_all (suc j.phase) k.decl.phases (omega arith) in
-        let many : length t.program ≡ length (all-ops k.decl.phases) = ap (λ (os : List Op). length os) works.program_is in
+        let many : length t.program ≡ length (all-ops k.decl.phases) = ap (λ (os : List Op). length os) works.program_is ∙ length_in_one 0 k.decl.phases in
         let index : t.index ≡ ops_in_first j.phase k.decl.phases + i = works.index_is in
         absurd (omega arith)
 
-pub goes-on : {n : ℕ} (k : Task) (j : Job k) → All IsServedOp j.ops → (i : ℕ) (t : Thread) (now : List Made) → WorksAt k j i n t → AreIn k.shape t.vars → IsOver k j i t.vars t.made t.hands now → Stands k n (next_op t) now
+pub goes-on : {n : ℕ} (k : Task) (j : Job k) → AreServed j.ops → (i : ℕ) (t : Thread) (now : List Made) → WorksAt k j i n t → AreIn k.shape t.vars → IsOver k j i t.vars t.made t.hands now → Stands k n (next_op t) now
 goes-on {n = n} k j served i t now works vars over = go (ltb i (length j.ops)) refl over
   where
     At : Bool → Type 0
@@ -494,18 +576,20 @@ goes-on {n = n} k j served i t now works vars over = go (ltb i (length j.ops)) r
 
     go : (b : Bool) → ltb i (length j.ops) ≡ b → IsOverIf b k j i t.vars t.made t.hands now → Stands k n (next_op t) now
     go true e over =
-        let rest : drop (t.index + 1) (take (ops_in_first (t.phase + 1) t.phases) t.program) ≡ drop (i + 1) j.ops =
+        let rest : drop (t.index + 1) (take (ops_in_first (t.phase + 1) t.phases) t.program) ≡ drop (i + 1) (moved-ops k j) =
         rest-is k j (i + 1) t.phases t.program t.phase (t.index + 1) works.phases_is works.program_is works.phase_is (works-next k j i t works).index_is in
         subst At (sym (program-many k j i t works (ltb-true i (length j.ops) e)))
-        (begins k j served (drop (t.index + 1) (take (ops_in_first (t.phase + 1) t.phases) t.program)) (i + 1) (record t { doing = Ended; index = t.index + 1 }) now (works-next k j i t works) vars rest over)
+        (begins k j served (drop (t.index + 1) (take (ops_in_first (t.phase + 1) t.phases) t.program)) (t.index + 1) (i + 1) (i + 1) (record t { doing = Ended; index = t.index + 1 }) now (works-next k j i t works) vars
+        (works-next k j i t works).index_is (omega arith) rest over)
     go false e over =
         let past = ltb-false i (length j.ops) e in
-        let rest : drop t.index (take (ops_in_first (t.phase + 1) t.phases) t.program) ≡ drop i j.ops = rest-is k j i t.phases t.program t.phase t.index works.phases_is works.program_is works.phase_is works.index_is in
-        let none : drop i j.ops ≡ [] = drop_all i j.ops past in
+        let rest : drop t.index (take (ops_in_first (t.phase + 1) t.phases) t.program) ≡ drop i (moved-ops k j) = rest-is k j i t.phases t.program t.phase t.index works.phases_is works.program_is works.phase_is works.index_is in
+        let long : length (moved-ops k j) ≡ length j.ops = length-map j.ops (moved_behind (start_of k j)) in
+        let none : drop i (moved-ops k j) ≡ [] = drop_all i (moved-ops k j) (omega (arith, past, long)) in
         let last : j.phase + 1 ≡ length k.decl.phases = over.last in
         let same : t.phase ≡ j.phase = works.phase_is in
         let many : length t.phases ≡ length k.decl.phases = ap (λ (ps : List (List Op)). length ps) works.phases_is in
-        let Q : List Op → Type 0 = λ (os : List Op). Stands k n (begun_at os (record t { doing = Ended; index = t.index })) now in
+        let Q : List Op → Type 0 = λ (os : List Op). Stands k n (begun_at t.index os (record t { doing = Ended; index = t.index })) now in
         let R : Bool → Type 0 = λ (b : Bool). Stands k n (cond b (record t { doing = Ready; asked = moves.PhaseEnd; phase = t.phase + 1; index = t.index }) (scope_begun (record t { doing = Ended; index = t.index }))) now in
         let no_more : ltb (t.phase + 1) (length t.phases) ≡ false = not_below (ltb (t.phase + 1) (length t.phases)) refl (omega arith) in
         subst At (sym (program-over k j i t works past last))
@@ -516,7 +600,7 @@ goes-on {n = n} k j served i t now works vars over = go (ltb i (length j.ops)) r
         not_below true e most = let below = ltb-true (t.phase + 1) (length t.phases) e in absurd (omega arith)
 
 -- the destination has its new reference, and what it held is dropped last
-pub replaces : {n : ℕ} (k : Task) (j : Job k) → All IsServedOp j.ops → (i : ℕ) (t : Thread) (to : ℕ) (held : Held) (now : List Made) → WorksAt k j i n t → AreIn k.shape t.vars → held.place < k.shape.slots → i < length j.ops →
+pub replaces : {n : ℕ} (k : Task) (j : Job k) → AreServed j.ops → (i : ℕ) (t : Thread) (to : ℕ) (held : Held) (now : List Made) → WorksAt k j i n t → AreIn k.shape t.vars → held.place < k.shape.slots → i < length j.ops →
     ((after : List Made) → Drops k.shape (here k j i) (operations.value (refs t.vars) to) now after → AreDone k j (i + 1) (state_of (set t.vars to (Some held)) t.made t.hands) after) →
     Stands k n (replaced to held t) now
 replaces {n = n} k j served i t to held now works vars inside within ends = go (value t.vars to) refl

@@ -37,9 +37,9 @@ behind p t step places s = stepped p t step (record s { places = places })
 abbrev IsOrdered : Script → Stage → List Made → (p : ℕ) → Thread → Stage → Type 0
 IsOrdered script s ms p t after = (m : Made) (left : List Made) → MadeBy script s p t m → AreCalm (extent_of script.shape) (m ∷ ms) → IsAhead script after (m ∷ ms) left → IsAhead script s ms (m ∷ left)
 
-steps-on : (script : Script) (some : 0 < script.shape.slots) → IsServed script → (s : Stage) (p : ℕ) (places : List ℕ) (t : Thread) (step : Step) (intent : Intent) → (f : Follows script some s) → 1 ≤ p → MayStep s p t step intent →
+steps-on : (script : Script) (some : 0 < script.shape.slots) → IsScript script → IsServed script → (s : Stage) (p : ℕ) (places : List ℕ) (t : Thread) (step : Step) (intent : Intent) → (f : Follows script some s) → 1 ≤ p → MayStep s p t step intent →
     IsOrdered script s f.ms p t (behind p t step places s) → Follows script some (behind p t step places s)
-steps-on script some served s p places t step intent f other may ordered = go (p - 1) (omega arith)
+steps-on script some valid served s p places t step intent f other may ordered = go (p - 1) (omega arith)
   where
     found : ℕ
     found = found_by step s.words
@@ -100,7 +100,7 @@ steps-on script some served s p places t step intent f other may ordered = go (p
 
             kept : Stands k s.begun new (own (i + 1) (m ∷ f.ms))
             kept = subst (λ (xs : List Made). Stands k s.begun new xs) (sym (own-this m f.ms (i + 1) refl))
-                (keeps k s.begun t step found (own (i + 1) f.ms) st (job-served script served i d.0 d.1 st.job.phase st.job.ops st.job.there) served.without_fields asked may.takes_it)
+                (keeps k s.begun t step found (own (i + 1) f.ms) st (job-served script valid served i d.0 d.1 st.job.phase st.job.ops st.job.there) served.without_fields asked may.takes_it)
 
             stand : AllStand script some s.begun (set s.threads p new) (m ∷ f.ms)
             stand x decl u at get = which (eqb i x) refl
@@ -160,13 +160,13 @@ follows script valid served some (begins {s = s} r quiet waits takes) =
       calm = f.calm;
       threads_in = f.threads_in;
       many = begun-many s.threads ∙ f.many;
-      stand = λ i decl t there get. begun-stands script served some s f.ms f.stand quiet takes i decl t there get;
+      stand = λ i decl t there get. begun-stands script valid served some s f.ms f.stand quiet takes i decl t there get;
       first = λ t e. f.first t (begun-first s.threads t e);
       order = λ left a. f.order left (ahead-begins script s (begun_threads s.threads) f.ms left quiet f.calm a);
     }
 follows script valid served some (makes {s = s} {p = p} {places = places} {t = t} step intent r place other may) =
     let f = follows script valid served some r in
-    steps-on script some served s p places t step intent f other may
+    steps-on script some valid served s p places t step intent f other may
     (λ m left h calms a. ahead-makes script s p places t (turned t (Some (found_by step s.words))) m f.ms left place calms h (behind p t step places s) refl refl refl a)
 follows script valid served some (passes {s = s} {p = p} {places = places} {t = t} r place other there has waits) =
     let f = follows script valid served some r in
@@ -185,7 +185,7 @@ follows script valid served some (passes {s = s} {p = p} {places = places} {t = 
     }
 follows script valid served some (by_number {s = s} {p = p} {t = t} step intent r place other below may) =
     let f = follows script valid served some r in
-    steps-on script some served s p s.places t step intent f other may
+    steps-on script some valid served s p s.places t step intent f other may
     (λ m left h calms a. ahead-by-number script s p t (turned t (Some (found_by step s.words))) m f.ms left place below h (behind p t step s.places s) refl refl refl f.many a)
 follows script valid served some (last {s = s} {t = t} r quiet none there waits takes) =
     let f = follows script valid served some r in

@@ -1,9 +1,9 @@
 -- Each word that a stepper is given keeps what it stands for, with the step that found it.
 use Rattle.std.proofs.Common.{◌≡◌, ℕ, zero, suc, ◌+◌, ◌<◌, Bool, true, false, cond, eqb, ltb, List, [], ◌∷◌, length, take, drop, set, get_or, Option, Some, None, refl, sym, ap, subst, ◌∙◌, arith}
-use Rattle.std.proofs.lemmas.Bool.{eqb-true, ltb-true}
+use Rattle.std.proofs.lemmas.Bool.{eqb-true}
 use Rattle.std.proofs.lemmas.Option.{same_Some, slice_get_within}
 use Rattle.std.proofs.lemmas.List.Elements.{recursion_from_All}
-use Rattle.std.specs.Prelude.{All, bit_and}
+use Rattle.std.specs.Prelude.{bit_and}
 use Rattle.std.specs.List.{AllByRecursion}
 use Rattle.arc_bits.specs.declared.packing.Word.{Word}
 use Rattle.arc_bits.specs.declared.packing.Word.TheVariants.{Free, Counts, Slow, Immortal}
@@ -51,7 +51,6 @@ use Rattle.arc_ops.specs.declared.stepper.Held.{Held}
 use Rattle.arc_ops.specs.declared.stepper.Doing.{Doing}
 use Rattle.arc_ops.specs.declared.stepper.Doing.TheVariants.{Ready, Making, Copying, Dropping, Dying, Ended}
 use Rattle.arc_ops.specs.declared.stepper.Move.TheVariants as moves
-use Rattle.arc_ops.specs.Served.{IsServedOp}
 use Rattle.arc_ops.specs.Thread.{Thread, put, made_on, creation_from, copied_on, copy_from, dropped_on, dying_on, phase_end, IsUpWord, IsUpWordAt, IsUpAnswer, IsDownAnswer, turned_at, turned, takes_at, takes}
 use Rattle.arc_schedule.specs.Made.{Point, Made, made_at}
 use Rattle.arc_schedule.specs.Plans.{Plan, Reaches, Gives, new_object, strong_up, strong_down, finish, vacate, making_told, told_by, up_told, down_told, finish_told, vacate_told}
@@ -62,7 +61,7 @@ use Rattle.arc_schedule.specs.Operations.FieldsDone.{entered}
 use Rattle.arc_schedule.specs.Operations.IsCascade.{more as cascade_more, last as cascade_last}
 use Rattle.arc_schedule.specs.Operations.Drops.{more as drops_more, last as drops_last}
 use Rattle.arc_schedule.specs.Operations.Does.{makes as does_make, full as does_full, copies as does_copy}
-use Rattle.arc_schedule.proofs.Stands.{Gave, waits, begun-from, given, gives, starts-again, Waits, Task, Job, state_of, here, MadeUpTo, IsMaking, IsCopying, IsDropping, AllDone, IsFinishing, IsVacating, CascadeUpTo, IsDying, step_in, UpTo, WorksAt, AreIn, IsIn, Stands}
+use Rattle.arc_schedule.proofs.Stands.{Gave, waits, begun-from, given, gives, starts-again, Waits, Task, Job, state_of, here, MadeUpTo, IsMaking, IsCopying, IsDropping, AllDone, IsFinishing, IsVacating, CascadeUpTo, IsDying, step_in, UpTo, AreServed, WorksAt, AreIn, IsIn, Stands}
 use Rattle.arc_schedule.proofs.Begins.{value-ref, put-ref, over-done, op-done, drop-asks, rest-is, begins, goes-on, replaces}
 use Rattle.arc_schedule.proofs.Tells.{idle, makes-tells, copies-tells, drops-tells, finish-tells, vacates-tells}
 
@@ -160,7 +159,7 @@ creation-layout l immortal name hand (reaches_next r e) = creation-layout l immo
 making-layout : (l : Extent) (immortal : Bool) (name : ObjectName) (hand : ℕ) {point : Point} {b ns : List Made} {p : Creation} {asked : Option Step} → Waits (new_object l immortal name hand) point b ns p asked → p.layout ≡ l
 making-layout l immortal name hand w = sym (ap (λ (q : Creation). q.layout) w.gave.turned) ∙ creation-layout l immortal name hand w.gave.reaches
 
-makes : {n : ℕ} (k : Task) (j : Job k) → All IsServedOp j.ops → (i : ℕ) (t : Thread) (s : Step) (w : ℕ) (now : List Made) → WorksAt k j i n t → AreIn k.shape t.vars →
+makes : {n : ℕ} (k : Task) (j : Job k) → AreServed j.ops → (i : ℕ) (t : Thread) (s : Step) (w : ℕ) (now : List Made) → WorksAt k j i n t → AreIn k.shape t.vars →
     (to : ℕ) (name : ObjectName) (plan : Creation) (u : IsMaking k j i to name plan t.vars t.made t.hands (Some s) now) →
     Stands k n (made_on to name (creation_turned plan (Some w)) (creation_answer plan (Some w)) (idle t)) (made_at (here k j i) s w (making_told (u.held + 1) name.class plan.at (creation_answer plan (Some w))) ∷ now)
 makes {n = n} k j served i t s w now works vars to name plan u = go plan.at u.count (given new (here k j i) u.base now plan s w u.waits)
@@ -251,7 +250,7 @@ makes {n = n} k j served i t s w now works vars to name plan u = go plan.at u.co
 
 -- ---- a reference is copied
 
-copies : {n : ℕ} (k : Task) (j : Job k) → All IsServedOp j.ops → (i : ℕ) (t : Thread) (s : Step) (w : ℕ) (now : List Made) → WorksAt k j i n t → AreIn k.shape t.vars →
+copies : {n : ℕ} (k : Task) (j : Job k) → AreServed j.ops → (i : ℕ) (t : Thread) (s : Step) (w : ℕ) (now : List Made) → WorksAt k j i n t → AreIn k.shape t.vars →
     (to : ℕ) (held : Held) (plan : CappedAttempt) → IsCopying k j i to held plan t.vars t.made t.hands (Some s) now → strong_up_takes plan (Some w) → IsUpWordAt plan.cap plan.at w →
     Stands k n (copied_on to held (strong_up_turned plan (Some w)) (strong_up_answer plan (Some w)) (idle t)) (made_at (here k j i) s w (told_by (up_told held.hand (t.hands + 1)) (strong_up_answer plan (Some w))) ∷ now)
 copies {n = n} k j served i t s w now works vars to held plan u takes fits =
@@ -297,7 +296,7 @@ copies {n = n} k j served i t s w now works vars to held plan u takes fits =
 
 -- ---- a reference is dropped
 
-drops : {n : ℕ} (k : Task) (j : Job k) → All IsServedOp j.ops → (i : ℕ) (t : Thread) (s : Step) (w : ℕ) (now : List Made) → WorksAt k j i n t → AreIn k.shape t.vars →
+drops : {n : ℕ} (k : Task) (j : Job k) → AreServed j.ops → (i : ℕ) (t : Thread) (s : Step) (w : ℕ) (now : List Made) → WorksAt k j i n t → AreIn k.shape t.vars →
     (held : Held) (plan : Attempt) → IsDropping k j i held plan t.vars t.made t.hands (Some s) now → IsInlineAt plan.at w →
     Stands k n (dropped_on held (strong_down_turned plan (Some w)) (strong_down_answer plan (Some w)) (idle t)) (made_at (here k j i) s w (told_by (down_told held.hand) (strong_down_answer plan (Some w))) ∷ now)
 drops {n = n} k j served i t s w now works vars held plan u fits =
@@ -346,7 +345,7 @@ all-done shape point slot isa base now bare d =
     let none : length (class_at shape (isa_name_of isa).class).fields ≡ 0 = no_fields shape.classes (isa_name_of isa).class (recursion_from_All (λ (c : ObjectClass). c.fields ≡ []) shape.classes bare) in
     record { isa = isa; done = rw none d }
 
-dies-on : {n : ℕ} (k : Task) (j : Job k) → All IsServedOp j.ops → HasNoFields k.shape → (i : ℕ) (t : Thread) (s : Step) (w : ℕ) (now : List Made) → WorksAt k j i n t → AreIn k.shape t.vars →
+dies-on : {n : ℕ} (k : Task) (j : Job k) → AreServed j.ops → HasNoFields k.shape → (i : ℕ) (t : Thread) (s : Step) (w : ℕ) (now : List Made) → WorksAt k j i n t → AreIn k.shape t.vars →
     (c : CascadeState) → IsDying k j i c t.vars t.made t.hands (Some s) now → cascade_takes c (Some w) →
     Stands k n (dying_on (cascade_turned c (Some w)) (cascade_answer c (Some w)) (record (idle t) { event = (cascade_turned c (Some w)).event }))
     (made_at (here k j i) s w (dying_on (cascade_turned c (Some w)) (cascade_answer c (Some w)) (record (idle t) { event = (cascade_turned c (Some w)).event })).event ∷ now)
@@ -490,7 +489,7 @@ dies-on {n = n} k j served bare i t s w now works vars c u takes = go c.at u.pla
 -- ---- the stepper
 
 -- Each word that it is given is that of a step of the operation under way, with the event that it tells.
-pub keeps : (k : Task) (n : ℕ) (t : Thread) (s : Step) (w : ℕ) (now : List Made) (st : Stands k n t now) → All IsServedOp st.job.ops → HasNoFields k.shape → step_in t.asked ≡ Some s → takes t (Some w) →
+pub keeps : (k : Task) (n : ℕ) (t : Thread) (s : Step) (w : ℕ) (now : List Made) (st : Stands k n t now) → AreServed st.job.ops → HasNoFields k.shape → step_in t.asked ≡ Some s → takes t (Some w) →
     Stands k n (turned t (Some w)) (made_at (here k st.job st.at) s w (turned t (Some w)).event ∷ now)
 keeps k n t s w now st served bare asked takes = go t.doing st.phased st.up_to takes
   where
@@ -524,7 +523,7 @@ keeps k n t s w now st served bare asked takes = go t.doing st.phased st.up_to t
     go Ended phased u takes = absurd takes
 
 -- Its next phase begins without a step.
-pub begins-phase : (k : Task) (n : ℕ) (t : Thread) (now : List Made) (st : Stands k n t now) → All IsServedOp st.job.ops → takes t None → t.asked ≡ moves.PhaseEnd → Stands k (n + 1) (turned t None) now
+pub begins-phase : (k : Task) (n : ℕ) (t : Thread) (now : List Made) (st : Stands k n t now) → AreServed st.job.ops → takes t None → t.asked ≡ moves.PhaseEnd → Stands k (n + 1) (turned t None) now
 begins-phase k n t now st served takes asked = go t.doing st.phased st.up_to takes
   where
     none : step_in t.asked ≡ None
@@ -532,7 +531,8 @@ begins-phase k n t now st served takes asked = go t.doing st.phased st.up_to tak
 
     go : (d : Doing) → IsIn n st.phases d → UpTo k st.job st.at t.vars t.made t.hands t.asked now d → takes_at None d → Stands k (n + 1) (turned_at None d (idle t)) now
     go Ready phased u takes =
-        begins k st.job served (drop t.index (take (phase_end t) t.program)) st.at (idle t) now (subst (λ (m : ℕ). WorksAt k st.job st.at m t) phased st.works) st.vars_in
+        begins k st.job served (drop t.index (take (phase_end t) t.program)) t.index st.at st.at (idle t) now (subst (λ (m : ℕ). WorksAt k st.job st.at m t) phased st.works) st.vars_in
+        st.works.index_is (omega arith)
         (rest-is k st.job st.at t.phases t.program t.phase t.index st.works.phases_is st.works.program_is st.works.phase_is st.works.index_is) u.1
     go (Making to name plan) phased u takes = let e = u.waits.asked_is in let n = none in absurd (cc)
     go (Copying to held plan) phased u takes = let e = u.waits.asked_is in let n = none in absurd (cc)

@@ -4,16 +4,18 @@ use Rattle.std.proofs.lemmas.Bool.{eqb-true}
 use Rattle.std.proofs.lemmas.Option.{same_Some}
 use Rattle.std.proofs.lemmas.List.{length-map}
 use Rattle.std.proofs.lemmas.List.Elements.{All-replicate}
-use Rattle.std.specs.Prelude.{slice_get, replicate, flat_map, All}
+use Rattle.std.specs.Prelude.{slice_get, replicate, All}
 use Rattle.std.specs.List.{AllByRecursion}
 use Rattle.arc_rule.specs.declared.step.Step.{Step}
 use Rattle.arc_rule.specs.declared.step.Intent.{Intent}
 use Rattle.arc_script.specs.declared.script.Op.{Op}
 use Rattle.arc_script.specs.declared.script.ThreadDecl.{ThreadDecl}
 use Rattle.arc_script.specs.declared.script.Script.{Script}
-use Rattle.arc_script.specs.Valid.{IsScript, IsThread}
+use Rattle.arc_script.specs.OneList.{in_one_list}
+use Rattle.arc_script.specs.Valid.{IsScript, IsThread, Nested}
 use Rattle.arc_ops.specs.declared.stepper.Move.TheVariants as moves
-use Rattle.arc_ops.specs.Programs.{declared_of, phases_in, phases_of, count_of_vars, vars_of}
+use Rattle.arc_ops.proofs.Blocks.{nested_forth}
+use Rattle.arc_ops.specs.Programs.{GoesForth, declared_of, phases_in, phases_of, count_of_vars, vars_of}
 use Rattle.arc_ops.specs.Served.{IsServed, IsServedThread, IsServedOp}
 use Rattle.arc_ops.specs.Thread.{Thread, HeldFits, stepper_of, takes, turned}
 use Rattle.arc_replays.specs.Stages.{Stage, has_step, awaits_phase, IsNone, new_threads, begun_thread, begun_threads}
@@ -23,15 +25,34 @@ use Rattle.arc_schedule.specs.Threads.{PhasesDone}
 use Rattle.arc_schedule.specs.Threads.OpsDone.{none as ops_none}
 use Rattle.arc_schedule.specs.Threads.PhasesDone.{none as phases_none}
 use Rattle.arc_schedule.proofs.Lists.{all-there}
-use Rattle.arc_schedule.proofs.Stands.{Task, Job, refs, state_of, here, Stands}
+use Rattle.arc_schedule.proofs.Stands.{Task, Job, AreServed, refs, state_of, here, Stands}
 use Rattle.arc_schedule.proofs.Keeps.{begins-phase}
 use Rattle.arc_schedule.proofs.Asks.{waits-for-phase, has-ended, ended-stays}
 use Rattle.arc_schedule.proofs.Stages.{task_of, AllStand, IsFirst}
 
 -- ---- what is served
 
-pub job-served : (script : Script) → IsServed script → (i : ℕ) (decl : ThreadDecl) → slice_get script.threads i ≡ Some decl → (p : ℕ) (ops : List Op) → slice_get decl.phases p ≡ Some ops → All IsServedOp ops
-job-served script served i decl there p ops here = all-there (All IsServedOp) decl.phases p ops (all-there IsServedThread script.threads i decl served.threads there).ops here
+nested-there : (script : Script) (ts : List ThreadDecl) (i : ℕ) (decl : ThreadDecl) → AllByRecursion (IsThread script.classes script.globals) ts → slice_get ts i ≡ Some decl → AllByRecursion (Nested 8 0) decl.phases
+nested-there script [] i decl h e = absurd (cc)
+nested-there script (t ∷ ts) zero decl h e = let same : t ≡ decl = cc in subst (λ (d : ThreadDecl). AllByRecursion (Nested 8 0) d.phases) same h.0.nested
+nested-there script (t ∷ ts) (suc i) decl h e = nested-there script ts i decl h.1 e
+
+phase-nested : (phases : List (List Op)) (p : ℕ) (ops : List Op) → AllByRecursion (Nested 8 0) phases → slice_get phases p ≡ Some ops → Nested 8 0 ops
+phase-nested [] p ops h e = absurd (cc)
+phase-nested (x ∷ phases) zero ops h e = let same : x ≡ ops = cc in subst (Nested 8 0) same h.0
+phase-nested (x ∷ phases) (suc p) ops h e = phase-nested phases p ops h.1 e
+
+forth : (ops : List Op) → Nested 8 0 ops → (i : ℕ) (o : Op) → slice_get ops i ≡ Some o → GoesForth i (length ops) o
+forth ops nested i o here =
+    let place : 0 + i ≡ i = omega arith in
+    let end : 0 + length ops ≡ length ops = omega arith in
+    subst (λ (e : ℕ). GoesForth i e o) end (subst (λ (n : ℕ). GoesForth n (0 + length ops) o) place (nested_forth nested i o here))
+
+pub job-served : (script : Script) → IsScript script → IsServed script → (i : ℕ) (decl : ThreadDecl) → slice_get script.threads i ≡ Some decl → (p : ℕ) (ops : List Op) → slice_get decl.phases p ≡ Some ops → AreServed ops
+job-served script valid served i decl there p ops here = record {
+  served = all-there (All IsServedOp) decl.phases p ops (all-there IsServedThread script.threads i decl served.threads there).ops here;
+  forth = forth ops (phase-nested decl.phases p ops (nested-there script script.threads i decl valid.threads there) here);
+}
 
 -- ---- before the first phase
 
@@ -73,7 +94,7 @@ new-stands script some i decl there phases = record {
     shape_is = refl;
     thread_is = refl;
     phases_is = phases_are;
-    program_is = ap (λ (ps : List (List Op)). flat_map (λ ops. ops) ps) phases_are;
+    program_is = ap (λ (ps : List (List Op)). in_one_list 0 ps) phases_are;
     phase_is = refl;
     index_is = refl;
     begun_is = refl;
@@ -128,9 +149,9 @@ begun-many [] = refl
 begun-many (t ∷ ts) = ap suc (length-map ts begun_thread)
 
 -- each thread that waits begins its next phase, and the others have ended
-pub begun-stands : (script : Script) → IsServed script → (some : 0 < script.shape.slots) (s : Stage) (ms : List Made) → AllStand script some s.begun s.threads ms → IsNone has_step s.threads →
+pub begun-stands : (script : Script) → IsScript script → IsServed script → (some : 0 < script.shape.slots) (s : Stage) (ms : List Made) → AllStand script some s.begun s.threads ms → IsNone has_step s.threads →
     ((p : ℕ) (t : Thread) → 1 ≤ p → slice_get s.threads p ≡ Some t → awaits_phase t ≡ true → takes t None) → AllStand script some (s.begun + 1) (begun_threads s.threads) ms
-begun-stands script served some s ms stand quiet may i decl u there get = go (begun-there s.threads i u (rw add-one at get))
+begun-stands script valid served some s ms stand quiet may i decl u there get = go (begun-there s.threads i u (rw add-one at get))
   where
     k : Task
     k = task_of script some i decl
@@ -151,7 +172,7 @@ begun-stands script served some s ms stand quiet may i decl u there get = go (be
         which true e =
             let is : u ≡ turned t None = x.2 ∙ (rw e refl) in
             subst (λ (v : Thread). Stands k (s.begun + 1) v (own (i + 1) ms)) (sym is)
-            (begins-phase k s.begun t (own (i + 1) ms) st (job-served script served i decl there st.job.phase st.job.ops st.job.there) (may (i + 1) t (omega arith) there_is e) (waits-for-phase t e))
+            (begins-phase k s.begun t (own (i + 1) ms) st (job-served script valid served i decl there st.job.phase st.job.ops st.job.there) (may (i + 1) t (omega arith) there_is e) (waits-for-phase t e))
         which false e =
             let is : u ≡ t = x.2 ∙ (rw e refl) in
             subst (λ (v : Thread). Stands k (s.begun + 1) v (own (i + 1) ms)) (sym is)

@@ -1,8 +1,9 @@
 -- The phases of a thread, and where each begins in its program.
-use Rattle.std.proofs.Common.{◌≡◌, ℕ, zero, suc, ◌+◌, List, [], ◌∷◌, ◌++◌, length, take, drop, refl, sym, ap, subst, ◌∙◌, arith, append-nil}
-use Rattle.std.proofs.lemmas.List.{length-append}
+use Rattle.std.proofs.Common.{◌≡◌, ℕ, zero, suc, ◌+◌, List, [], ◌∷◌, ◌++◌, length, map, take, drop, refl, sym, ap, subst, ◌∙◌, arith, append-nil}
+use Rattle.std.proofs.lemmas.List.{length-append, length-map}
 use Rattle.std.specs.Prelude.{slice_get, flat_map, Some}
 use Rattle.arc_script.specs.declared.script.Op.{Op}
+use Rattle.arc_script.specs.OneList.{in_one_list, moved_behind}
 use Rattle.arc_ops.specs.Programs.{ops_in_first}
 use Rattle.arc_schedule.proofs.Lists.{take-over, drop-over}
 
@@ -31,22 +32,36 @@ phase-next (x ∷ phases) (suc p) ops e =
     omega arith
 
 -- the operations from this one of the phase on, to the phase's end
-pub phase-rest : (phases : List (List Op)) (p i : ℕ) (ops : List Op) → slice_get phases p ≡ Some ops → drop (ops_in_first p phases + i) (take (ops_in_first (suc p) phases) (all-ops phases)) ≡ drop i ops
-phase-rest [] p i ops e = absurd (cc)
-phase-rest (x ∷ phases) zero i ops e =
+pub phase-rest : (n : ℕ) (phases : List (List Op)) (p i : ℕ) (ops : List Op) → slice_get phases p ≡ Some ops →
+    drop (ops_in_first p phases + i) (take (ops_in_first (suc p) phases) (in_one_list n phases)) ≡ drop i (map (moved_behind (n + ops_in_first p phases)) ops)
+phase-rest n [] p i ops e = absurd (cc)
+phase-rest n (x ∷ phases) zero i ops e =
     let same : x ≡ ops = cc in
-    let many : ops_in_first (suc zero) (x ∷ phases) ≡ length x + 0 = first-many x phases zero in
-    let taken : take (length x + 0) (x ++ all-ops phases) ≡ x ++ [] = take-over x (all-ops phases) 0 in
-    let back : x ++ [] ≡ x = append-nil x in
+    let front : List Op = map (moved_behind n) x in
+    let behind : List Op = in_one_list (n + length x) phases in
+    let long : length front ≡ length x = length-map x (moved_behind n) in
+    let many : ops_in_first (suc zero) (x ∷ phases) ≡ length front + 0 = first-many x phases zero ∙ ap (λ (m : ℕ). m + 0) (sym long) in
+    let taken : take (length front + 0) (front ++ behind) ≡ front ++ [] = take-over front behind 0 in
+    let back : front ++ [] ≡ front = append-nil front in
     let start : 0 + i ≡ i = omega arith in
-    rw (many, start) (ap (λ (ys : List Op). drop i ys) (taken ∙ back ∙ same))
-phase-rest (x ∷ phases) (suc p) i ops e =
+    let none : n ≡ n + 0 = omega arith in
+    let P : ℕ → ℕ → Type 0 = λ (a b : ℕ). drop a (take b (front ++ behind)) ≡ drop i (map (moved_behind (n + 0)) ops) in
+    let whole : drop i (take (length front + 0) (front ++ behind)) ≡ drop i (map (moved_behind (n + 0)) ops) =
+    ap (λ (ys : List Op). drop i ys) (taken ∙ back ∙ ap (λ (ys : List Op). map (moved_behind n) ys) same) ∙ ap (λ (m : ℕ). drop i (map (moved_behind m) ops)) none in
+    subst (λ (a : ℕ). P a (ops_in_first (suc zero) (x ∷ phases))) (sym start) (subst (λ (b : ℕ). P i b) (sym many) whole)
+phase-rest n (x ∷ phases) (suc p) i ops e =
+    let front : List Op = map (moved_behind n) x in
+    let behind : List Op = in_one_list (n + length x) phases in
+    let long : length front ≡ length x = length-map x (moved_behind n) in
     let many = first-many x phases p in
-    let more = first-many x phases (suc p) in
-    let taken = take-over x (all-ops phases) (ops_in_first (suc p) phases) in
-    let dropped = drop-over x (take (ops_in_first (suc p) phases) (all-ops phases)) (ops_in_first p phases + i) in
-    let sum : ops_in_first (suc p) (x ∷ phases) + i ≡ length x + (ops_in_first p phases + i) = omega arith in
-    let P : ℕ → ℕ → Type 0 = λ (n m : ℕ). drop n (take m (x ++ all-ops phases)) ≡ drop i ops in
-    let whole : drop (length x + (ops_in_first p phases + i)) (take (length x + ops_in_first (suc p) phases) (x ++ all-ops phases)) ≡ drop i ops =
-    ap (λ (ys : List Op). drop (length x + (ops_in_first p phases + i)) ys) taken ∙ dropped ∙ phase-rest phases p i ops e in
-    subst (λ (n : ℕ). P n (ops_in_first (suc (suc p)) (x ∷ phases))) (sym sum) (subst (λ (m : ℕ). P (length x + (ops_in_first p phases + i)) m) (sym more) whole)
+    let more : ops_in_first (suc (suc p)) (x ∷ phases) ≡ length front + ops_in_first (suc p) phases = first-many x phases (suc p) ∙ ap (λ (m : ℕ). m + ops_in_first (suc p) phases) (sym long) in
+    let taken = take-over front behind (ops_in_first (suc p) phases) in
+    let dropped = drop-over front (take (ops_in_first (suc p) phases) behind) (ops_in_first p phases + i) in
+    let sum : ops_in_first (suc p) (x ∷ phases) + i ≡ length front + (ops_in_first p phases + i) = omega (arith, many, long) in
+    let start : n + length x + ops_in_first p phases ≡ n + ops_in_first (suc p) (x ∷ phases) = omega (arith, many) in
+    let P : ℕ → ℕ → ℕ → Type 0 = λ (a b c : ℕ). drop a (take b (front ++ behind)) ≡ drop i (map (moved_behind c) ops) in
+    let whole : drop (length front + (ops_in_first p phases + i)) (take (length front + ops_in_first (suc p) phases) (front ++ behind)) ≡ drop i (map (moved_behind (n + length x + ops_in_first p phases)) ops) =
+    ap (λ (ys : List Op). drop (length front + (ops_in_first p phases + i)) ys) taken ∙ dropped ∙ phase-rest (n + length x) phases p i ops e in
+    subst (λ (c : ℕ). P (ops_in_first (suc p) (x ∷ phases) + i) (ops_in_first (suc (suc p)) (x ∷ phases)) c) start
+    (subst (λ (a : ℕ). P a (ops_in_first (suc (suc p)) (x ∷ phases)) (n + length x + ops_in_first p phases)) (sym sum)
+    (subst (λ (b : ℕ). P (length front + (ops_in_first p phases + i)) b (n + length x + ops_in_first p phases)) (sym more) whole))

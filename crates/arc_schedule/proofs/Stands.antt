@@ -1,7 +1,7 @@
 -- What a stepper stands for: the steps made so far are those of its thread's operations up to where it is.
 use Rattle.std.proofs.Common.{◌≡◌, ℕ, ◌+◌, ◌<◌, ◌≤◌, Bool, true, false, cond, ltb, List, ◌∷◌, length, map, Option, Some, None, refl, sym, subst}
 use Rattle.std.proofs.lemmas.Option.{same_Some}
-use Rattle.std.specs.Prelude.{slice_get, flat_map, All, ⊤}
+use Rattle.std.specs.Prelude.{slice_get, take, All, ⊤}
 use Rattle.arc_model.specs.declared.event.ObjectName.{ObjectName}
 use Rattle.arc_model.specs.Shapes.{HeapShape, class_at}
 use Rattle.arc_model.specs.Spelling.{field_count}
@@ -25,12 +25,14 @@ use Rattle.arc_cells.specs.Cascades.{CascadeState}
 use Rattle.arc_script.specs.declared.script.ThreadDecl.{ThreadDecl}
 use Rattle.arc_script.specs.declared.script.Op.{Op}
 use Rattle.arc_script.specs.declared.script.Op.TheVariants as op
+use Rattle.arc_script.specs.OneList.{in_one_list, numbered}
 use Rattle.arc_ops.specs.declared.stepper.Held.{Held}
 use Rattle.arc_ops.specs.declared.stepper.Doing.{Doing}
 use Rattle.arc_ops.specs.declared.stepper.Doing.TheVariants.{Ready, Making, Copying, Dropping, Dying, Ended}
 use Rattle.arc_ops.specs.declared.stepper.Move.{Move}
 use Rattle.arc_ops.specs.declared.stepper.Move.TheVariants as moves
-use Rattle.arc_ops.specs.Programs.{ops_in_first}
+use Rattle.arc_ops.specs.Programs.{GoesForth, ops_in_first}
+use Rattle.arc_ops.specs.Served.{IsServedOp}
 use Rattle.arc_ops.specs.Thread.{Thread, value, HeldFits}
 use Rattle.arc_schedule.specs.Made.{Point, Made, made_at}
 use Rattle.arc_schedule.specs.Plans.{Plan, Reaches, Starts, Gives, new_object, strong_up, strong_down, finish, vacate}
@@ -98,6 +100,11 @@ pub record Job (k : Task) : Type 0 where
   pub base : List Made
   pub before : PhasesDone k.shape k.thread k.decl phase first base
 
+-- the operations of a phase are served, and its blocks go forth within it
+pub record AreServed (ops : List Op) : Type 0 where
+  pub served : All IsServedOp ops
+  pub forth : (i : ℕ) (o : Op) → slice_get ops i ≡ Some o → GoesForth i (length ops) o
+
 -- how many operations stand before it
 abbrev pub start_of : (k : Task) → Job k → ℕ
 start_of k j = ops_in_first j.phase k.decl.phases
@@ -116,7 +123,7 @@ abbrev pub AreDone : (k : Task) → Job k → ℕ → State → List Made → Ty
 AreDone k j i s now = OpsDone k.shape k.thread j.phase j.ops j.first j.base i s now
 
 abbrev pub here : (k : Task) → Job k → ℕ → Point
-here k j i = point_of k.thread j.phase (cond (ltb i (length j.ops)) (i + 1) 0)
+here k j i = point_of k.thread j.phase (cond (ltb i (length j.ops)) (numbered (take (i + 1) j.ops)) 0)
 
 -- all operations are done, and the first variables are dropped
 pub record IsInScope (k : Task) (j : Job k) (vars : List (Option Held)) (now : List Made) : Type 0 where
@@ -237,7 +244,7 @@ pub record Works (k : Task) (j : Job k) (i n : ℕ) (layout : Extent) (shape : H
   pub shape_is : shape ≡ k.shape
   pub thread_is : thread ≡ k.thread
   pub phases_is : phases ≡ k.decl.phases
-  pub program_is : program ≡ flat_map (λ ops. ops) k.decl.phases
+  pub program_is : program ≡ in_one_list 0 k.decl.phases
   pub phase_is : phase ≡ j.phase
   pub index_is : index ≡ start_of k j + i
   pub begun_is : j.phase + 1 ≡ n

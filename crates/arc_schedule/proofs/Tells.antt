@@ -26,7 +26,7 @@ use Rattle.arc_script.specs.declared.script.Op.TheVariants as op
 use Rattle.arc_ops.specs.declared.stepper.Held.{Held}
 use Rattle.arc_ops.specs.declared.stepper.Doing.TheVariants.{Ready, Ended}
 use Rattle.arc_ops.specs.declared.stepper.Move.TheVariants as moves
-use Rattle.arc_ops.specs.Thread.{Thread, value, is_held, put, set_var, skipped, moved, made_on, copied_on, dropped_on, dying_on, begun_nil, begun_copy, begun_move, begun_drop, phase_end, phase_over, begun_at, scope_drop, scope_at, scope_begun, next_op, replaced_old, replaced}
+use Rattle.arc_ops.specs.Thread.{Thread, value, is_held, put, set_var, skipped, moved, made_on, copied_on, dropped_on, dying_on, begun_nil, begun_copy, begun_move, begun_drop, phase_end, phase_over, block_goes_on, at_place, begun_op, begun_at, scope_drop, scope_at, scope_begun, next_op, replaced_old, replaced}
 use Rattle.arc_schedule.specs.Plans.{told_by, making_told, up_told, down_told, finish_told, vacate_told}
 use Rattle.arc_schedule.proofs.Stands.{MadeUpTo}
 
@@ -57,37 +57,44 @@ nil-event : (to : ℕ) (old : Option Held) (t : Thread) (rest : Thread → Threa
 nil-event to None t rest e = e
 nil-event to (Some h) t rest e = refl
 
-begun-event : (rest : List Op) (t : Thread) → (begun_at rest t).event ≡ t.event
-begun-event [] t = phase-event t
-begun-event (op.New to class ∷ rest) t = refl
-begun-event (op.Copy to from ∷ rest) t = go (value t.vars from) (begun-event rest (skipped answers.Nil t))
+op-event : (o : Op) (t : Thread) (rest : Thread → Thread) → ((u : Thread) → (rest u).event ≡ u.event) → (begun_op o t rest).event ≡ t.event
+op-event (op.New to class) t rest e = refl
+op-event (op.Copy to from) t rest e = go (value t.vars from)
   where
-    go : (source : Option Held) → (begun_at rest (skipped answers.Nil t)).event ≡ t.event → (begun_copy to source (value t.vars to) t (λ (behind : Thread). begun_at rest behind)).event ≡ t.event
-    go (Some h) e = refl
-    go None e = nil-event to (value t.vars to) t (λ (behind : Thread). begun_at rest behind) e
-begun-event (op.Move to from ∷ rest) t = go (value t.vars from) (value t.vars to) (begun-event rest (skipped answers.Nil t)) (λ h. begun-event rest (moved to from h (skipped answers.Ok t)))
+    go : (source : Option Held) → (begun_copy to source (value t.vars to) t rest).event ≡ t.event
+    go (Some h) = refl
+    go None = nil-event to (value t.vars to) t rest (e (skipped answers.Nil t))
+op-event (op.Move to from) t rest e = go (value t.vars from) (value t.vars to)
   where
-    go : (source old : Option Held) → (begun_at rest (skipped answers.Nil t)).event ≡ t.event → ((h : Held) → (begun_at rest (moved to from h (skipped answers.Ok t))).event ≡ t.event) →
-        (begun_move to from source old t (λ (behind : Thread). begun_at rest behind)).event ≡ t.event
-    go (Some h) (Some old) e f = refl
-    go (Some h) None e f = f h
-    go None old e f = nil-event to old t (λ (behind : Thread). begun_at rest behind) e
-begun-event (op.Drop v ∷ rest) t = go (value t.vars v) (begun-event rest (skipped answers.Nil t))
+    go : (source old : Option Held) → (begun_move to from source old t rest).event ≡ t.event
+    go (Some h) (Some old) = refl
+    go (Some h) None = e (moved to from h (skipped answers.Ok t))
+    go None old = nil-event to old t rest (e (skipped answers.Nil t))
+op-event (op.Drop v) t rest e = go (value t.vars v)
   where
-    go : (old : Option Held) → (begun_at rest (skipped answers.Nil t)).event ≡ t.event → (begun_drop v old t (λ (behind : Thread). begun_at rest behind)).event ≡ t.event
-    go (Some h) e = refl
-    go None e = e
-begun-event (op.Unown to of ∷ rest) t = begun-event rest (skipped answers.Nil t)
-begun-event (op.Weak to of ∷ rest) t = begun-event rest (skipped answers.Nil t)
-begun-event (op.Load to of ∷ rest) t = begun-event rest (skipped answers.Nil t)
-begun-event (op.Get to cell ∷ rest) t = begun-event rest (skipped answers.Nil t)
-begun-event (op.Set cell from ∷ rest) t = begun-event rest (skipped answers.Nil t)
-begun-event (op.IfNil v past ∷ rest) t = begun-event rest (skipped answers.Nil t)
-begun-event (op.IfSome v past ∷ rest) t = begun-event rest (skipped answers.Nil t)
+    go : (old : Option Held) → (begun_drop v old t rest).event ≡ t.event
+    go (Some h) = refl
+    go None = e (skipped answers.Nil t)
+op-event (op.Unown to of) t rest e = e (skipped answers.Nil t)
+op-event (op.Weak to of) t rest e = e (skipped answers.Nil t)
+op-event (op.Load to of) t rest e = e (skipped answers.Nil t)
+op-event (op.Get to cell) t rest e = e (skipped answers.Nil t)
+op-event (op.Set cell from) t rest e = e (skipped answers.Nil t)
+op-event (op.IfNil v past) t rest e = e (at_place (block_goes_on t.vars t.index (op.IfNil v past)) t)
+op-event (op.IfSome v past) t rest e = e (at_place (block_goes_on t.vars t.index (op.IfSome v past)) t)
+
+begun-event : (at : ℕ) (rest : List Op) (t : Thread) → (begun_at at rest t).event ≡ t.event
+begun-event at [] t = phase-event t
+begun-event at (o ∷ rest) t = go (λ u. begun-event (at + 1) rest u) (ltb at t.index)
+  where
+    go : ((u : Thread) → (begun_at (at + 1) rest u).event ≡ u.event) → (b : Bool) →
+        (cond b (begun_at (at + 1) rest t) (begun_op o t (λ (behind : Thread). begun_at (at + 1) rest behind))).event ≡ t.event
+    go e true = e t
+    go e false = op-event o t (λ (behind : Thread). begun_at (at + 1) rest behind) e
 
 next-event : (t : Thread) → (next_op t).event ≡ t.event
 next-event t =
-    begun-event (drop (cond (ltb t.index (length t.program)) (t.index + 1) t.index) (take (phase_end t) t.program)) (record t { doing = Ended; index = cond (ltb t.index (length t.program)) (t.index + 1) t.index })
+    begun-event (cond (ltb t.index (length t.program)) (t.index + 1) t.index) (drop (cond (ltb t.index (length t.program)) (t.index + 1) t.index) (take (phase_end t) t.program)) (record t { doing = Ended; index = cond (ltb t.index (length t.program)) (t.index + 1) t.index })
 
 replaced-event : (to : ℕ) (held : Held) (t : Thread) → (replaced to held t).event ≡ t.event
 replaced-event to held t = go (value t.vars to)

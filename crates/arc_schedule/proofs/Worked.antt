@@ -1,4 +1,4 @@
--- Two threads of one phase, in the order of their schedule; and an operation whose event no step tells alone.
+-- Two threads of one phase, in the order of their schedule; an operation whose event no step tells alone; and blocks that are run and passed over.
 use Rattle.std.proofs.Common.{◌≡◌, ℕ, zero, suc, Bool, true, false, [], ◌∷◌, Some, None, refl, sym, subst, arith}
 use Rattle.arc_model.specs.declared.event.Act.TheVariants as acts
 use Rattle.arc_model.specs.Shapes.{class_at}
@@ -16,7 +16,8 @@ use Rattle.arc_schedule.specs.Plans.Reaches.{starts as reaches_start, makes as r
 use Rattle.arc_schedule.specs.Plans.Starts.{first as starts_first}
 use Rattle.arc_schedule.specs.Operations.Does.{makes as does_make}
 use Rattle.arc_schedule.specs.Operations.Drops.{nothing as drops_nothing}
-use Rattle.arc_schedule.specs.Worked.{by, look, one_slot, nothing_yet, first_of, PlacesComeFirst, AccessesEndFirst, OperationsTell}
+use Rattle.arc_schedule.specs.Threads.OpsDone.{none as ops_none, one as ops_one, block as ops_block}
+use Rattle.arc_schedule.specs.Worked.{by, look, one_slot, nothing_yet, first_of, PlacesComeFirst, AccessesEndFirst, OperationsTell, BlocksAreRun}
 
 pub places_come_first : PlacesComeFirst
 places_come_first =
@@ -48,3 +49,6 @@ operations_tell class =
     Makes immortal = Gives (new_object (extent_of one_slot) immortal (next_name (first_of 1) nothing_yet class) 1) (first_of 1) [] (Slot 0)
         (made_at (first_of 1) (Store 2 (isa_word_of (next_name (first_of 1) nothing_yet class))) 0 None ∷ made_at (first_of 1) (Store 1 2) 0 None
         ∷ made_at (first_of 1) (Or 16 1) 0 (Some (acts.New 1 class 0)) ∷ made_at (first_of 1) (Load 16) 0 None ∷ [])
+
+pub blocks_are_run : BlocksAreRun
+blocks_are_run class = ops_block (ops_one (ops_block ops_none refl refl refl (omega arith)) refl (operations_tell class)) refl refl refl (omega arith)

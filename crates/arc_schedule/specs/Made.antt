@@ -4,7 +4,7 @@ use Rattle.arc_model.specs.declared.event.Act.{Act}
 use Rattle.arc_rule.specs.Steps.{found_by, made_by}
 use Rattle.arc_rule.specs.declared.step.Step.{Step}
 
--- Where a step stands in the script: the thread, its phase from 0, and the operation's number in the phase from 1, or 0 for the end of the scope.
+-- Where a step stands in the script: the thread, its phase from 0, and the operation's number in the phase from 1, where the beginnings of blocks have none, or 0 for the end of the scope.
 pub record Point : Type 0 where
   pub thread : ℕ
   pub phase : ℕ

@@ -1,6 +1,6 @@
 -- Which steps an operation makes, and what the thread holds behind it. So far objects are made, strong references copied, moved and
--- dropped, and objects deinited whose fields are nil; what isn't served yet has no case.
-use Rattle.std.specs.Prelude.{ℕ, ◌≡◌, ◌<◌, ◌+◌, List, ◌∷◌, slice_index_or, slice_set, Option, Some, None}
+-- dropped, and objects deinited whose fields are nil; what isn't served yet has no case. The beginning of a block makes no step.
+use Rattle.std.specs.Prelude.{ℕ, ◌≡◌, ◌<◌, ◌+◌, List, ◌∷◌, slice_index_or, slice_set, if◌then◌else◌, is_some, Option, Some, None}
 use Rattle.arc_model.specs.declared.event.ObjectName.{ObjectName}
 use Rattle.arc_model.specs.declared.shape.Kind.{Kind}
 use Rattle.arc_model.specs.declared.shape.Kind.TheVariants.{Strong}
@@ -99,3 +99,9 @@ pub data Does (shape : HeapShape) (point : Point) : Op → (state : State) (b : 
       new ≡ record state { vars = put state.vars to None } → Does shape point (op.Move to from) state b new after
   drops : {v : ℕ} {state new : State} {b after : List Made} → Drops shape point (value state.vars v) b after → new ≡ record state { vars = put state.vars v None } →
       Does shape point (op.Drop v) state b new after
+
+-- where the thread goes on that comes to a block at this place: in the block where that is run, else behind it
+abbrev pub goes_on : Variables → ℕ → Op → ℕ
+goes_on vars i (op.IfNil v to) = if is_some (value vars v) then to else i + 1
+goes_on vars i (op.IfSome v to) = if is_some (value vars v) then i + 1 else to
+goes_on vars i o = i + 1

@@ -1,21 +1,26 @@
 -- Which steps a thread makes: those of its operations, phase by phase, and those of the end of its scope.
-use Rattle.std.specs.Prelude.{ℕ, ◌≡◌, ◌+◌, ◌-◌, List, [], length, slice_get, replicate, Some, None}
+use Rattle.std.specs.Prelude.{ℕ, ◌≡◌, ◌<◌, ◌+◌, ◌-◌, true, List, [], length, take, slice_get, replicate, Some, None}
 use Rattle.arc_model.specs.Shapes.{HeapShape}
 use Rattle.arc_script.specs.declared.script.Op.{Op}
 use Rattle.arc_script.specs.declared.script.ThreadDecl.{ThreadDecl}
 use Rattle.arc_script.specs.declared.script.Script.{Script}
+use Rattle.arc_script.specs.OneList.{numbered}
+use Rattle.arc_script.specs.Valid.{begins_block}
 use Rattle.arc_schedule.specs.Made.{Point, Made}
-use Rattle.arc_schedule.specs.Operations.{Variables, State, value, Drops, Does}
+use Rattle.arc_schedule.specs.Operations.{Variables, State, value, Drops, Does, goes_on}
 
 abbrev pub point_of : (thread phase operation : ℕ) → Point
 point_of thread phase operation = record { thread = thread; phase = phase; operation = operation }
 
--- the first operations of a phase
+-- The first operations of a phase. At the beginning of a block no step is made, and what is passed over is done with it.
 pub data OpsDone (shape : HeapShape) (thread phase : ℕ) (ops : List Op) (first : State) (b : List Made) : (done : ℕ) → State → List Made → Type 0 where
   none : OpsDone shape thread phase ops first b 0 first b
   one : {i : ℕ} {o : Op} {state new : State} {ns after : List Made} →
-      OpsDone shape thread phase ops first b i state ns → slice_get ops i ≡ Some o → Does shape (point_of thread phase (i + 1)) o state ns new after →
+      OpsDone shape thread phase ops first b i state ns → slice_get ops i ≡ Some o → Does shape (point_of thread phase (numbered (take (i + 1) ops))) o state ns new after →
       OpsDone shape thread phase ops first b (i + 1) new after
+  block : {i n : ℕ} {o : Op} {state : State} {ns : List Made} →
+      OpsDone shape thread phase ops first b i state ns → slice_get ops i ≡ Some o → begins_block o ≡ true → n ≡ goes_on state.vars i o → i < n →
+      OpsDone shape thread phase ops first b n state ns
 
 -- the first phases of a thread, whose variables are nil at first
 pub data PhasesDone (shape : HeapShape) (thread : ℕ) (decl : ThreadDecl) : (done : ℕ) → State → List Made → Type 0 where

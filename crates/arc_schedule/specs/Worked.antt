@@ -1,5 +1,5 @@
--- Two threads of one phase, in the order of their schedule; and an operation whose event no step tells alone.
-use Rattle.std.specs.Prelude.{ℕ, false, [], ◌∷◌, Some, None}
+-- Two threads of one phase, in the order of their schedule; an operation whose event no step tells alone; and blocks that are run and passed over.
+use Rattle.std.specs.Prelude.{ℕ, false, List, [], ◌∷◌, Some, None}
 use Rattle.arc_model.specs.declared.event.Act.TheVariants as acts
 use Rattle.arc_model.specs.Shapes.{HeapShape, ObjectClass}
 use Rattle.arc_rule.specs.Extents.{Extent}
@@ -9,7 +9,7 @@ use Rattle.arc_rule.specs.Isa.{isa_word_of}
 use Rattle.arc_script.specs.declared.script.Op.TheVariants as op
 use Rattle.arc_schedule.specs.Made.{Point, Made, made_at}
 use Rattle.arc_schedule.specs.Operations.{State, strong_to, next_name, Does}
-use Rattle.arc_schedule.specs.Threads.{point_of}
+use Rattle.arc_schedule.specs.Threads.{point_of, OpsDone}
 use Rattle.arc_schedule.specs.Orders.{InOrder}
 
 -- one global, one slot, one entry: the global's word is at place 1, the slot's count at place 2
@@ -45,9 +45,21 @@ nothing_yet = record { vars = None ∷ []; made = 0; hands = 0 }
 abbrev pub first_of : (thread : ℕ) → Point
 first_of thread = point_of thread 0 1
 
+-- the object's count and isa word are stored behind the step that sets the slot's bit
+abbrev pub made_first : (class : ℕ) → List Made
+made_first class =
+    made_at (first_of 1) (Store 2 (isa_word_of (next_name (first_of 1) nothing_yet class))) 0 None ∷ made_at (first_of 1) (Store 1 2) 0 None
+    ∷ made_at (first_of 1) (Or 16 1) 0 (Some (acts.New 1 class 0)) ∷ made_at (first_of 1) (Load 16) 0 None ∷ []
+
+abbrev pub with_object : State
+with_object = record { vars = strong_to 1 0 ∷ []; made = 1; hands = 1 }
+
 -- The first operation of a thread makes an object of a class: the step that sets the slot's bit, and the 0 that it finds, are the same for each
 -- class, and its event has the class.
 abbrev pub OperationsTell : Type 0
-OperationsTell = (class : ℕ) → Does one_slot (first_of 1) (op.New 0 class) nothing_yet [] (record { vars = strong_to 1 0 ∷ []; made = 1; hands = 1 })
-    (made_at (first_of 1) (Store 2 (isa_word_of (next_name (first_of 1) nothing_yet class))) 0 None ∷ made_at (first_of 1) (Store 1 2) 0 None
-    ∷ made_at (first_of 1) (Or 16 1) 0 (Some (acts.New 1 class 0)) ∷ made_at (first_of 1) (Load 16) 0 None ∷ [])
+OperationsTell = (class : ℕ) → Does one_slot (first_of 1) (op.New 0 class) nothing_yet [] with_object (made_first class)
+
+-- A phase with two blocks. The first is run, since the variable is nil, and its only operation is the first of the phase. Then the variable
+-- holds the object, so that the second block is passed over, without a step.
+abbrev pub BlocksAreRun : Type 0
+BlocksAreRun = (class : ℕ) → OpsDone one_slot 1 0 (op.IfNil 0 2 ∷ op.New 0 class ∷ op.IfNil 0 4 ∷ op.Drop 0 ∷ []) nothing_yet [] 4 with_object (made_first class)

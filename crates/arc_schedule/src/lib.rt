@@ -2,7 +2,7 @@
 #![tactic(auto)]
 
 ghost use Rattle.arc_schedule.specs.Law.{ReplaysAreScheduleRuns};
-ghost use Rattle.arc_schedule.specs.Worked.{PlacesComeFirst, AccessesEndFirst, OperationsTell};
+ghost use Rattle.arc_schedule.specs.Worked.{PlacesComeFirst, AccessesEndFirst, OperationsTell, BlocksAreRun};
 
 /// The steps of a replay that came to its end are a schedule run of its script: the words go from all 0 by what each step means, each
 /// thread's steps are those of its operations, phase by phase, and their order is that of the phases and of the schedule. They are as many
@@ -13,9 +13,11 @@ pub fn replays_are_schedule_runs()
 {}
 
 /// Two worked orders of two threads: the schedule's places come first, and where they run out a thread inside an access ends its operation
-/// before the threads go on in the order of their numbers. And a worked operation, whose event is no function of the step and the word.
+/// before the threads go on in the order of their numbers. A worked operation, whose event is no function of the step and the word. And
+/// worked blocks, one that is run and one that is passed over.
 pub fn schedules_are_followed()
     ensures places { PlacesComeFirst }
     ensures accesses { AccessesEndFirst }
     ensures events { OperationsTell }
+    ensures blocks { BlocksAreRun }
 {}

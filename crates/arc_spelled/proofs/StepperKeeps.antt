@@ -48,8 +48,8 @@ use Rattle.arc_programs.specs.Variables as programs
 use Rattle.arc_programs.specs.Programs.{made_of, IsAnswered}
 use Rattle.arc_programs.specs.Programs.IsAnswered.{made, copied}
 use Rattle.arc_programs.specs.ProgramsLines.{number_of}
-use Rattle.arc_programs.proofs.ProgramsSteps.{new_full}
-use Rattle.arc_ops.specs.Programs.{ops_in_first}
+use Rattle.arc_programs.proofs.ProgramsSteps.{answers_last, new_full}
+use Rattle.arc_ops.specs.Programs.{ordinal, ops_in_first}
 use Rattle.arc_ops.proofs.Counts.{first_more}
 use Rattle.arc_ops.specs.declared.stepper.Held.{Held}
 use Rattle.arc_ops.specs.declared.stepper.Doing.{Doing}
@@ -63,7 +63,7 @@ use Rattle.arc_spelled.specs.Shown.Says.{nothing, line}
 use Rattle.arc_spelled.specs.CascadeStands.{asked_by, with_deinit, CascadeUpTo}
 use Rattle.arc_spelled.specs.StepperStands.{Work, IsServedWork, strong_held, variables, IsOver, IsBegun, IsMaking, IsMade, MakesUpTo, IsCopying, DropEnds, step_in, IsDying, StepperUpTo, WorksOn, IsCounted, number_at, IsNumberedIf, IsOfPhase, IsInPhase, StandsFor, StepperGoesOn}
 use Rattle.arc_spelled.proofs.CascadeKeeps.{CascadeComes, cascade_comes, all_done}
-use Rattle.arc_spelled.proofs.StepperSteps.{op-answers, acts-added, Comes, comes-after, counted-line, number-here, value-held, over-done, drop-asks, begins, goes-on, replaces}
+use Rattle.arc_spelled.proofs.StepperSteps.{acts-added, Comes, comes-after, counted-line, number-here, value-held, over-done, drop-asks, begins, goes-on, replaces}
 
 -- a stepper that was given a word, and what it stands for then
 record Turns (w : Work) (t new : Thread) (last : Option ℕ) (now : List Note) : Type 0 where
@@ -115,7 +115,7 @@ makes w served t last now works counts number phase to name plan (search.Looking
 
     full : IsOver w t.index t.vars (Line answers.Full ∷ Did acts.Full ∷ now)
     full = over-done w t.index t.vars (Line answers.Full ∷ Did acts.Full ∷ now) (slice_get_within w.program t.index (op.New to name.class) b.there)
-        (rw b.now_is (op-answers w served (record { done = b.done; there = b.there }) (new_full w.thread to name.class w.came (variables t.vars) (Operation (t.index + 1) ∷ b.base))))
+        (rw b.now_is (answers_last (record { done = b.done; there = b.there }) (new_full w.thread to name.class w.came (variables t.vars) (Operation (ordinal w.program t.index) ∷ b.base))))
 
     further : (more : Bool) → Turns w t
         (made_on to name (record plan { at = cond more (search.Looking (word + 1)) search.Ended })
@@ -172,13 +172,13 @@ makes w served t last now works counts number phase to name plan (search.Naming 
     name_is : name ≡ record { class = name.class; thread = w.thread; number = made_of b.base + 1 }
     name_is = rw b.now_is at m.making.named
 
-    now_is : now ≡ Did (acts.New t.hands name.class s) ∷ Operation (t.index + 1) ∷ b.base
+    now_is : now ≡ Did (acts.New t.hands name.class s) ∷ Operation (ordinal w.program t.index) ∷ b.base
     now_is = let n = m.now_is in let o = b.now_is in let h = counts.hands_are in let k = ap hands_of m.now_is in cc
 
-    answered : IsAnswered w.thread w.came (op.New to name.class) (variables t.vars) (Operation (t.index + 1) ∷ b.base)
+    answered : IsAnswered w.thread w.came (op.New to name.class) (variables t.vars) (Operation (ordinal w.program t.index) ∷ b.base)
         (programs.put (variables t.vars) to (Some (strong_held (record { hand = t.hands; place = s })))) (answers.New name) (programs.value (variables t.vars) to) now
     answered =
-        let P : List Note → Type 0 = λ (ns : List Note). IsAnswered w.thread w.came (op.New to name.class) (variables t.vars) (Operation (t.index + 1) ∷ b.base)
+        let P : List Note → Type 0 = λ (ns : List Note). IsAnswered w.thread w.came (op.New to name.class) (variables t.vars) (Operation (ordinal w.program t.index) ∷ b.base)
         (programs.put (variables t.vars) to (Some (strong_held (record { hand = t.hands; place = s })))) (answers.New name) (programs.value (variables t.vars) to) ns in
         subst P (sym now_is) (made {to = to} {class = name.class} {slot = s} {k = t.hands} {name = name} hand_is name_is (record { replaced = refl; old = refl }))
 makes w served t last now works counts number phase to name plan search.Ended u = absurd u
@@ -214,13 +214,13 @@ copies-made w served t last now works counts number phase to held plan u =
     hand_is : t.hands + 1 ≡ hands_of b.base + 1
     hand_is = ap (λ (n : ℕ). n + 1) (counts.hands_are ∙ ap hands_of b.now_is)
 
-    answered : IsAnswered w.thread w.came (op.Copy to u.from) (variables t.vars) (Operation (t.index + 1) ∷ b.base)
+    answered : IsAnswered w.thread w.came (op.Copy to u.from) (variables t.vars) (Operation (ordinal w.program t.index) ∷ b.base)
         (programs.put (variables t.vars) to (Some (strong_held (record { hand = t.hands + 1; place = held.place })))) answers.Ok (programs.value (variables t.vars) to) (Did (acts.Copy (Hand held.hand) (t.hands + 1)) ∷ now)
     answered =
-        let P : List Note → Type 0 = λ (ns : List Note). IsAnswered w.thread w.came (op.Copy to u.from) (variables t.vars) (Operation (t.index + 1) ∷ b.base)
+        let P : List Note → Type 0 = λ (ns : List Note). IsAnswered w.thread w.came (op.Copy to u.from) (variables t.vars) (Operation (ordinal w.program t.index) ∷ b.base)
         (programs.put (variables t.vars) to (Some (strong_held (record { hand = t.hands + 1; place = held.place })))) answers.Ok (programs.value (variables t.vars) to) (Did (acts.Copy (Hand held.hand) (t.hands + 1)) ∷ ns) in
         subst P (sym b.now_is) (copied {to = to} {from = u.from} {k = t.hands + 1} {held = strong_held held} (value-held t.vars u.from (Some held) u.source) hand_is
-        (record { spare = Unclaimed; decided = Operation (t.index + 1) ∷ b.base; ready = ready; settled = unclaimed }) (record { replaced = refl; old = refl }))
+        (record { spare = Unclaimed; decided = Operation (ordinal w.program t.index) ∷ b.base; ready = ready; settled = unclaimed }) (record { replaced = refl; old = refl }))
 
 up-loaded : (w : Work) → IsServedWork w → (t : Thread) (last : Option ℕ) (now : List Note) → WorksOn w t.layout t.shape t.thread t.phases t.program → IsCounted w t.hands t.made t.kept now → number_of now ≡ number_at w t.index → IsOfPhase w t.phase t.index →
     (to : ℕ) (held : Held) (plan : CappedAttempt) (word : ℕ) (o : Option Word) → IsUpWord plan.cap o → IsCopying w t.index to held t.vars now →
@@ -425,9 +425,9 @@ turns w served t last now s takes = go t.doing s.up_to s.number s.in_phase takes
     go : (d : Doing) → StepperUpTo w t.index t.vars t.asked now d → IsNumberedIf (is_busy d) w t.index now → IsInPhase w t.phase t.index d → takes_at last d →
         Turns w t (turned_at last d (record t { doing = Ended; first = false; event = None })) last now
     go Ready u number phase takes = plainly w t _ last now None
-        (begins w served (drop t.index (take (ops_in_first (t.phase + 1) t.phases) t.program)) (record t { doing = Ended; first = false; event = None }) now s.works s.counts
+        (begins w served t.index (drop t.index (take (ops_in_first (t.phase + 1) t.phases) t.program)) (record t { doing = Ended; first = false; event = None }) now s.works s.counts
         (ap (λ ps. drop t.index (take (ops_in_first (t.phase + 1) ps) t.program)) s.works.phases_is ∙ ap (λ (p : List Op). drop t.index (take (ops_in_first (t.phase + 1) w.phases) p)) s.works.program_is)
-        (rw phase (first_more t.phase w.phases)) u)
+        (omega arith) (rw phase (first_more t.phase w.phases)) u)
     go (Making to name plan) u number phase takes = makes w served t last now s.works s.counts number phase to name plan plan.at u
     go (Copying to held plan) u number phase takes = copies w served t last now s.works s.counts number phase to held plan plan.at u takes.0 takes.1
     go (Dropping held plan) u number phase takes = drops w served t last now s.works s.counts number phase held plan plan.at u takes.0 takes.1

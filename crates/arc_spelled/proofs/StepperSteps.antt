@@ -7,7 +7,7 @@ use Rattle.std.proofs.lemmas.List.Elements.{All-get_or}
 use Rattle.std.proofs.lemmas.List.Quantifiers.{position-Some}
 use Rattle.std.proofs.lemmas.List.Sums.{prefix_len_passes}
 use Rattle.std.proofs.lemmas.Option.{slice_get_within, get_or_from_slice_get}
-use Rattle.std.specs.Prelude.{slice_get, position, flat_map}
+use Rattle.std.specs.Prelude.{slice_get, position, flat_map, is_some}
 use Rattle.std.specs.List.{prefix_len}
 use Rattle.arc_model.specs.declared.answer.Answer.{Answer}
 use Rattle.arc_model.specs.declared.answer.Answer.TheVariants as answers
@@ -21,12 +21,12 @@ use Rattle.arc_rule.specs.declared.step.Intent.{Intent}
 use Rattle.arc_script.specs.declared.answer.Line.{Line as Told}
 use Rattle.arc_script.specs.declared.script.Op.{Op}
 use Rattle.arc_script.specs.declared.script.Op.TheVariants as op
-use Rattle.arc_script.specs.OneList.{numbered}
 use Rattle.arc_script.specs.Valid.{begins_block}
-use Rattle.arc_script.proofs.OneList.{number_is_place}
+use Rattle.arc_script.proofs.OneList.{length_in_one}
 use Rattle.arc_programs.specs.Variables.{Variables, put as put_var}
 use Rattle.arc_programs.specs.Variables as programs
-use Rattle.arc_programs.specs.Programs.{IsFromNil, IsAnswered, OpsDone, ScopeEnds}
+use Rattle.arc_programs.specs.Programs.{IsFromNil, IsAnswered, ScopeEnds, goes_on as programs_go_on}
+use Rattle.arc_programs.specs.Programs.OpsDone.{block}
 use Rattle.arc_programs.specs.Programs.IsFromNil.{copy as copy_from_nil, move as move_from_nil}
 use Rattle.arc_programs.specs.Programs.IsAnswered.{from_nil as takes_nil, moved as moves_held}
 use Rattle.arc_programs.specs.Programs.ScopeEnds.{begins as scope_starts, dropped as var_dropped}
@@ -36,10 +36,11 @@ use Rattle.arc_ops.specs.declared.stepper.Held.{Held}
 use Rattle.arc_ops.specs.declared.stepper.Doing.TheVariants.{Ready, Ended}
 use Rattle.arc_ops.specs.declared.stepper.Move.TheVariants as moves
 use Rattle.arc_ops.specs.Kept.{Kept, with_line}
-use Rattle.arc_ops.specs.Programs.{ops_in_first}
+use Rattle.arc_ops.specs.Programs.{ordinal, ops_in_first}
+use Rattle.arc_ops.proofs.Passed.{goes_forth}
 use Rattle.arc_ops.proofs.Counts.{first_few, first_all}
 use Rattle.arc_ops.specs.Served.{IsServedOp}
-use Rattle.arc_ops.specs.Thread.{Thread, value, is_held, put, set_var, skipped, drop_begun, begun_nil, begun_copy, moved, begun_move, begun_drop, phase_over, begun_at, begun, scope_drop, scope_at, scope_begun, next_op, replaced_old, replaced}
+use Rattle.arc_ops.specs.Thread.{Thread, value, is_held, put, set_var, skipped, drop_begun, begun_nil, begun_copy, moved, begun_move, begun_drop, begun_op, block_goes_on, phase_over, begun_at, begun, scope_drop, scope_at, scope_begun, next_op, replaced_old, replaced}
 use Rattle.arc_ops.specs.Thread as thread
 use Rattle.arc_spelled.specs.Shown.{ReadsName, FindsNoEntry, Says, Adds, with_act, with_event}
 use Rattle.arc_spelled.specs.Shown.ReadsName.{nothing as read_nothing, name as read_name}
@@ -114,13 +115,13 @@ pub counted-operation : (w : Work) (hands made : ℕ) (kept : Kept) (n : ℕ) (n
 counted-operation w hands made kept n now c = record { hands_are = c.hands_are; made_is = c.made_is; lines_are = c.lines_are }
 
 -- the line of an operation that is done at once
-skipped-line : (w : Work) (t : Thread) (a : Answer) (now : List Note) → IsCounted w t.hands t.made t.kept (Operation (t.index + 1) ∷ now) →
-    IsCounted w t.hands t.made (with_line (record { operation = t.index + 1; answer = a }) t.kept) (Line a ∷ Operation (t.index + 1) ∷ now)
-skipped-line w t a now c = counted-line w t.hands t.made t.kept (t.index + 1) a (Operation (t.index + 1) ∷ now) refl c
+skipped-line : (w : Work) (t : Thread) (a : Answer) (now : List Note) → WorksOn w t.layout t.shape t.thread t.phases t.program → IsCounted w t.hands t.made t.kept (Operation (ordinal w.program t.index) ∷ now) →
+    IsCounted w t.hands t.made (with_line (record { operation = ordinal t.program t.index; answer = a }) t.kept) (Line a ∷ Operation (ordinal w.program t.index) ∷ now)
+skipped-line w t a now works c = counted-line w t.hands t.made t.kept (ordinal t.program t.index) a (Operation (ordinal w.program t.index) ∷ now) (ap (λ (p : List Op). ordinal p t.index) works.program_is) c
 
 -- the number that the stepper gives a line is that of the notes
 pub number-here : (w : Work) (t : Thread) (now : List Note) → WorksOn w t.layout t.shape t.thread t.phases t.program → number_of now ≡ number_at w t.index → thread.number_of t ≡ number_of now
-number-here w t now works e = ap (λ (p : List Op). cond (ltb t.index (length p)) (t.index + 1) 0) works.program_is ∙ sym e
+number-here w t now works e = ap (λ (p : List Op). cond (ltb t.index (length p)) (ordinal p t.index) 0) works.program_is ∙ sym e
 
 -- ---- notes that are added
 
@@ -163,7 +164,7 @@ comes-after w t e b now s c = record { after = c.after; says = says-on s c.says;
 
 -- ---- operations
 
-pub number-within : (w : Work) (i : ℕ) → i < length w.program → number_at w i ≡ i + 1
+pub number-within : (w : Work) (i : ℕ) → i < length w.program → number_at w i ≡ ordinal w.program i
 number-within w i within = rw (lt-ltb i (length w.program) within) refl
 
 pub over-done : (w : Work) (i : ℕ) (vars : List (Option Held)) (now : List Note) → i < length w.program → AreDone w (i + 1) vars now → IsOver w i vars now
@@ -171,39 +172,6 @@ over-done w i vars now within d = rw (lt-ltb i (length w.program) within) d
 
 served-at : (w : Work) (i : ℕ) (o : Op) → IsServedWork w → slice_get w.program i ≡ Some o → IsServedOp o
 served-at w i o served there = subst IsServedOp (get_or_from_slice_get w.program i o o there) (All-get_or IsServedOp w.program i o (slice_get_within w.program i o there) served.ops)
-
--- no operation that is served begins a block, so the number of each is by its place
-pub no-block : (o : Op) → IsServedOp o → begins_block o ≡ false
-no-block (op.New to class) s = refl
-no-block (op.Copy to from) s = refl
-no-block (op.Move to from) s = refl
-no-block (op.Drop v) s = refl
-no-block (op.Unown to of) s = refl
-no-block (op.Weak to of) s = refl
-no-block (op.Load to of) s = refl
-no-block (op.Get to cell) s = refl
-no-block (op.Set cell from) s = refl
-no-block (op.IfNil v to) s = absurd s
-no-block (op.IfSome v to) s = absurd s
-
-place-number : (w : Work) → IsServedWork w → (i : ℕ) (o : Op) → slice_get w.program i ≡ Some o → numbered (take (i + 1) w.program) ≡ i + 1
-place-number w served i o there =
-    let within = slice_get_within w.program i o there in
-    number_is_place w.program (i + 1) (λ j x at. no-block x (served-at w j x served at)) (omega arith)
-
-pub op-answers : (w : Work) → IsServedWork w → {i : ℕ} {o : Op} {vars vars' : Variables} {answer : Answer} {b ns : List Note} →
-    IsNext w.shape w.thread w.came w.program w.count i o vars b → IsAnswered w.thread w.came o vars (Operation (i + 1) ∷ b) vars' answer None ns →
-    OpsDone w.shape w.thread w.came w.program w.count (i + 1) vars' (Line answer ∷ ns)
-op-answers w served {i} {o} {vars} {vars'} {answer} {b} {ns} n d =
-    let P : ℕ → Type 0 = λ (k : ℕ). IsAnswered w.thread w.came o vars (Operation k ∷ b) vars' answer None ns in
-    answers_last n (subst P (sym (place-number w served i o n.there)) d)
-
-op-drops : (w : Work) → IsServedWork w → {i : ℕ} {o : Op} {vars vars' : Variables} {answer : Answer} {old : programs.Held} {b ns after : List Note} →
-    IsNext w.shape w.thread w.came w.program w.count i o vars b → IsAnswered w.thread w.came o vars (Operation (i + 1) ∷ b) vars' answer (Some old) ns →
-    IsDrop w.shape old.kind old.place old.hand (Line answer ∷ ns) after → OpsDone w.shape w.thread w.came w.program w.count (i + 1) vars' after
-op-drops w served {i} {o} {vars} {vars'} {answer} {old} {b} {ns} n d x =
-    let P : ℕ → Type 0 = λ (k : ℕ). IsAnswered w.thread w.came o vars (Operation k ∷ b) vars' answer (Some old) ns in
-    drops_last n (subst P (sym (place-number w served i o n.there)) d) x
 
 get-drop_suc : {X : Type 0} (xs rest : List X) (i : ℕ) (x : X) → x ∷ rest ≡ drop i xs → (slice_get xs i ≡ Some x) × (rest ≡ drop (suc i) xs)
 get-drop_suc [] rest zero x e = absurd (cc)
@@ -325,19 +293,19 @@ is-here w t o rest r =
     record { there = here.0; within = below; in_phase = rw (lt-ltb t.index (length w.program) below) here.1; before_end = let h = here.1 in omega arith; behind = g.1 }
 
 -- the operations of the phase are done: it waits for the next phase, or the scope ends
-ends-phase : (w : Work) → IsServedWork w → (t : Thread) (now : List Note) → WorksOn w t.layout t.shape t.thread t.phases t.program → IsCounted w t.hands t.made t.kept now →
-    [] ≡ drop t.index (take (ops_in_first (t.phase + 1) w.phases) w.program) → t.index ≤ ops_in_first (t.phase + 1) w.phases → AreDone w t.index t.vars now → Comes w (phase_over t) t.event now
-ends-phase w served t now works counts r before d = subst P (sym works.phases_is) (go (ltb (t.phase + 1) (length w.phases)) refl)
+ends-phase : (w : Work) → IsServedWork w → (at : ℕ) (t : Thread) (now : List Note) → WorksOn w t.layout t.shape t.thread t.phases t.program → IsCounted w t.hands t.made t.kept now →
+    [] ≡ drop at (take (ops_in_first (t.phase + 1) w.phases) w.program) → at ≤ t.index → t.index ≤ ops_in_first (t.phase + 1) w.phases → AreDone w t.index t.vars now → Comes w (phase_over t) t.event now
+ends-phase w served at t now works counts r past_it before d = subst P (sym works.phases_is) (go (ltb (t.phase + 1) (length w.phases)) refl)
   where
     P : List (List Op) → Type 0
     P phases = Comes w (cond (ltb (t.phase + 1) (length phases)) (record t { doing = Ready; asked = moves.PhaseEnd; phase = t.phase + 1 }) (scope_begun t)) t.event now
 
     total : length w.program ≡ length (flat_map (λ ops. ops) w.phases)
-    total = ap length served.whole
+    total = ap length served.whole ∙ length_in_one 0 w.phases
 
     at_end : t.index ≡ ops_in_first (t.phase + 1) w.phases
     at_end =
-        let most = nothing-left (take (ops_in_first (t.phase + 1) w.phases) w.program) t.index r in
+        let most = nothing-left (take (ops_in_first (t.phase + 1) w.phases) w.program) at r in
         let few = first_few (t.phase + 1) w.phases in
         let all = total in
         let long : length (take (ops_in_first (t.phase + 1) w.phases) w.program) ≡ ops_in_first (t.phase + 1) w.phases = length-take-le (ops_in_first (t.phase + 1) w.phases) w.program (omega arith) in
@@ -374,54 +342,52 @@ ends-phase w served t now works counts r before d = subst P (sym works.phases_is
 
 -- an operation that is next, with what every operation needs
 record Opens (w : Work) (t : Thread) (now : List Note) (o : Op) : Type 0 where
-  served : IsServedWork w
   next : IsNext w.shape w.thread w.came w.program w.count t.index o (variables t.vars) now
-  number : number_of (Operation (t.index + 1) ∷ now) ≡ number_at w t.index
-  opened : IsCounted w t.hands t.made t.kept (Operation (t.index + 1) ∷ now)
+  number : number_of (Operation (ordinal w.program t.index) ∷ now) ≡ number_at w t.index
+  opened : IsCounted w t.hands t.made t.kept (Operation (ordinal w.program t.index) ∷ now)
 
-opens : (w : Work) → IsServedWork w → (t : Thread) (now : List Note) (o : Op) (rest : List Op) → IsHere w t o rest → IsCounted w t.hands t.made t.kept now → AreDone w t.index t.vars now → Opens w t now o
-opens w served t now o rest here counts d = record {
-  served = served;
+opens : (w : Work) (t : Thread) (now : List Note) (o : Op) (rest : List Op) → IsHere w t o rest → IsCounted w t.hands t.made t.kept now → AreDone w t.index t.vars now → Opens w t now o
+opens w t now o rest here counts d = record {
   next = record { done = d; there = here.there };
   number = sym (number-within w t.index here.within);
-  opened = counted-operation w t.hands t.made t.kept (t.index + 1) now counts;
+  opened = counted-operation w t.hands t.made t.kept (ordinal w.program t.index) now counts;
 }
 
 -- a nil reference is taken for a variable
 from-nil : (w : Work) (t : Thread) (now : List Note) (o : Op) (rest : List Op) (to : ℕ) (go : Thread → Thread) → WorksOn w t.layout t.shape t.thread t.phases t.program → IsHere w t o rest → Opens w t now o →
     IsFromNil (variables t.vars) o to →
-    (AreDone w (t.index + 1) t.vars (Line answers.Nil ∷ Operation (t.index + 1) ∷ now) → Comes w (go (skipped answers.Nil t)) t.event (Line answers.Nil ∷ Operation (t.index + 1) ∷ now)) →
+    (AreDone w (t.index + 1) t.vars (Line answers.Nil ∷ Operation (ordinal w.program t.index) ∷ now) → Comes w (go (skipped answers.Nil t)) t.event (Line answers.Nil ∷ Operation (ordinal w.program t.index) ∷ now)) →
     Comes w (begun_nil to (value t.vars to) t go) t.event now
 from-nil w t now o rest to go works here x nil skip = at (value t.vars to) refl
   where
     answered : (old : Option Held) → value t.vars to ≡ old →
-        IsAnswered w.thread w.came o (variables t.vars) (Operation (t.index + 1) ∷ now) (put_var (variables t.vars) to None) answers.Nil (held_in old) (Operation (t.index + 1) ∷ now)
+        IsAnswered w.thread w.came o (variables t.vars) (Operation (ordinal w.program t.index) ∷ now) (put_var (variables t.vars) to None) answers.Nil (held_in old) (Operation (ordinal w.program t.index) ∷ now)
     answered old e = takes_nil nil (record { replaced = refl; old = sym (value-held t.vars to old e) }) refl
 
     at : (old : Option Held) → value t.vars to ≡ old → Comes w (begun_nil to old t go) t.event now
     at (Some old) e = record {
-      after = Line answers.Nil ∷ Operation (t.index + 1) ∷ now;
+      after = Line answers.Nil ∷ Operation (ordinal w.program t.index) ∷ now;
       says = line (operation nothing);
       event = refl;
-      stands = drop-asks w (set_var to None (put answers.Nil (record t { first = true }))) old (Line answers.Nil ∷ Operation (t.index + 1) ∷ now) works
-          (counted-line w t.hands t.made t.kept (thread.number_of t) answers.Nil (Operation (t.index + 1) ∷ now) (number-here w t (Operation (t.index + 1) ∷ now) works x.number) x.opened)
+      stands = drop-asks w (set_var to None (put answers.Nil (record t { first = true }))) old (Line answers.Nil ∷ Operation (ordinal w.program t.index) ∷ now) works
+          (counted-line w t.hands t.made t.kept (thread.number_of t) answers.Nil (Operation (ordinal w.program t.index) ∷ now) (number-here w t (Operation (ordinal w.program t.index) ∷ now) works x.number) x.opened)
           x.number here.in_phase
-          (λ after y. over-done w t.index (set t.vars to None) after here.within (rw (put-held t.vars to None) (op-drops w x.served x.next (answered (Some old) e) y)));
+          (λ after y. over-done w t.index (set t.vars to None) after here.within (rw (put-held t.vars to None) (drops_last x.next (answered (Some old) e) y)));
     }
     at None e =
         let same : put_var (variables t.vars) to None ≡ variables t.vars = put-nil (variables t.vars) to (value-held t.vars to None e) in
-        comes-after w (go (skipped answers.Nil t)) t.event now (Line answers.Nil ∷ Operation (t.index + 1) ∷ now) (line (operation nothing)) (skip (rw same at (op-answers w x.served x.next (answered None e))))
+        comes-after w (go (skipped answers.Nil t)) t.event now (Line answers.Nil ∷ Operation (ordinal w.program t.index) ∷ now) (line (operation nothing)) (skip (rw same at (answers_last x.next (answered None e))))
 
 -- a reference is copied
 copying : (w : Work) (t : Thread) (now : List Note) (to from : ℕ) (rest : List Op) (go : Thread → Thread) → WorksOn w t.layout t.shape t.thread t.phases t.program → IsHere w t (op.Copy to from) rest →
     Opens w t now (op.Copy to from) → AreDone w t.index t.vars now →
-    (AreDone w (t.index + 1) t.vars (Line answers.Nil ∷ Operation (t.index + 1) ∷ now) → Comes w (go (skipped answers.Nil t)) t.event (Line answers.Nil ∷ Operation (t.index + 1) ∷ now)) →
+    (AreDone w (t.index + 1) t.vars (Line answers.Nil ∷ Operation (ordinal w.program t.index) ∷ now) → Comes w (go (skipped answers.Nil t)) t.event (Line answers.Nil ∷ Operation (ordinal w.program t.index) ∷ now)) →
     Comes w (begun_copy to (value t.vars from) (value t.vars to) t go) t.event now
 copying w t now to from rest go works here x d skip = at (value t.vars from) refl
   where
     at : (source : Option Held) → value t.vars from ≡ source → Comes w (begun_copy to source (value t.vars to) t go) t.event now
     at (Some h) e = record {
-      after = Operation (t.index + 1) ∷ now;
+      after = Operation (ordinal w.program t.index) ∷ now;
       says = operation nothing;
       event = refl;
       stands = record {
@@ -438,9 +404,9 @@ copying w t now to from rest go works here x d skip = at (value t.vars from) ref
 -- a reference is moved
 moving : (w : Work) (t : Thread) (now : List Note) (to from : ℕ) (rest : List Op) (go : Thread → Thread) → WorksOn w t.layout t.shape t.thread t.phases t.program → IsHere w t (op.Move to from) rest →
     Opens w t now (op.Move to from) →
-    (AreDone w (t.index + 1) t.vars (Line answers.Nil ∷ Operation (t.index + 1) ∷ now) → Comes w (go (skipped answers.Nil t)) t.event (Line answers.Nil ∷ Operation (t.index + 1) ∷ now)) →
-    ((held : Held) → AreDone w (t.index + 1) (set (set t.vars to (Some held)) from None) (Line answers.Ok ∷ Operation (t.index + 1) ∷ now) →
-    Comes w (go (moved to from held (skipped answers.Ok t))) t.event (Line answers.Ok ∷ Operation (t.index + 1) ∷ now)) →
+    (AreDone w (t.index + 1) t.vars (Line answers.Nil ∷ Operation (ordinal w.program t.index) ∷ now) → Comes w (go (skipped answers.Nil t)) t.event (Line answers.Nil ∷ Operation (ordinal w.program t.index) ∷ now)) →
+    ((held : Held) → AreDone w (t.index + 1) (set (set t.vars to (Some held)) from None) (Line answers.Ok ∷ Operation (ordinal w.program t.index) ∷ now) →
+    Comes w (go (moved to from held (skipped answers.Ok t))) t.event (Line answers.Ok ∷ Operation (ordinal w.program t.index) ∷ now)) →
     Comes w (begun_move to from (value t.vars from) (value t.vars to) t go) t.event now
 moving w t now to from rest go works here x skip move = at (value t.vars from) refl
   where
@@ -448,23 +414,23 @@ moving w t now to from rest go works here x skip move = at (value t.vars from) r
     replaced_vars h = put-held (set t.vars to (Some h)) from None ∙ ap (λ vs. put_var vs from None) (put-held t.vars to (Some h))
 
     answered : (h : Held) (old : Option Held) → value t.vars from ≡ Some h → value t.vars to ≡ old →
-        IsAnswered w.thread w.came (op.Move to from) (variables t.vars) (Operation (t.index + 1) ∷ now) (put_var (put_var (variables t.vars) to (Some (strong_held h))) from None) answers.Ok (held_in old)
-        (Operation (t.index + 1) ∷ now)
+        IsAnswered w.thread w.came (op.Move to from) (variables t.vars) (Operation (ordinal w.program t.index) ∷ now) (put_var (put_var (variables t.vars) to (Some (strong_held h))) from None) answers.Ok (held_in old)
+        (Operation (ordinal w.program t.index) ∷ now)
     answered h old e f = moves_held (value-held t.vars from (Some h) e) (record { replaced = refl; old = sym (value-held t.vars to old f) }) refl refl
 
     to_place : (h : Held) (old : Option Held) → value t.vars from ≡ Some h → value t.vars to ≡ old → Comes w (begun_move to from (Some h) old t go) t.event now
     to_place h (Some old) e f = record {
-      after = Line answers.Ok ∷ Operation (t.index + 1) ∷ now;
+      after = Line answers.Ok ∷ Operation (ordinal w.program t.index) ∷ now;
       says = line (operation nothing);
       event = refl;
-      stands = drop-asks w (moved to from h (put answers.Ok (record t { first = true }))) old (Line answers.Ok ∷ Operation (t.index + 1) ∷ now) works
-          (counted-line w t.hands t.made t.kept (thread.number_of t) answers.Ok (Operation (t.index + 1) ∷ now) (number-here w t (Operation (t.index + 1) ∷ now) works x.number) x.opened)
+      stands = drop-asks w (moved to from h (put answers.Ok (record t { first = true }))) old (Line answers.Ok ∷ Operation (ordinal w.program t.index) ∷ now) works
+          (counted-line w t.hands t.made t.kept (thread.number_of t) answers.Ok (Operation (ordinal w.program t.index) ∷ now) (number-here w t (Operation (ordinal w.program t.index) ∷ now) works x.number) x.opened)
           x.number here.in_phase
-          (λ after y. over-done w t.index (set (set t.vars to (Some h)) from None) after here.within (rw (replaced_vars h) (op-drops w x.served x.next (answered h (Some old) e f) y)));
+          (λ after y. over-done w t.index (set (set t.vars to (Some h)) from None) after here.within (rw (replaced_vars h) (drops_last x.next (answered h (Some old) e f) y)));
     }
     to_place h None e f =
-        comes-after w (go (moved to from h (skipped answers.Ok t))) t.event now (Line answers.Ok ∷ Operation (t.index + 1) ∷ now) (line (operation nothing))
-        (move h (rw (replaced_vars h) (op-answers w x.served x.next (answered h None e f))))
+        comes-after w (go (moved to from h (skipped answers.Ok t))) t.event now (Line answers.Ok ∷ Operation (ordinal w.program t.index) ∷ now) (line (operation nothing))
+        (move h (rw (replaced_vars h) (answers_last x.next (answered h None e f))))
 
     at : (source : Option Held) → value t.vars from ≡ source → Comes w (begun_move to from source (value t.vars to) t go) t.event now
     at (Some h) e = to_place h (value t.vars to) e refl
@@ -472,69 +438,115 @@ moving w t now to from rest go works here x skip move = at (value t.vars from) r
 
 -- a reference is dropped
 dropping : (w : Work) (t : Thread) (now : List Note) (v : ℕ) (rest : List Op) (go : Thread → Thread) → WorksOn w t.layout t.shape t.thread t.phases t.program → IsHere w t (op.Drop v) rest → Opens w t now (op.Drop v) →
-    (AreDone w (t.index + 1) t.vars (Line answers.Nil ∷ Operation (t.index + 1) ∷ now) → Comes w (go (skipped answers.Nil t)) t.event (Line answers.Nil ∷ Operation (t.index + 1) ∷ now)) →
+    (AreDone w (t.index + 1) t.vars (Line answers.Nil ∷ Operation (ordinal w.program t.index) ∷ now) → Comes w (go (skipped answers.Nil t)) t.event (Line answers.Nil ∷ Operation (ordinal w.program t.index) ∷ now)) →
     Comes w (begun_drop v (value t.vars v) t go) t.event now
 dropping w t now v rest go works here x skip = at (value t.vars v) refl
   where
     at : (old : Option Held) → value t.vars v ≡ old → Comes w (begun_drop v old t go) t.event now
     at (Some old) e = record {
-      after = Line answers.Ok ∷ Operation (t.index + 1) ∷ now;
+      after = Line answers.Ok ∷ Operation (ordinal w.program t.index) ∷ now;
       says = line (operation nothing);
       event = refl;
-      stands = drop-asks w (set_var v None (put answers.Ok (record t { first = true }))) old (Line answers.Ok ∷ Operation (t.index + 1) ∷ now) works
-          (counted-line w t.hands t.made t.kept (thread.number_of t) answers.Ok (Operation (t.index + 1) ∷ now) (number-here w t (Operation (t.index + 1) ∷ now) works x.number) x.opened)
+      stands = drop-asks w (set_var v None (put answers.Ok (record t { first = true }))) old (Line answers.Ok ∷ Operation (ordinal w.program t.index) ∷ now) works
+          (counted-line w t.hands t.made t.kept (thread.number_of t) answers.Ok (Operation (ordinal w.program t.index) ∷ now) (number-here w t (Operation (ordinal w.program t.index) ∷ now) works x.number) x.opened)
           x.number here.in_phase
           (λ after y. over-done w t.index (set t.vars v None) after here.within
-          (rw (put-held t.vars v None) (op-drops w x.served x.next (drop_of w.thread v w.came (strong_held old) (variables t.vars) (Operation (t.index + 1) ∷ now) (value-held t.vars v (Some old) e)) y)));
+          (rw (put-held t.vars v None) (drops_last x.next (drop_of w.thread v w.came (strong_held old) (variables t.vars) (Operation (ordinal w.program t.index) ∷ now) (value-held t.vars v (Some old) e)) y)));
     }
-    at None e = comes-after w (go (skipped answers.Nil t)) t.event now (Line answers.Nil ∷ Operation (t.index + 1) ∷ now) (line (operation nothing))
-        (skip (op-answers w x.served x.next (drop_of_nil w.thread v w.came (variables t.vars) (Operation (t.index + 1) ∷ now) (value-held t.vars v None e))))
+    at None e = comes-after w (go (skipped answers.Nil t)) t.event now (Line answers.Nil ∷ Operation (ordinal w.program t.index) ∷ now) (line (operation nothing))
+        (skip (answers_last x.next (drop_of_nil w.thread v w.came (variables t.vars) (Operation (ordinal w.program t.index) ∷ now) (value-held t.vars v None e))))
+
+-- what goes on behind an operation of the phase
+abbrev GoesOnBehind : Work → ℕ → List Op → ℕ → Type 0
+GoesOnBehind w at rest phase = (u : Thread) (ns : List Note) → WorksOn w u.layout u.shape u.thread u.phases u.program → IsCounted w u.hands u.made u.kept ns → u.phase ≡ phase →
+    at + 1 ≤ u.index → u.index ≤ ops_in_first (phase + 1) w.phases → AreDone w u.index u.vars ns → Comes w (begun_at (at + 1) rest u) u.event ns
+
+-- a variable holds a reference for the stepper exactly where it does for the notes
+same-held : (vars : List (Option Held)) (v : ℕ) → is_some (programs.value (variables vars) v) ≡ is_held (value vars v)
+same-held vars v = ap is_some (value-held vars v (value vars v) refl) ∙ go (value vars v)
+  where
+    go : (o : Option Held) → is_some (held_in o) ≡ is_held o
+    go None = refl
+    go (Some h) = refl
+
+-- a block begins: the thread goes on in it, or behind it
+comes-to-block : (w : Work) → IsServedWork w → (at : ℕ) (o : Op) (rest : List Op) (t : Thread) (now : List Note) → WorksOn w t.layout t.shape t.thread t.phases t.program → IsCounted w t.hands t.made t.kept now → at ≡ t.index →
+    IsHere w t o rest → AreDone w t.index t.vars now → GoesOnBehind w at rest t.phase → begins_block o ≡ true → (n : ℕ) → block_goes_on t.vars t.index o ≡ Some n → n ≡ programs_go_on (variables t.vars) t.index o →
+    Comes w (begun_at (at + 1) rest (record t { index = n })) t.event now
+comes-to-block w served at o rest t now works counts place here d on begins n goes same =
+    let below = here.before_end in
+    let less : t.index < ops_in_first (t.phase + 1) w.phases = omega (arith, below) in
+    let forth = goes_forth t.vars t.index (ops_in_first (t.phase + 1) w.phases) n o less (served.blocks (t.phase + 1) t.index o less here.there) goes in
+    let past = forth.0 in
+    on (record t { index = n }) now works counts refl (omega (arith, past, place)) forth.1 (block d here.there begins same past)
+
+-- the operation begins where the thread stands
+comes-to : (w : Work) → IsServedWork w → (at : ℕ) (o : Op) (rest : List Op) (t : Thread) (now : List Note) → WorksOn w t.layout t.shape t.thread t.phases t.program → IsCounted w t.hands t.made t.kept now → at ≡ t.index →
+    IsHere w t o rest → AreDone w t.index t.vars now → GoesOnBehind w at rest t.phase → Comes w (begun_op o t (λ behind. begun_at (at + 1) rest behind)) t.event now
+comes-to w served at (op.New to class) rest t now works counts place here d on = record {
+  after = Operation (ordinal w.program t.index) ∷ now;
+  says = operation nothing;
+  event = refl;
+  stands = record {
+    works = works;
+    in_phase = here.in_phase;
+    counts = counted-operation w t.hands t.made t.kept (ordinal w.program t.index) now counts;
+    number = sym (number-within w t.index here.within);
+    asks = tt;
+    up_to = record {
+      begun = record { base = now; done = d; there = here.there; now_is = refl };
+      named = rw (works.thread_is, counts.made_is) refl;
+    };
+  };
+}
+comes-to w served at (op.Copy to from) rest t now works counts place here d on =
+    let x = opens w t now (op.Copy to from) rest here counts d in
+    copying w t now to from rest (λ behind. begun_at (at + 1) rest behind) works here x d
+    (λ done. on (skipped answers.Nil t) (Line answers.Nil ∷ Operation (ordinal w.program t.index) ∷ now) works (skipped-line w t answers.Nil now works x.opened) refl (omega (arith, place)) here.before_end done)
+comes-to w served at (op.Move to from) rest t now works counts place here d on =
+    let x = opens w t now (op.Move to from) rest here counts d in
+    moving w t now to from rest (λ behind. begun_at (at + 1) rest behind) works here x
+    (λ done. on (skipped answers.Nil t) (Line answers.Nil ∷ Operation (ordinal w.program t.index) ∷ now) works (skipped-line w t answers.Nil now works x.opened) refl (omega (arith, place)) here.before_end done)
+    (λ held done. on (moved to from held (skipped answers.Ok t)) (Line answers.Ok ∷ Operation (ordinal w.program t.index) ∷ now) works (skipped-line w t answers.Ok now works x.opened) refl (omega (arith, place)) here.before_end done)
+comes-to w served at (op.Drop v) rest t now works counts place here d on =
+    let x = opens w t now (op.Drop v) rest here counts d in
+    dropping w t now v rest (λ behind. begun_at (at + 1) rest behind) works here x
+    (λ done. on (skipped answers.Nil t) (Line answers.Nil ∷ Operation (ordinal w.program t.index) ∷ now) works (skipped-line w t answers.Nil now works x.opened) refl (omega (arith, place)) here.before_end done)
+comes-to w served at (op.IfNil v to) rest t now works counts place here d on =
+    comes-to-block w served at (op.IfNil v to) rest t now works counts place here d on refl (cond (is_held (value t.vars v)) to (t.index + 1)) refl (ap (λ (b : Bool). cond b to (t.index + 1)) (sym (same-held t.vars v)))
+comes-to w served at (op.IfSome v to) rest t now works counts place here d on =
+    comes-to-block w served at (op.IfSome v to) rest t now works counts place here d on refl (cond (is_held (value t.vars v)) (t.index + 1) to) refl (ap (λ (b : Bool). cond b (t.index + 1) to) (sym (same-held t.vars v)))
+comes-to w served at (op.Unown to of) rest t now works counts place here d on = absurd (served-at w t.index (op.Unown to of) served here.there)
+comes-to w served at (op.Weak to of) rest t now works counts place here d on = absurd (served-at w t.index (op.Weak to of) served here.there)
+comes-to w served at (op.Load to of) rest t now works counts place here d on = absurd (served-at w t.index (op.Load to of) served here.there)
+comes-to w served at (op.Get to cell) rest t now works counts place here d on = absurd (served-at w t.index (op.Get to cell) served here.there)
+comes-to w served at (op.Set cell from) rest t now works counts place here d on = absurd (served-at w t.index (op.Set cell from) served here.there)
+
+-- the thread has gone past the operation, or it begins
+passes-or-comes : (w : Work) → IsServedWork w → (at : ℕ) (o : Op) (rest : List Op) (t : Thread) (now : List Note) → WorksOn w t.layout t.shape t.thread t.phases t.program → IsCounted w t.hands t.made t.kept now →
+    o ∷ rest ≡ drop at (take (ops_in_first (t.phase + 1) w.phases) w.program) → at ≤ t.index → t.index ≤ ops_in_first (t.phase + 1) w.phases → AreDone w t.index t.vars now → GoesOnBehind w at rest t.phase → Comes w (begun_at at (o ∷ rest) t) t.event now
+passes-or-comes w served at o rest t now works counts r past before d on = go (ltb at t.index) refl
+  where
+    go : (b : Bool) → ltb at t.index ≡ b → Comes w (cond b (begun_at (at + 1) rest t) (begun_op o t (λ behind. begun_at (at + 1) rest behind))) t.event now
+    go true e = let less = ltb-true at t.index e in on t now works counts refl (omega (arith, less)) before d
+    go false e =
+        let not_less = ltb-false at t.index e in
+        let place : at ≡ t.index = omega (arith, past, not_less) in
+        let P : ℕ → Type 0 = λ (i : ℕ). o ∷ rest ≡ drop i (take (ops_in_first (t.phase + 1) w.phases) w.program) in
+        comes-to w served at o rest t now works counts place (is-here w t o rest (subst P place r)) d on
 
 -- the first operation of the rest of the phase that asks for a step begins, or the phase is over
-pub begins : (w : Work) → IsServedWork w → (rest : List Op) (t : Thread) (now : List Note) → WorksOn w t.layout t.shape t.thread t.phases t.program → IsCounted w t.hands t.made t.kept now →
-    rest ≡ drop t.index (take (ops_in_first (t.phase + 1) w.phases) w.program) → t.index ≤ ops_in_first (t.phase + 1) w.phases → AreDone w t.index t.vars now → Comes w (begun_at rest t) t.event now
-begins w served [] t now works counts r before d = ends-phase w served t now works counts r before d
-begins w served (op.New to class ∷ rest) t now works counts r before d =
-    let here = is-here w t (op.New to class) rest r in
-    record {
-      after = Operation (t.index + 1) ∷ now;
-      says = operation nothing;
-      event = refl;
-      stands = record {
-        works = works;
-        in_phase = here.in_phase;
-        counts = counted-operation w t.hands t.made t.kept (t.index + 1) now counts;
-        number = sym (number-within w t.index here.within);
-        asks = tt;
-        up_to = record {
-          begun = record { base = now; done = d; there = here.there; now_is = refl };
-          named = rw (works.thread_is, counts.made_is) refl;
-        };
-      };
-    }
-begins w served (op.Copy to from ∷ rest) t now works counts r before d =
-    let here = is-here w t (op.Copy to from) rest r in
-    let x = opens w served t now (op.Copy to from) rest here counts d in
-    copying w t now to from rest (λ behind. begun_at rest behind) works here x d
-    (λ done. begins w served rest (skipped answers.Nil t) (Line answers.Nil ∷ Operation (t.index + 1) ∷ now) works (skipped-line w t answers.Nil now x.opened) here.behind here.before_end done)
-begins w served (op.Move to from ∷ rest) t now works counts r before d =
-    let here = is-here w t (op.Move to from) rest r in
-    let x = opens w served t now (op.Move to from) rest here counts d in
-    moving w t now to from rest (λ behind. begun_at rest behind) works here x
-    (λ done. begins w served rest (skipped answers.Nil t) (Line answers.Nil ∷ Operation (t.index + 1) ∷ now) works (skipped-line w t answers.Nil now x.opened) here.behind here.before_end done)
-    (λ held done. begins w served rest (moved to from held (skipped answers.Ok t)) (Line answers.Ok ∷ Operation (t.index + 1) ∷ now) works (skipped-line w t answers.Ok now x.opened) here.behind here.before_end done)
-begins w served (op.Drop v ∷ rest) t now works counts r before d =
-    let here = is-here w t (op.Drop v) rest r in
-    let x = opens w served t now (op.Drop v) rest here counts d in
-    dropping w t now v rest (λ behind. begun_at rest behind) works here x
-    (λ done. begins w served rest (skipped answers.Nil t) (Line answers.Nil ∷ Operation (t.index + 1) ∷ now) works (skipped-line w t answers.Nil now x.opened) here.behind here.before_end done)
-begins w served (op.Unown to of ∷ rest) t now works counts r before d = absurd (served-at w t.index (op.Unown to of) served (is-here w t (op.Unown to of) rest r).there)
-begins w served (op.Weak to of ∷ rest) t now works counts r before d = absurd (served-at w t.index (op.Weak to of) served (is-here w t (op.Weak to of) rest r).there)
-begins w served (op.Load to of ∷ rest) t now works counts r before d = absurd (served-at w t.index (op.Load to of) served (is-here w t (op.Load to of) rest r).there)
-begins w served (op.Get to cell ∷ rest) t now works counts r before d = absurd (served-at w t.index (op.Get to cell) served (is-here w t (op.Get to cell) rest r).there)
-begins w served (op.Set cell from ∷ rest) t now works counts r before d = absurd (served-at w t.index (op.Set cell from) served (is-here w t (op.Set cell from) rest r).there)
-begins w served (op.IfNil v to ∷ rest) t now works counts r before d = absurd (served-at w t.index (op.IfNil v to) served (is-here w t (op.IfNil v to) rest r).there)
-begins w served (op.IfSome v to ∷ rest) t now works counts r before d = absurd (served-at w t.index (op.IfSome v to) served (is-here w t (op.IfSome v to) rest r).there)
+pub begins : (w : Work) → IsServedWork w → (at : ℕ) (rest : List Op) (t : Thread) (now : List Note) → WorksOn w t.layout t.shape t.thread t.phases t.program → IsCounted w t.hands t.made t.kept now →
+    rest ≡ drop at (take (ops_in_first (t.phase + 1) w.phases) w.program) → at ≤ t.index → t.index ≤ ops_in_first (t.phase + 1) w.phases → AreDone w t.index t.vars now → Comes w (begun_at at rest t) t.event now
+begins w served at [] t now works counts r past before d = ends-phase w served at t now works counts r past before d
+begins w served at (o ∷ rest) t now works counts r past before d =
+    passes-or-comes w served at o rest t now works counts r past before d
+    (λ u ns works_u counts_u phase past_u before_u d_u.
+    begins w served (at + 1) rest u ns works_u counts_u
+    (let P : ℕ → Type 0 = λ (k : ℕ). rest ≡ drop (at + 1) (take (ops_in_first (k + 1) w.phases) w.program) in subst P (sym phase) (get-drop (take (ops_in_first (t.phase + 1) w.phases) w.program) rest at o r).1)
+    past_u
+    (let P : ℕ → Type 0 = λ (k : ℕ). u.index ≤ ops_in_first (k + 1) w.phases in subst P (sym phase) before_u)
+    d_u)
 
 -- what was under way is over
 pub goes-on : (w : Work) → IsServedWork w → (t : Thread) (now : List Note) → WorksOn w t.layout t.shape t.thread t.phases t.program → IsCounted w t.hands t.made t.kept now →
@@ -547,10 +559,10 @@ goes-on w served t now works counts number phase over =
     rest_is : (i : ℕ) → drop i (take (ops_in_first (t.phase + 1) t.phases) t.program) ≡ drop i (take (ops_in_first (t.phase + 1) w.phases) w.program)
     rest_is i = ap (λ ps. drop i (take (ops_in_first (t.phase + 1) ps) t.program)) works.phases_is ∙ ap (λ (p : List Op). drop i (take (ops_in_first (t.phase + 1) w.phases) p)) works.program_is
 
-    go : (b : Bool) → ltb t.index (length w.program) ≡ b → IsOverIf b w t.index t.vars now → number_of now ≡ cond b (t.index + 1) 0 → IsOfPhaseIf b w t.phase t.index →
+    go : (b : Bool) → ltb t.index (length w.program) ≡ b → IsOverIf b w t.index t.vars now → number_of now ≡ cond b (ordinal w.program t.index) 0 → IsOfPhaseIf b w t.phase t.index →
         Comes w (begun (record t { doing = Ended; index = cond b (t.index + 1) t.index })) t.event now
     go true e over number phase =
-        begins w served (drop (t.index + 1) (take (ops_in_first (t.phase + 1) t.phases) t.program)) (record t { doing = Ended; index = t.index + 1 }) now works counts (rest_is (t.index + 1)) (omega arith) over
+        begins w served (t.index + 1) (drop (t.index + 1) (take (ops_in_first (t.phase + 1) t.phases) t.program)) (record t { doing = Ended; index = t.index + 1 }) now works counts (rest_is (t.index + 1)) (omega arith) (omega arith) over
     go false e over number phase = subst Q (sym none) (subst R (sym works.phases_is) (last (ltb (t.phase + 1) (length w.phases)) refl))
       where
         past : length w.program ≤ t.index
@@ -563,7 +575,7 @@ goes-on w served t now works counts number phase over =
             rest_is t.index ∙ drop_all t.index (take (ops_in_first (t.phase + 1) w.phases) w.program) (omega arith)
 
         Q : List Op → Type 0
-        Q rest = Comes w (begun_at rest (record t { doing = Ended; index = t.index })) t.event now
+        Q rest = Comes w (begun_at t.index rest (record t { doing = Ended; index = t.index })) t.event now
 
         R : List (List Op) → Type 0
         R phases = Comes w
@@ -577,7 +589,7 @@ goes-on w served t now works counts number phase over =
 -- the destination has its new reference, and what it held is dropped last
 pub replaces : (w : Work) → IsServedWork w → (t : Thread) (to : ℕ) (held : Held) (o : Op) (answer : Answer) (base ns : List Note) → WorksOn w t.layout t.shape t.thread t.phases t.program →
     IsCounted w t.hands t.made t.kept (Line answer ∷ ns) → number_of ns ≡ number_at w t.index → IsOfPhase w t.phase t.index → AreDone w t.index t.vars base → slice_get w.program t.index ≡ Some o →
-    IsAnswered w.thread w.came o (variables t.vars) (Operation (t.index + 1) ∷ base) (put_var (variables t.vars) to (Some (strong_held held))) answer (programs.value (variables t.vars) to) ns →
+    IsAnswered w.thread w.came o (variables t.vars) (Operation (ordinal w.program t.index) ∷ base) (put_var (variables t.vars) to (Some (strong_held held))) answer (programs.value (variables t.vars) to) ns →
     Comes w (replaced to held t) t.event (Line answer ∷ ns)
 replaces w served t to held o answer base ns works counts number phase done there answered = go (value t.vars to) refl
   where
@@ -589,12 +601,12 @@ replaces w served t to held o answer base ns works counts number phase done ther
 
     go : (old : Option Held) → value t.vars to ≡ old → Comes w (replaced_old old (set_var to (Some held) t)) t.event (Line answer ∷ ns)
     go None e =
-        let d : AreDone w (t.index + 1) (set t.vars to (Some held)) (Line answer ∷ ns) = rw (put-held t.vars to (Some held)) (op-answers w served next (rw (value-held t.vars to None e) at answered)) in
+        let d : AreDone w (t.index + 1) (set t.vars to (Some held)) (Line answer ∷ ns) = rw (put-held t.vars to (Some held)) (answers_last next (rw (value-held t.vars to None e) at answered)) in
         goes-on w served (set_var to (Some held) t) (Line answer ∷ ns) works counts number phase (over-done w t.index (set t.vars to (Some held)) (Line answer ∷ ns) within d)
     go (Some old) e = record {
       after = Line answer ∷ ns;
       says = nothing;
       event = refl;
       stands = drop-asks w (set_var to (Some held) t) old (Line answer ∷ ns) works counts number phase
-          (λ after x. over-done w t.index (set t.vars to (Some held)) after within (rw (put-held t.vars to (Some held)) (op-drops w served next (rw (value-held t.vars to (Some old) e) at answered) x)));
+          (λ after x. over-done w t.index (set t.vars to (Some held)) after within (rw (put-held t.vars to (Some held)) (drops_last next (rw (value-held t.vars to (Some old) e) at answered) x)));
     }

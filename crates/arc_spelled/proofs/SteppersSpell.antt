@@ -21,8 +21,11 @@ use Rattle.arc_rule.specs.declared.step.Intent.{Intent}
 use Rattle.arc_script.specs.declared.script.Op.{Op}
 use Rattle.arc_script.specs.declared.script.ThreadDecl.{ThreadDecl}
 use Rattle.arc_script.specs.declared.script.Script.{Script}
-use Rattle.arc_script.specs.Valid.{IsScript, begins_block}
-use Rattle.arc_script.proofs.OneList.{without_blocks}
+use Rattle.arc_script.specs.declared.script.Op.TheVariants as op
+use Rattle.arc_script.specs.Valid.{IsScript}
+use Rattle.arc_script.specs.OneList.{in_one_list, moved_behind}
+use Rattle.arc_script.proofs.OneList.{all_in_one}
+use Rattle.arc_ops.proofs.Made.{blocks_fit}
 use Rattle.arc_programs.specs.Variables.{Variables, Held, all_nil}
 use Rattle.arc_programs.specs.Programs.{Hands, IsAnswered, OpsDone, ScopeEnds, IsProgram}
 use Rattle.arc_programs.specs.Programs.IsAnswered.{made, full, copied, unowned_formed, weak_formed, loaded, found_dead, weakly_loaded, found_nil, looked, got, put_in_nil, swapped, no_owner, given_up, nothing_there, moved, from_nil, count_full, no_entry}
@@ -30,7 +33,7 @@ use Rattle.arc_programs.specs.Programs.OpsDone.{none, one, block}
 use Rattle.arc_programs.specs.Programs.ScopeEnds.{begins, nil as var_nil, dropped as var_dropped}
 use Rattle.arc_programs.specs.Programs.GlobalsCleared.{begins as end_begins}
 use Rattle.arc_programs.specs.ProgramsLines.{told}
-use Rattle.arc_programs.specs.ProgramsTied.{Spells, operations}
+use Rattle.arc_programs.specs.ProgramsTied.{Spells}
 use Rattle.arc_programs.specs.ProgramsTied.Spells.{thread, end}
 use Rattle.arc_ops.specs.declared.stepper.Doing.{Doing}
 use Rattle.arc_ops.specs.declared.stepper.Doing.TheVariants.{Ready, Making, Copying, Dropping, Dying, Ended}
@@ -45,33 +48,41 @@ use Rattle.arc_spelled.specs.Shown.FindsNoEntry.{nothing as found_nothing, no_en
 use Rattle.arc_spelled.specs.Shown.Says.{nothing as said_nothing, line, operation}
 use Rattle.arc_spelled.specs.StepperStands.{Work, IsServedWork, variables, AreDone, StepperUpTo, IsInPhase, Asks, StandsFor}
 use Rattle.arc_spelled.specs.Spelled.{work_of, SteppersBegin, SteppersGoOn, EndedSteppersSpell, ReadySteppersHaveDone, with_event_of, WordsHold, AddedNotesAreTied}
-use Rattle.arc_spelled.proofs.StepperSteps.{no-block}
 use Rattle.arc_spelled.proofs.StepperKeeps.{stepper_goes_on}
 
 -- ---- what a script's thread works on is served
 
-both-served : (front back : List Op) → AllByRecursion IsServedOp front → AllByRecursion IsServedOp back → AllByRecursion IsServedOp (front ++ back)
-both-served [] back f b = b
-both-served (o ∷ front) back f b = (f.0, both-served front back f.1 b)
+moved-served : (n : ℕ) (o : Op) → IsServedOp o → IsServedOp (moved_behind n o)
+moved-served n (op.New to class) h = h
+moved-served n (op.Copy to from) h = h
+moved-served n (op.Move to from) h = h
+moved-served n (op.Drop v) h = h
+moved-served n (op.Unown to of) h = h
+moved-served n (op.Weak to of) h = h
+moved-served n (op.Load to of) h = h
+moved-served n (op.Get to c) h = h
+moved-served n (op.Set c from) h = h
+moved-served n (op.IfNil v to) h = h
+moved-served n (op.IfSome v to) h = h
 
-phases-served : (phases : List (List Op)) → AllByRecursion (All IsServedOp) phases → AllByRecursion IsServedOp (flat_map (λ ops. ops) phases)
+phases-served : (phases : List (List Op)) → AllByRecursion (All IsServedOp) phases → AllByRecursion (λ (ops : List Op). AllByRecursion IsServedOp ops) phases
 phases-served [] h = tt
-phases-served (ops ∷ rest) h = both-served ops (flat_map (λ ops. ops) rest) (recursion_from_All IsServedOp ops h.0) (phases-served rest h.1)
+phases-served (ops ∷ rest) h = (recursion_from_All IsServedOp ops h.0, phases-served rest h.1)
 
-thread-served : (ts : List ThreadDecl) (i : ℕ) → AllByRecursion IsServedThread ts → AllByRecursion IsServedOp (flat_map (λ ops. ops) (phases_in (slice_get ts i)))
+thread-served : (ts : List ThreadDecl) (i : ℕ) → AllByRecursion IsServedThread ts → AllByRecursion IsServedOp (in_one_list 0 (phases_in (slice_get ts i)))
 thread-served [] i h = tt
-thread-served (t ∷ ts) zero h = phases-served t.phases (recursion_from_All (All IsServedOp) t.phases h.0.ops)
+thread-served (t ∷ ts) zero h = all_in_one IsServedOp moved-served 0 t.phases (phases-served t.phases (recursion_from_All (All IsServedOp) t.phases h.0.ops))
 thread-served (t ∷ ts) (suc i) h = thread-served ts i h.1
 
 program-served : (s : Script) (p : ℕ) → IsServed s → All IsServedOp (program_of s p)
 program-served s p served = All-from_recursion IsServedOp (program_of s p) (go (eqb p 0))
   where
-    go : (b : Bool) → AllByRecursion IsServedOp (flat_map (λ ops. ops) (phases_in (cond b None (slice_get s.threads (p - 1)))))
+    go : (b : Bool) → AllByRecursion IsServedOp (in_one_list 0 (phases_in (cond b None (slice_get s.threads (p - 1)))))
     go true = tt
     go false = thread-served s.threads (p - 1) (recursion_from_All IsServedThread s.threads served.threads)
 
-pub served-work : (s : Script) (p : ℕ) (came : Hands) → IsServed s → IsServedWork (work_of s p came)
-served-work s p came served = record { whole = refl; ops = program-served s p served; without_fields = served.without_fields }
+pub served-work : (s : Script) (p : ℕ) (came : Hands) → IsScript s → IsServed s → IsServedWork (work_of s p came)
+served-work s p came valid served = record { whole = refl; blocks = blocks_fit s p valid; ops = program-served s p served; without_fields = served.without_fields }
 
 -- ---- a new stepper
 
@@ -90,7 +101,7 @@ steppers_begin script p came = record {
 }
 
 pub steppers_go_on : SteppersGoOn
-steppers_go_on script p came t last now served s takes = stepper_goes_on (work_of script p came) (served-work script p came served) t last now s takes
+steppers_go_on script p came t last now valid served s takes = stepper_goes_on (work_of script p came) (served-work script p came valid served) t last now s takes
 
 -- ---- no operation that is served takes a reference out of a cell
 
@@ -160,20 +171,6 @@ none-dropped begins z = refl
 none-dropped (var_nil s l e w) z = absurd (omega arith)
 none-dropped (var_dropped s l e w v x) z = absurd (omega arith)
 
--- a thread that is served has no block, so its operations in one list are those of its phases
-no-blocks-in : (ops : List Op) → AllByRecursion IsServedOp ops → AllByRecursion (λ (o : Op). begins_block o ≡ false) ops
-no-blocks-in [] served = tt
-no-blocks-in (o ∷ ops) served = (no-block o served.0, no-blocks-in ops served.1)
-
-no-blocks : (phases : List (List Op)) → AllByRecursion (All IsServedOp) phases → AllByRecursion (λ (ops : List Op). AllByRecursion (λ (o : Op). begins_block o ≡ false) ops) phases
-no-blocks [] served = tt
-no-blocks (ops ∷ phases) served = (no-blocks-in ops (recursion_from_All IsServedOp ops served.0), no-blocks phases served.1)
-
-pub one-list : (s : Script) (i : ℕ) (decl : ThreadDecl) → IsServed s → slice_get s.threads i ≡ Some decl → operations decl ≡ flat_map (λ ops. ops) decl.phases
-one-list s i decl served there =
-    let here : IsServedThread decl = subst IsServedThread (get_or_from_slice_get s.threads i decl decl there) (All-get_or IsServedThread s.threads i decl (slice_get_within s.threads i decl there) served.threads) in
-    without_blocks 0 decl.phases (no-blocks decl.phases (recursion_from_All (All IsServedOp) decl.phases here.ops))
-
 threads-spell : (s : Script) (p : ℕ) (any : Hands) (now : List Note) → IsScript s → IsServed s → p ≤ length s.threads →
     IsProgram s.shape p any (program_of s p) (vars_of s p) now → Spells s any p now
 threads-spell s zero any now valid served within program = rw alone (end (end_begins) no_globals)
@@ -185,14 +182,12 @@ threads-spell s zero any now valid served within program = rw alone (end (end_be
     no_globals = rw valid.heading.of_globals (rw served.no_globals refl)
 threads-spell s (suc n) any now valid served within program = numbered (eqb (suc n) 0) refl program
   where
-    go : (o : Option ThreadDecl) → slice_get s.threads (suc n - 1) ≡ o → IsProgram s.shape (suc n) any (flat_map (λ ops. ops) (phases_in o)) (count_of_vars o) now → Spells s any (suc n) now
+    go : (o : Option ThreadDecl) → slice_get s.threads (suc n - 1) ≡ o → IsProgram s.shape (suc n) any (in_one_list 0 (phases_in o)) (count_of_vars o) now → Spells s any (suc n) now
     go None e x = absurd (thread-there s.threads (suc n - 1) (omega arith) e)
-    go (Some decl) e x =
-        let P : List Op → Type 0 = λ (ops : List Op). IsProgram s.shape (suc n) any ops (length decl.vars) now in
-        thread (omega arith) e (subst P (sym (one-list s (suc n - 1) decl served e)) x)
+    go (Some decl) e x = thread (omega arith) e x
 
     numbered : (b : Bool) → eqb (suc n) 0 ≡ b →
-        IsProgram s.shape (suc n) any (flat_map (λ ops. ops) (phases_in (cond b None (slice_get s.threads (suc n - 1))))) (count_of_vars (cond b None (slice_get s.threads (suc n - 1)))) now → Spells s any (suc n) now
+        IsProgram s.shape (suc n) any (in_one_list 0 (phases_in (cond b None (slice_get s.threads (suc n - 1))))) (count_of_vars (cond b None (slice_get s.threads (suc n - 1)))) now → Spells s any (suc n) now
     numbered true e x = let same = eqb-true (suc n) 0 e in absurd (omega arith)
     numbered false e x = go (slice_get s.threads (suc n - 1)) refl x
 

@@ -49,7 +49,7 @@ SteppersBegin = (script : Script) (p : ℕ) (came : Hands) → StandsFor (work_o
 -- Each word that a stepper may be given keeps what it stands for.
 abbrev pub SteppersGoOn : Type 0
 SteppersGoOn = (script : Script) (p : ℕ) (came : Hands) (t : Thread) (last : Option ℕ) (now : List Note) →
-    IsServed script → StandsFor (work_of script p came) t now → takes t last → StepperGoesOn (work_of script p came) t last now
+    IsScript script → IsServed script → StandsFor (work_of script p came) t now → takes t last → StepperGoesOn (work_of script p came) t last now
 
 -- The notes spell the thread's program, and of their lines the stepper keeps the first ones, as many as it has room for.
 pub record IsSpelled (script : Script) (came : Hands) (p : ℕ) (t : Thread) (notes : List Note) : Type 0 where

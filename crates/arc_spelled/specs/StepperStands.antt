@@ -1,5 +1,5 @@
 -- What a thread's stepper stands for: the notes that spell the thread's program up to where the stepper is.
-use Rattle.std.specs.Prelude.{ℕ, Bool, true, false, ◌≡◌, ◌+◌, ◌<◌, ◌≤◌, nat_lt, if◌then◌else◌, List, ◌∷◌, length, map, take, flat_map, slice_get, All, Option, Some, None, ⊤}
+use Rattle.std.specs.Prelude.{ℕ, Bool, true, false, ◌≡◌, ◌+◌, ◌<◌, ◌≤◌, nat_lt, if◌then◌else◌, List, ◌∷◌, length, map, take, slice_get, All, Option, Some, None, ⊤}
 use Rattle.arc_model.specs.declared.event.ObjectName.{ObjectName}
 use Rattle.arc_model.specs.declared.event.Act.TheVariants.{New}
 use Rattle.arc_model.specs.declared.shape.Kind.TheVariants.{Strong}
@@ -15,6 +15,7 @@ use Rattle.arc_plan.specs.declared.slots.Making.TheVariants.{Looking, Taking, Co
 use Rattle.arc_cells.specs.Cascades.{HasNoFields, CascadeState}
 use Rattle.arc_script.specs.declared.script.Op.{Op}
 use Rattle.arc_script.specs.declared.script.Op.TheVariants as op
+use Rattle.arc_script.specs.OneList.{in_one_list}
 use Rattle.arc_programs.specs.Variables.{Held, Variables}
 use Rattle.arc_programs.specs.Programs.{Hands, made_of, OpsDone, ScopeEnds, IsProgram}
 use Rattle.arc_programs.specs.ProgramsLines.{number_of, told}
@@ -24,7 +25,7 @@ use Rattle.arc_ops.specs.declared.stepper.Doing.TheVariants.{Ready, Making, Copy
 use Rattle.arc_ops.specs.declared.stepper.Move.{Move}
 use Rattle.arc_ops.specs.declared.stepper.Move.TheVariants as moves
 use Rattle.arc_ops.specs.Kept.{Kept}
-use Rattle.arc_ops.specs.Programs.{ops_in_first}
+use Rattle.arc_ops.specs.Programs.{BlocksFit, ordinal, ops_in_first}
 use Rattle.arc_ops.specs.Served.{IsServedOp}
 use Rattle.arc_ops.specs.Thread.{Thread, value, is_busy, turned}
 use Rattle.arc_spelled.specs.Shown.{Adds, with_event}
@@ -41,9 +42,10 @@ pub record Work : Type 0 where
   pub room : ℕ
   pub came : Hands
 
--- the program is that of its phases, its operations are served, and objects have no fields
+-- the program is that of its phases, blocks stay within these, the operations are served, and objects have no fields
 pub record IsServedWork (w : Work) : Type 0 where
-  pub whole : w.program ≡ flat_map (λ ops. ops) w.phases
+  pub whole : w.program ≡ in_one_list 0 w.phases
+  pub blocks : BlocksFit w.program w.phases
   pub ops : All IsServedOp w.program
   pub without_fields : HasNoFields w.shape
 
@@ -86,7 +88,7 @@ pub record IsBegun (w : Work) (i : ℕ) (o : Op) (vars : List (Option HeldStrong
   pub base : List Note
   pub done : AreDone w i vars base
   pub there : slice_get w.program i ≡ Some o
-  pub now_is : now ≡ Operation (i + 1) ∷ base
+  pub now_is : now ≡ Operation (ordinal w.program i) ∷ base
 
 -- an object is to be made that has the thread's next number
 pub record IsMaking (w : Work) (i to : ℕ) (name : ObjectName) (vars : List (Option HeldStrong)) (now : List Note) : Type 0 where
@@ -158,7 +160,7 @@ pub record IsCounted (w : Work) (hands made : ℕ) (kept : Kept) (now : List Not
 
 -- a line has the number of the operation that is under way
 abbrev pub number_at : Work → ℕ → ℕ
-number_at w i = if nat_lt i (length w.program) then i + 1 else 0
+number_at w i = if nat_lt i (length w.program) then ordinal w.program i else 0
 
 abbrev pub IsNumberedIf : Bool → Work → ℕ → List Note → Type 0
 IsNumberedIf true w i now = number_of now ≡ number_at w i

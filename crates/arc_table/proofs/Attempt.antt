@@ -12,7 +12,7 @@ use Rattle.arc_rule.specs.declared.step.Intent.{Intent}
 use Rattle.arc_rule.specs.declared.plan.Next.{Next}
 use Rattle.arc_rule.specs.declared.plan.Next.TheVariants as nexts
 use Rattle.arc_view.specs.declared.view.View.{View}
-use Rattle.arc_view.specs.Built.{IsAllowed}
+use Rattle.arc_view.specs.Admission.{Admits}
 use Rattle.arc_view.specs.Steps.{Told}
 use Rattle.arc_plan.specs.declared.attempt.At.{At as At'}
 use Rattle.arc_plan.specs.declared.attempt.At.TheVariants as ats
@@ -33,10 +33,10 @@ module _ {P A : Type 0} (takes : P → Option ℕ → Type 0) (turned : P → Op
     (attempt : IsAttempt takes turned answer place Fits row after again plan left) (v0 : View) (Looked : ℕ → View → Type 0) where
   -- The load is allowed, and leads to what was looked at; an exchange that the row asks for is allowed then.
   pub record MayTry : Type 0 where
-    pub looks : IsAllowed shape v0 (Load place) intent
+    pub looks : Admits shape v0 (Load place) intent
     pub looked : (x : ℕ) (v : View) → Told shape intent (Load place) v0 x v → Looked x v
     pub fits : (x : ℕ) (v : View) → Looked x v → Fits x
-    pub swaps : (x new : ℕ) (v : View) → Looked x v → row x ≡ Write new → IsAllowed shape v (Exchange place x new) intent
+    pub swaps : (x new : ℕ) (v : View) → Looked x v → row x ≡ Write new → Admits shape v (Exchange place x new) intent
 
   -- an exchange for the word that was loaded found a word
   pub record Tried (seen new found : ℕ) (w : View) : Type 0 where
@@ -85,7 +85,7 @@ module _ {P A : Type 0} (takes : P → Option ℕ → Type 0) (turned : P → Op
       step≢done e = absurd (cc)
 
       abbrev Stepping : At' → View → At' → Step → Type 0
-      Stepping m v n a = IsAllowed shape v a intent × (left_at n < left_at m) × ((found : ℕ) (w : View) → Told shape intent a v found w → IsAt n (Some found) w)
+      Stepping m v n a = Admits shape v a intent × (left_at n < left_at m) × ((found : ℕ) (w : View) → Told shape intent a v found w → IsAt n (Some found) w)
 
       -- after the load
       after_look : (x : ℕ) (v : View) (a : Step) → Looked x v → (r : Choice A) → row x ≡ r → chosen place x r ≡ nexts.Step a → Stepping ats.Loading v (exchanging x r) a

@@ -48,7 +48,7 @@ use Rattle.arc_view.specs.declared.view.View.{View}
 use Rattle.arc_view.specs.Views.{made_in}
 use Rattle.arc_view.specs.Holding.{heap_of}
 use Rattle.arc_view.specs.Kinds.{act_of, event_list, kind_at, working_loaded, working_after, is_last, is_last_in}
-use Rattle.arc_view.specs.Built.{IsAllowed}
+use Rattle.arc_view.specs.Admission.{Admits}
 use Rattle.arc_view.specs.Steps.{Told}
 use Rattle.arc_view.specs.Calls.{Grew, Called}
 use Rattle.arc_view.proofs.Held.{Held, held_stays, strong≢weak}
@@ -101,8 +101,8 @@ module _ (shape : HeapShape) (k s : ℕ) (v0 : View) (sized : IsSized shape) (lt
   look_works v x = ap (λ (q : Place). working_loaded v.working q x drop) (place_at-number (extent_of shape) (Count s) lt)
 
   -- a load of the inline word shows no event, or the drop of a reference to an immortal object
-  may_look : (v : View) → Holding v → IsAllowed shape v look drop
-  may_look v g = ((Count s, refl, lt, ap (λ (w : Working). w.owes) g.working ∙ free, (i, g.o, g.here, g.slot, inl (k, kinds.Strong, g.hand, strong≢weak)), tt), inr tt)
+  may_look : (v : View) → Holding v → Admits shape v look drop
+  may_look v g = (Count s, refl, lt, ap (λ (w : Working). w.owes) g.working ∙ free, (i, g.o, g.here, g.slot, inl (k, kinds.Strong, g.hand, strong≢weak)), tt)
 
   -- the load showed that the object is immortal
   pub record Lasts (w : View) : Type 0 where
@@ -183,16 +183,13 @@ module _ (shape : HeapShape) (k s : ℕ) (v0 : View) (sized : IsSized shape) (lt
   not_forever x v l lasts = absurd (true≢false (sym lasts ∙ (ap (λ c. (class_at shape c).immortal) l.holding.is_class ∙ l.mortal)))
 
   -- the counts that were read
-  may_drop : (x : ℕ) (v : View) (c : Inline) → Looked x v → IsWordOf (Counts c) x → c.deiniting ≡ false → IsAllowed shape v (Exchange count_at x (counts_word (strong_less c))) drop
+  may_drop : (x : ℕ) (v : View) (c : Inline) → Looked x v → IsWordOf (Counts c) x → c.deiniting ≡ false → Admits shape v (Exchange count_at x (counts_word (strong_less c))) drop
   may_drop x v c l word lives = let g = l.holding in (
-    (
-      Count s,
-      refl,
-      lt,
-      ap (λ (w : Working). w.owes) g.working ∙ free,
-      (kinds.Strong, i, g.o, g.hand, ap (λ (w : Working). w.access) g.working ∙ no_access, g.here, ap (λ m. is_number m s) g.slot ∙ eq-eqb s s refl, (c, word, lives, refl)),
-    ),
-    λ weak. strong≢weak (sym (ap kind_at g.hand) ∙ weak),
+    Count s,
+    refl,
+    lt,
+    ap (λ (w : Working). w.owes) g.working ∙ free,
+    (kinds.Strong, i, g.o, g.hand, ap (λ (w : Working). w.access) g.working ∙ no_access, g.here, ap (λ m. is_number m s) g.slot ∙ eq-eqb s s refl, (c, word, lives, refl)),
   )
 
   abbrev row : ℕ → Choice StrongDownAnswer
@@ -271,7 +268,7 @@ module _ (shape : HeapShape) (k s : ℕ) (v0 : View) (sized : IsSized shape) (lt
   step≢done e = absurd (cc)
 
   abbrev Stepping : At' → View → At' → Step → Type 0
-  Stepping m v n a = IsAllowed shape v a drop × (left_at n < left_at m) × ((found : ℕ) (w : View) → Told shape drop a v found w → Is (plan n) (Some found) w)
+  Stepping m v n a = Admits shape v a drop × (left_at n < left_at m) × ((found : ℕ) (w : View) → Told shape drop a v found w → Is (plan n) (Some found) w)
 
   looks : Stepping ats.Start v0 ats.Loading look
   looks = (may_look v0 holding0, omega arith, λ found w told. (ats.Loading, refl, after found w told))
@@ -325,7 +322,7 @@ module _ (shape : HeapShape) (k s : ℕ) (v0 : View) (sized : IsSized shape) (lt
   down_keeps : Keeps strong_down_takes strong_down_turned strong_down_answer shape drop Is Outcome (λ p. left_at p.at)
   down_keeps = record {
     takes_it = λ p last v i. subst (λ q. strong_down_takes q last) (sym i.1) (takes_it i.0 last v i.2);
-    steps_it = λ p last v a i is. subst (λ (q : Attempt). IsAllowed shape v a drop × (left_at (strong_down_turned q last).at < left_at q.at) × ((found : ℕ) (w : View) → Told shape drop a v found w → Is (strong_down_turned q last) (Some found) w)) (sym i.1)
+    steps_it = λ p last v a i is. subst (λ (q : Attempt). Admits shape v a drop × (left_at (strong_down_turned q last).at < left_at q.at) × ((found : ℕ) (w : View) → Told shape drop a v found w → Is (strong_down_turned q last) (Some found) w)) (sym i.1)
         (steps_at i.0 last v a i.2 (subst (λ q. strong_down_answer q last ≡ nexts.Step a) i.1 is));
     ends_it = λ p last v a i is. ends_at i.0 last v a i.2 (subst (λ q. strong_down_answer q last ≡ nexts.Done a) i.1 is);
   }

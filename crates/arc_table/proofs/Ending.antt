@@ -36,7 +36,7 @@ use Rattle.arc_view.specs.Holding.{At, HasDuty, is_counted, heap_of}
 use Rattle.arc_view.specs.Rule.{InShape, IsSized}
 use Rattle.arc_view.specs.Kinds.{act_of, event_list, working_loaded, working_after, working_hit, without_next, is_last, is_last_in}
 use Rattle.arc_view.specs.Admission.{MayLoad, IsDown}
-use Rattle.arc_view.specs.Built.{IsAllowed}
+use Rattle.arc_view.specs.Admission.{Admits}
 use Rattle.arc_view.specs.Steps.{IsUnsettled, Told}
 use Rattle.arc_view.specs.Calls.{Grew, Called}
 use Rattle.arc_view.proofs.Held.{stays_after, dying_busy}
@@ -127,8 +127,8 @@ module _ (shape : HeapShape) (s : ℕ) (v0 : View) (free : v0.working.owes ≡ N
     look_works : (v : View) (x : ℕ) → working_after shape v look deinit x ≡ v.working
     look_works v x = ap (λ (u : Place). working_loaded v.working u x deinit) (place_at-number (extent_of shape) pl inside) ∙ quiet v.working x
 
-    pub may_look : IsAllowed shape v0 look deinit
-    may_look = ((pl, refl, inside, free, knows v0 owing_first, tt), inl (look_none v0, look_works v0))
+    pub may_look : Admits shape v0 look deinit
+    may_look = (pl, refl, inside, free, knows v0 owing_first, tt)
 
     -- the word was loaded: it shows the heap of what is seen
     pub record Looked (x : ℕ) (v : View) : Type 0 where
@@ -162,11 +162,8 @@ module _ (shape : HeapShape) (s : ℕ) (v0 : View) (free : v0.working.owes ≡ N
             alone = told_alone shape deinit look v0 x v t;
           }
 
-      pub may_swap : (x new : ℕ) (v : View) (l : Looked x v) → is_counted kinds.Unowned l.owing.o pl ≡ true → IsDown kinds.Unowned pl x new → IsAllowed shape v (Exchange at x new) deinit
-      may_swap x new v l counted down = let g = l.owing in (
-        (pl, refl, inside, ap (λ (w : Working). w.owes) g.working ∙ free, (i, g.o, g.here, g.slot, g.duty, all_nil v g, counted, down)),
-        tt,
-      )
+      pub may_swap : (x new : ℕ) (v : View) (l : Looked x v) → is_counted kinds.Unowned l.owing.o pl ≡ true → IsDown kinds.Unowned pl x new → Admits shape v (Exchange at x new) deinit
+      may_swap x new v l counted down = let g = l.owing in (pl, refl, inside, ap (λ (w : Working). w.owes) g.working ∙ free, (i, g.o, g.here, g.slot, g.duty, all_nil v g, counted, down))
 
       -- the exchange found what was loaded
       module _ (seen new : ℕ) (v w : View) (l : Looked seen v) (told : Told shape deinit (Exchange at seen new) v seen w) where
@@ -309,7 +306,7 @@ module _ (shape : HeapShape) (s : ℕ) (v0 : View) (free : v0.working.owes ≡ N
     inline_fits o x (counts c is word ends unowned none) = subst (IsCountWord shape.entries (λ c. c.deiniting ≡ false → 2 ≤ c.unowned)) (sym is) (unowned, λ live. absurd (true≢false (sym ends ∙ live)))
     inline_fits o x (slow e is entry within) = subst (IsCountWord shape.entries (λ c. c.deiniting ≡ false → 2 ≤ c.unowned)) (sym is) within
 
-    inline_swaps : (x new : ℕ) (v : View) (l : SeenCount x v) → inline_row x ≡ Write new → ShowsDying shape l.owing.o x → IsAllowed shape v (Exchange (number (extent_of shape) (Count s)) x new) deinit
+    inline_swaps : (x new : ℕ) (v : View) (l : SeenCount x v) → inline_row x ≡ Write new → ShowsDying shape l.owing.o x → Admits shape v (Exchange (number (extent_of shape) (Count s)) x new) deinit
     inline_swaps x new v l is (counts c shown word ends unowned none) =
         may_swap (Count s) lt (λ w x. refl) knows_count (λ x u. u) x new v l (ap (λ m. is_number m s) l.owing.slot ∙ eq-eqb s s refl) (c, word, unowned, write_inj (sym is ∙ ap unowned_down_row shown))
     inline_swaps x new v l is (slow e shown entry within) = tell≢write (sym (ap unowned_down_row shown) ∙ is)

@@ -1,5 +1,5 @@
 -- The plan that drops a strong reference by the count of the object's entry, on the shared heap.
-use Rattle.std.proofs.Common.{◌≡◌, ◌≢◌, inl, ℕ, ◌-◌, ◌<◌, ◌≤◌, ◌==◌, cond, [], ◌∷◌, ◌++◌, length, Option, None, Some, refl, sym, ap, ◌∙◌, subst, arith, eq-eqb, ne_eqb, Bool, true, false, ◌&&◌}
+use Rattle.std.proofs.Common.{◌≡◌, ◌≢◌, ℕ, ◌-◌, ◌<◌, ◌≤◌, ◌==◌, cond, [], ◌∷◌, ◌++◌, length, Option, None, Some, refl, sym, ap, ◌∙◌, subst, arith, eq-eqb, ne_eqb, Bool, true, false, ◌&&◌}
 use Rattle.std.specs.Prelude.{is_none}
 use Rattle.std.specs.Option.{unwrap_or}
 use mathlib.Core.Logic.{dite}
@@ -27,7 +27,7 @@ use Rattle.arc_view.specs.declared.view.View.{View}
 use Rattle.arc_view.specs.Views.{made_in}
 use Rattle.arc_view.specs.Holding.{At, heap_of}
 use Rattle.arc_view.specs.Kinds.{act_of, event_list, kind_at, loaded_act, working_loaded, working_after, is_last, when}
-use Rattle.arc_view.specs.Built.{IsAllowed}
+use Rattle.arc_view.specs.Admission.{Admits}
 use Rattle.arc_view.specs.Steps.{Told}
 use Rattle.arc_view.specs.Calls.{Grew, Called}
 use Rattle.arc_plan.specs.declared.attempt.At.{At as At'}
@@ -40,7 +40,6 @@ use Rattle.arc_table.specs.Attempts.{IsLoweredInEntry, entry_down_act}
 use Rattle.arc_table.specs.Calls.{GoesOn}
 use Rattle.arc_table.specs.Runs.{MayRun, Ran}
 use Rattle.arc_view_laws.specs.Strangers.{SeesNoStranger}
-use Rattle.arc_view.proofs.Held.{strong≢weak}
 use Rattle.arc_view_laws.proofs.Counted.{told_alone}
 use Rattle.arc_view_laws.proofs.Growing.{acts_of, told_grew}
 use Rattle.arc_table.proofs.InEntry.{Holding, holds_first, holds_on, word_later, knows_entry, its_entry, counted_there}
@@ -75,8 +74,8 @@ module _ (shape : HeapShape) (k e : ℕ) (v0 : View) (lt : e < shape.entries) (f
   look_works v x = ap (λ (q : Place). working_loaded v.working q x drop) (place_at-number (extent_of shape) (Strong e) lt)
 
   -- a load shows no event
-  may_look : (v : View) → Holds v → IsAllowed shape v look drop
-  may_look v g = ((Strong e, refl, lt, ap (λ (w : Working). w.owes) g.working ∙ free, knows_entry shape k e v0 i o0 v g, tt), inl (look_none v, look_works v))
+  may_look : (v : View) → Holds v → Admits shape v look drop
+  may_look v g = (Strong e, refl, lt, ap (λ (w : Working). w.owes) g.working ∙ free, knows_entry shape k e v0 i o0 v g, tt)
 
   -- after the load the hand stands where it stood, and the word that was found counts it
   pub record Looked (x : ℕ) (v : View) : Type 0 where
@@ -107,16 +106,13 @@ module _ (shape : HeapShape) (k e : ℕ) (v0 : View) (lt : e < shape.entries) (f
   abbrev swap : ℕ → Step
   swap x = Exchange count_at x (x - 1)
 
-  may_drop : (x : ℕ) (v : View) → Looked x v → IsAllowed shape v (swap x) drop
+  may_drop : (x : ℕ) (v : View) → Looked x v → Admits shape v (swap x) drop
   may_drop x v l = let g = l.holding in (
-    (
-      Strong e,
-      refl,
-      lt,
-      ap (λ (w : Working). w.owes) g.working ∙ free,
-      (kinds.Strong, i, g.o, g.hand, ap (λ (w : Working). w.access) g.working ∙ no_access, g.here, counted_there shape k e v0 i o0 v g, (let some = l.some in omega (arith, some))),
-    ),
-    λ weak. strong≢weak (sym (ap kind_at g.hand) ∙ weak),
+    Strong e,
+    refl,
+    lt,
+    ap (λ (w : Working). w.owes) g.working ∙ free,
+    (kinds.Strong, i, g.o, g.hand, ap (λ (w : Working). w.access) g.working ∙ no_access, g.here, counted_there shape k e v0 i o0 v g, (let some = l.some in omega (arith, some))),
   )
 
   -- an exchange for the count that was read found a word
@@ -166,7 +162,7 @@ module _ (shape : HeapShape) (k e : ℕ) (v0 : View) (lt : e < shape.entries) (f
   step≢done same = absurd (cc)
 
   abbrev Stepping : At' → View → At' → Step → Type 0
-  Stepping m v n a = IsAllowed shape v a drop × (left_at n < left_at m) × ((found : ℕ) (w : View) → Told shape drop a v found w → Is (plan n) (Some found) w)
+  Stepping m v n a = Admits shape v a drop × (left_at n < left_at m) × ((found : ℕ) (w : View) → Told shape drop a v found w → Is (plan n) (Some found) w)
 
   looks : Stepping ats.Start v0 ats.Loading look
   looks = (may_look v0 holding0, omega arith, λ found w told. (ats.Loading, refl, looked found w told))
@@ -204,7 +200,7 @@ module _ (shape : HeapShape) (k e : ℕ) (v0 : View) (lt : e < shape.entries) (f
   down_keeps : Keeps entry_down_takes entry_down_turned entry_down_answer shape drop Is Outcome (λ p. left_at p.at)
   down_keeps = record {
     takes_it = λ p last v at. subst (λ q. entry_down_takes q last) (sym at.1) (takes_it at.0 last v at.2);
-    steps_it = λ p last v a at is. subst (λ (q : EntryFall). IsAllowed shape v a drop × (left_at (entry_down_turned q last).at < left_at q.at) × ((found : ℕ) (w : View) → Told shape drop a v found w → Is (entry_down_turned q last) (Some found) w)) (sym at.1)
+    steps_it = λ p last v a at is. subst (λ (q : EntryFall). Admits shape v a drop × (left_at (entry_down_turned q last).at < left_at q.at) × ((found : ℕ) (w : View) → Told shape drop a v found w → Is (entry_down_turned q last) (Some found) w)) (sym at.1)
         (steps_at at.0 last v a at.2 (subst (λ q. entry_down_answer q last ≡ nexts.Step a) at.1 is));
     ends_it = λ p last v a at is. ends_at at.0 last v a at.2 (subst (λ q. entry_down_answer q last ≡ nexts.Done a) at.1 is);
   }

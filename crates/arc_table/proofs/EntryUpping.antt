@@ -1,5 +1,5 @@
 -- The plan that copies a strong reference by the count of the object's entry, on the shared heap.
-use Rattle.std.proofs.Common.{◌≡◌, ◌≢◌, inl, inr, ℕ, suc, ◌<◌, ◌≤◌, ◌==◌, ◌&&◌, Bool, true, false, cond, [], ◌∷◌, ◌++◌, length, Option, None, Some, refl, sym, ap, ◌∙◌, subst, arith, eq-eqb, ne_eqb}
+use Rattle.std.proofs.Common.{◌≡◌, ◌≢◌, inl, ℕ, suc, ◌<◌, ◌≤◌, ◌==◌, ◌&&◌, Bool, true, false, cond, [], ◌∷◌, ◌++◌, length, Option, None, Some, refl, sym, ap, ◌∙◌, subst, arith, eq-eqb, ne_eqb}
 use Rattle.std.specs.Prelude.{slice_get}
 use Rattle.std.specs.Option.{unwrap_or}
 use mathlib.Core.Logic.{dite}
@@ -30,7 +30,7 @@ use Rattle.arc_view.specs.declared.view.View.{View}
 use Rattle.arc_view.specs.Views.{made_in}
 use Rattle.arc_view.specs.Holding.{At, heap_of, is_counted_at}
 use Rattle.arc_view.specs.Kinds.{act_of, event_list, kind_at, object_at, loaded_act, is_full, when, working_loaded, working_after}
-use Rattle.arc_view.specs.Built.{IsAllowed}
+use Rattle.arc_view.specs.Admission.{Admits}
 use Rattle.arc_view.specs.Steps.{Told}
 use Rattle.arc_view.specs.Calls.{Grew}
 use Rattle.arc_view.proofs.Held.{hand_listed, stays_after, strong≢weak}
@@ -70,8 +70,8 @@ module _ (shape : HeapShape) (k e : ℕ) (v0 : View) (lt : e < shape.entries) (f
   holding0 = holds_first shape k e v0 i o0 hand0 here0 entry0
 
   -- a load shows the greatest count, or no event
-  may_look : (v : View) → Holds v → IsAllowed shape v look copy
-  may_look v g = ((Strong e, refl, lt, ap (λ (w : Working). w.owes) g.working ∙ free, knows_entry shape k e v0 i o0 v g, tt), inr tt)
+  may_look : (v : View) → Holds v → Admits shape v look copy
+  may_look v g = (Strong e, refl, lt, ap (λ (w : Working). w.owes) g.working ∙ free, knows_entry shape k e v0 i o0 v g, tt)
 
   abbrev refusal : Act
   refusal = acts.CountFull kinds.Strong (origins.Hand k)
@@ -136,16 +136,13 @@ module _ (shape : HeapShape) (k e : ℕ) (v0 : View) (lt : e < shape.entries) (f
   abbrev swap : ℕ → Step
   swap x = Exchange count_at x (suc x)
 
-  may_copy : (x : ℕ) (v : View) → Looked x v → x ≢ shape.caps.wide → IsAllowed shape v (swap x) copy
+  may_copy : (x : ℕ) (v : View) → Looked x v → x ≢ shape.caps.wide → Admits shape v (swap x) copy
   may_copy x v l ne = let g = l.holding in (
-    (
-      Strong e,
-      refl,
-      lt,
-      ap (λ (w : Working). w.owes) g.working ∙ free,
-      (kinds.Strong, i, g.o, (g.hand, tt), g.here, counted_there shape k e v0 i o0 v g, (l.some, (let most = l.most in omega (arith, most, ne)), refl)),
-    ),
-    tt,
+    Strong e,
+    refl,
+    lt,
+    ap (λ (w : Working). w.owes) g.working ∙ free,
+    (kinds.Strong, i, g.o, (g.hand, tt), g.here, counted_there shape k e v0 i o0 v g, (l.some, (let most = l.most in omega (arith, most, ne)), refl)),
   )
 
   abbrev row : ℕ → Choice EntryUpAnswer
@@ -213,7 +210,7 @@ module _ (shape : HeapShape) (k e : ℕ) (v0 : View) (lt : e < shape.entries) (f
   step≢done same = absurd (cc)
 
   abbrev Stepping : At' → View → At' → Step → Type 0
-  Stepping m v n a = IsAllowed shape v a copy × (left_at n < left_at m) × ((found : ℕ) (w : View) → Told shape copy a v found w → Is (plan n) (Some found) w)
+  Stepping m v n a = Admits shape v a copy × (left_at n < left_at m) × ((found : ℕ) (w : View) → Told shape copy a v found w → Is (plan n) (Some found) w)
 
   looks : Stepping ats.Start v0 ats.Loading look
   looks = (may_look v0 holding0, omega arith, λ found w told. (ats.Loading, refl, looked found w told))
@@ -256,7 +253,7 @@ module _ (shape : HeapShape) (k e : ℕ) (v0 : View) (lt : e < shape.entries) (f
   up_keeps : Keeps entry_up_takes entry_up_turned entry_up_answer shape copy Is Outcome (λ p. left_at p.at)
   up_keeps = record {
     takes_it = λ p last v at. subst (λ q. entry_up_takes q last) (sym at.1) (takes_it at.0 last v at.2);
-    steps_it = λ p last v a at is. subst (λ (q : EntryRise). IsAllowed shape v a copy × (left_at (entry_up_turned q last).at < left_at q.at) × ((found : ℕ) (w : View) → Told shape copy a v found w → Is (entry_up_turned q last) (Some found) w)) (sym at.1)
+    steps_it = λ p last v a at is. subst (λ (q : EntryRise). Admits shape v a copy × (left_at (entry_up_turned q last).at < left_at q.at) × ((found : ℕ) (w : View) → Told shape copy a v found w → Is (entry_up_turned q last) (Some found) w)) (sym at.1)
         (steps_at at.0 last v a at.2 (subst (λ q. entry_up_answer q last ≡ nexts.Step a) at.1 is));
     ends_it = λ p last v a at is. ends_at at.0 last v a at.2 (subst (λ q. entry_up_answer q last ≡ nexts.Done a) at.1 is);
   }

@@ -36,12 +36,14 @@ use Rattle.arc_view.specs.Holding.{At, heap_of}
 use Rattle.arc_view.specs.Admission.{IsPut}
 use Rattle.arc_view.specs.Rule.{FitsCell, IsWithin}
 use Rattle.arc_view.specs.Kinds.{act_of, event_list}
-use Rattle.arc_view.specs.Built.{IsAllowed}
+use Rattle.arc_view.specs.Admission.{Admits}
 use Rattle.arc_view.specs.Steps.{Told}
 use Rattle.arc_view.specs.Calls.{Grew, Called}
 use Rattle.arc_view.proofs.Held.{stays_after}
 use Rattle.arc_view.proofs.Within.{each_at}
-use Rattle.arc_view.proofs.Swapping.{named_kind, LeadsTo, global_shows, swap_silent}
+use Rattle.arc_view.proofs.Swapping.{named_kind, LeadsTo, global_shows}
+use Rattle.arc_rule.specs.Places.{place_at}
+use Rattle.arc_view.proofs.Loading.{load_works}
 use Rattle.arc_plan.specs.declared.attempt.At.{At as At'}
 use Rattle.arc_plan.specs.declared.attempt.At.TheVariants as ats
 use Rattle.arc_plan.specs.declared.attempt.Choice.{Choice}
@@ -119,15 +121,14 @@ module _ (shape : HeapShape) (g : ℕ) (put : Option ℕ) (new : ℕ) (v0 : View
     pub found : mark.found ≡ x
     pub alone : SeesNoStranger v
 
-  may_look : IsAllowed shape v0 look intent
-  may_look = ((places.Global g, refl, within, free, tt, tt), inl (swap_silent shape v0 cell_at (cells.Global g) put))
+  may_look : Admits shape v0 look intent
+  may_look = (places.Global g, refl, within, free, tt, tt)
 
   looked : (x : ℕ) (v : View) → Told shape intent look v0 x v → Looked x v
   looked x v t =
-      let silent = swap_silent shape v0 cell_at (cells.Global g) put in
       let h = t.between ++ v0.seen in record {
-        called = subst (λ a. Called shape (acts_of a) 1 v0 v) (silent.0 x) (told_called shape intent look v0 x v t);
-        working = ap (λ (u : View). u.working) t.after ∙ silent.1 x;
+        called = told_called shape intent look v0 x v t;
+        working = ap (λ (u : View). u.working) t.after ∙ load_works v0.working (place_at (extent_of shape) cell_at) x intent (λ slot e. cc);
         mark = record { step = look; found = x; length = length h; made = made_in v0.number h };
         trail = ap (λ (u : View). u.trail) t.after;
         step = refl;
@@ -135,11 +136,8 @@ module _ (shape : HeapShape) (g : ℕ) (put : Option ℕ) (new : ℕ) (v0 : View
         alone = told_alone shape intent look v0 x v t;
       }
 
-  may_swap : (x : ℕ) (v : View) → Looked x v → x ≢ 1 → IsAllowed shape v (swap x) intent
-  may_swap x v l calm = (
-    (places.Global g, refl, within, ap (λ (w : Working). w.owes) l.working ∙ free, (refl, calm, ap (λ (w : Working). w.access) l.working ∙ access, tt, is_put shape g v put new strong (put_stays shape g 1 v0 v put new l.called put_in))),
-    strong,
-  )
+  may_swap : (x : ℕ) (v : View) → Looked x v → x ≢ 1 → Admits shape v (swap x) intent
+  may_swap x v l calm = (places.Global g, refl, within, ap (λ (w : Working). w.owes) l.working ∙ free, (refl, calm, ap (λ (w : Working). w.access) l.working ∙ access, tt, is_put shape g v put new strong (put_stays shape g 1 v0 v put new l.called put_in)))
 
   -- an exchange for the word that was read found a word
   pub record Tried (seen found : ℕ) (w : View) : Type 0 where
@@ -188,7 +186,7 @@ module _ (shape : HeapShape) (g : ℕ) (put : Option ℕ) (new : ℕ) (v0 : View
   step≢done e = absurd (cc)
 
   abbrev Stepping : At' → View → At' → Step → Type 0
-  Stepping m v n a = IsAllowed shape v a intent × (left_at n < left_at m) × ((found : ℕ) (w : View) → Told shape intent a v found w → Is (plan n) (Some found) w)
+  Stepping m v n a = Admits shape v a intent × (left_at n < left_at m) × ((found : ℕ) (w : View) → Told shape intent a v found w → Is (plan n) (Some found) w)
 
   looks : Stepping ats.Start v0 ats.Loading look
   looks = (may_look, omega arith, λ found w told. (ats.Loading, refl, looked found w told))
@@ -232,7 +230,7 @@ module _ (shape : HeapShape) (g : ℕ) (put : Option ℕ) (new : ℕ) (v0 : View
   swap_keeps : Keeps swap_takes swap_turned swap_answer shape intent Is Outcome (λ p. left_at p.at)
   swap_keeps = record {
     takes_it = λ p last v i. subst (λ q. swap_takes q last) (sym i.1) (takes_it i.0 last v i.2);
-    steps_it = λ p last v a i is. subst (λ (q : SwapAttempt). IsAllowed shape v a intent × (left_at (swap_turned q last).at < left_at q.at) × ((found : ℕ) (w : View) → Told shape intent a v found w → Is (swap_turned q last) (Some found) w)) (sym i.1)
+    steps_it = λ p last v a i is. subst (λ (q : SwapAttempt). Admits shape v a intent × (left_at (swap_turned q last).at < left_at q.at) × ((found : ℕ) (w : View) → Told shape intent a v found w → Is (swap_turned q last) (Some found) w)) (sym i.1)
         (steps_at i.0 last v a i.2 (subst (λ q. swap_answer q last ≡ nexts.Step a) i.1 is));
     ends_it = λ p last v a i is. ends_at i.0 last v a i.2 (subst (λ q. swap_answer q last ≡ nexts.Done a) i.1 is);
   }

@@ -6,7 +6,7 @@ use Rattle.arc_rule.specs.declared.step.Intent.{Intent}
 use Rattle.arc_rule.specs.declared.plan.Next.{Next}
 use Rattle.arc_rule.specs.declared.plan.Next.TheVariants as nexts
 use Rattle.arc_view.specs.declared.view.View.{View}
-use Rattle.arc_view.specs.Built.{IsAllowed}
+use Rattle.arc_view.specs.Admission.{Admits}
 use Rattle.arc_view.specs.Steps.{Told}
 use Rattle.arc_table.specs.Runs.{MayRun, Ran}
 use Rattle.arc_table.specs.Runs.MayRun.{ends, steps_on}
@@ -18,7 +18,7 @@ module _ {P A : Type 0} (takes : P → Option ℕ → Type 0) (turned : P → Op
   pub record Keeps (I : P → Option ℕ → View → Type 0) (C : A → View → Type 0) (left : P → ℕ) : Type 0 where
     pub takes_it : (p : P) (last : Option ℕ) (v : View) → I p last v → takes p last
     pub steps_it : (p : P) (last : Option ℕ) (v : View) (s : Step) → I p last v → answer p last ≡ nexts.Step s →
-        IsAllowed shape v s intent × (left (turned p last) < left p) × ((found : ℕ) (w : View) → Told shape intent s v found w → I (turned p last) (Some found) w)
+        Admits shape v s intent × (left (turned p last) < left p) × ((found : ℕ) (w : View) → Told shape intent s v found w → I (turned p last) (Some found) w)
     pub ends_it : (p : P) (last : Option ℕ) (v : View) (a : A) → I p last v → answer p last ≡ nexts.Done a → C a v
 
   module _ (I : P → Option ℕ → View → Type 0) (C : A → View → Type 0) (left : P → ℕ) (k : Keeps I C left) where

@@ -28,7 +28,7 @@ use Rattle.arc_view.specs.declared.view.View.{View}
 use Rattle.arc_view.specs.Holding.{At, HasDuty, heap_of}
 use Rattle.arc_view.specs.Rule.{IsSized}
 use Rattle.arc_view.specs.Kinds.{act_of, event_list, and_act, working_and}
-use Rattle.arc_view.specs.Built.{IsAllowed}
+use Rattle.arc_view.specs.Admission.{Admits}
 use Rattle.arc_view.specs.Steps.{Told}
 use Rattle.arc_view.specs.Calls.{Grew}
 use Rattle.arc_view.proofs.Held.{stays_after}
@@ -58,8 +58,8 @@ module _ (shape : HeapShape) (s : ℕ) (m : Option ℕ) (v0 : View) (sized : IsS
   inside : s / 64 < words_of shape.slots
   inside = omega (arith, lt)
 
-  may_clear : IsAllowed shape v0 clear intents.Vacate
-  may_clear = ((SlotBits (s / 64), refl, inside, free, (s, i, o0, refl, lt, refl, here0, slot0, duty0)), tt)
+  may_clear : Admits shape v0 clear intents.Vacate
+  may_clear = (SlotBits (s / 64), refl, inside, free, (s, i, o0, refl, lt, refl, here0, slot0, duty0))
 
   abbrev Claim : View → Type 0
   Claim w = IsLeft v0 w s m × GoesOn shape (Some (acts.Vacate s)) 1 v0 w
@@ -180,8 +180,8 @@ module _ (shape : HeapShape) (s : ℕ) (m : Option ℕ) (v0 : View) (sized : IsS
   step≢done e = absurd (cc)
 
   steps_at : (n : Once) (last : Option ℕ) (v : View) (a : Step) → IsAt n last v → vacate_answer (plan n) last ≡ nexts.Step a
-      → IsAllowed shape v a intents.Vacate × (one_left (one_turned (plan n) last) < one_left (plan n)) × ((found : ℕ) (w : View) → Told shape intents.Vacate a v found w → Is (one_turned (plan n) last) (Some found) w)
-  steps_at onces.Start last v a at is = subst (λ (t : View × Step). IsAllowed shape t.0 t.1 intents.Vacate × (one_left (one_turned (plan onces.Start) last) < one_left (plan onces.Start)) × ((found : ℕ) (w : View) → Told shape intents.Vacate t.1 t.0 found w → Is (one_turned (plan onces.Start) last) (Some found) w))
+      → Admits shape v a intents.Vacate × (one_left (one_turned (plan n) last) < one_left (plan n)) × ((found : ℕ) (w : View) → Told shape intents.Vacate a v found w → Is (one_turned (plan n) last) (Some found) w)
+  steps_at onces.Start last v a at is = subst (λ (t : View × Step). Admits shape t.0 t.1 intents.Vacate × (one_left (one_turned (plan onces.Start) last) < one_left (plan onces.Start)) × ((found : ℕ) (w : View) → Told shape intents.Vacate t.1 t.0 found w → Is (one_turned (plan onces.Start) last) (Some found) w))
       (λ j. (sym at.1 j, step_inj is j)) (may_clear, omega arith, λ found w told. (onces.Asked, refl, vacates found w told))
   steps_at onces.Asked None v a at is = absurd (at)
   steps_at onces.Asked (Some f) v a at is = done≢step is
@@ -196,7 +196,7 @@ module _ (shape : HeapShape) (s : ℕ) (m : Option ℕ) (v0 : View) (sized : IsS
   vacate_keeps : Keeps vacate_takes one_turned vacate_answer shape intents.Vacate Is (λ a. Claim) one_left
   vacate_keeps = record {
     takes_it = λ p last v at. subst (λ q. vacate_takes q last) (sym at.1) (takes_it at.0 last v at.2);
-    steps_it = λ p last v a at is. subst (λ (q : OneStep). IsAllowed shape v a intents.Vacate × (one_left (one_turned q last) < one_left q) × ((found : ℕ) (w : View) → Told shape intents.Vacate a v found w → Is (one_turned q last) (Some found) w)) (sym at.1)
+    steps_it = λ p last v a at is. subst (λ (q : OneStep). Admits shape v a intents.Vacate × (one_left (one_turned q last) < one_left q) × ((found : ℕ) (w : View) → Told shape intents.Vacate a v found w → Is (one_turned q last) (Some found) w)) (sym at.1)
         (steps_at at.0 last v a at.2 (subst (λ q. vacate_answer q last ≡ nexts.Step a) at.1 is));
     ends_it = λ p last v a at is. ends_at at.0 last v a at.2 (subst (λ q. vacate_answer q last ≡ nexts.Done a) at.1 is);
   }

@@ -38,7 +38,7 @@ use Rattle.arc_view.specs.Views.{within, made_in, first_word}
 use Rattle.arc_view.specs.Holding.{At, heap_of}
 use Rattle.arc_view.specs.Rule.{InShape, is_new, news}
 use Rattle.arc_view.specs.Kinds.{act_of, event_list, loaded_act, or_act, stored_act, working_loaded, working_or, working_stored, working_after, is_try, searched, is_fruitless, when}
-use Rattle.arc_view.specs.Built.{IsAllowed}
+use Rattle.arc_view.specs.Admission.{Admits}
 use Rattle.arc_view.specs.Steps.{Told}
 use Rattle.arc_view.specs.Calls.{events_by, Grew}
 use Rattle.arc_view.proofs.Lists.{starts_trans, share_more}
@@ -223,13 +223,13 @@ module _ (shape : HeapShape) (name : ObjectName) (immortal : Bool) (v0 : View) (
   owes_now : (v : View) → v.working ≡ v0.working → v.working.owes ≡ None
   owes_now v same = ap (λ (w : Working). w.owes) same ∙ free
 
-  may_look : (k : ℕ) (v : View) → k < words → Tried k [] v → IsAllowed shape v (look k) making
-  may_look k v lt t = ((SlotBits k, refl, lt, owes_now v t.working, tt, tt), inr tt)
+  may_look : (k : ℕ) (v : View) → k < words → Tried k [] v → Admits shape v (look k) making
+  may_look k v lt t = (SlotBits k, refl, lt, owes_now v t.working, tt, tt)
 
-  may_take : (s found : ℕ) (v : View) → Seen s found v → IsAllowed shape v (take s) making
+  may_take : (s found : ℕ) (v : View) → Seen s found v → Admits shape v (take s) making
   may_take s found v t =
       let lt = t.taking.below in
-      ((SlotBits (s / 64), refl, in_words shape.slots s lt, owes_now v t.working, (s, refl, lt, refl, is_class, room_now words v t.grew)), tt)
+      (SlotBits (s / 64), refl, in_words shape.slots s lt, owes_now v t.working, (s, refl, lt, refl, is_class, room_now words v t.grew))
 
   -- what a load tells
   look_act_is : (k found : ℕ) (v : View) → k < words → act_of shape v (look k) making found ≡ when (is_fruitless at shape.slots v k found) acts.Full
@@ -409,11 +409,11 @@ module _ (shape : HeapShape) (name : ObjectName) (immortal : Bool) (v0 : View) (
   new_word_is : (o : Object) → name_of o ≡ name → new_word immortal ≡ first_word shape o
   new_word_is o named = ap (λ b. cond b 1 2) (lasts ∙ ap (λ (m : ObjectName). (class_at shape m.class).immortal) (sym named))
 
-  may_count : (s : ℕ) (v : View) → Got (to_count s) (words + 1) s v → IsAllowed shape v (count_it s) making
-  may_count s v g = ((Count s, refl, g.lt, (record { slot = s; counted = false }, g.stands.o, owes_it (to_count s) (words + 1) s v g, here_it (to_count s) (words + 1) s v g, inl (refl, refl, new_word_is g.stands.o g.stands.named))), tt)
+  may_count : (s : ℕ) (v : View) → Got (to_count s) (words + 1) s v → Admits shape v (count_it s) making
+  may_count s v g = (Count s, refl, g.lt, (record { slot = s; counted = false }, g.stands.o, owes_it (to_count s) (words + 1) s v g, here_it (to_count s) (words + 1) s v g, inl (refl, refl, new_word_is g.stands.o g.stands.named)))
 
-  may_name : (s : ℕ) (v : View) → Got (to_name s) (words + 2) s v → IsAllowed shape v (name_it s) making
-  may_name s v g = ((Isa s, refl, g.lt, (record { slot = s; counted = true }, g.stands.o, owes_it (to_name s) (words + 2) s v g, here_it (to_name s) (words + 2) s v g, inr (refl, refl, ap isa_word_of (sym g.stands.named)))), tt)
+  may_name : (s : ℕ) (v : View) → Got (to_name s) (words + 2) s v → Admits shape v (name_it s) making
+  may_name s v g = (Isa s, refl, g.lt, (record { slot = s; counted = true }, g.stands.o, owes_it (to_name s) (words + 2) s v g, here_it (to_name s) (words + 2) s v g, inr (refl, refl, ap isa_word_of (sym g.stands.named))))
 
   -- a store of a word of the new object
   stored : (m next : Option Naming) (most s found : ℕ) (st : Step) (v w : View) → Got m most s v → act_of shape v st making found ≡ None → working_after shape v st making found ≡ record v.working { owes = next } → Told shape making st v found w → Got next (most + 1) s w
@@ -500,7 +500,7 @@ module _ (shape : HeapShape) (name : ObjectName) (immortal : Bool) (v0 : View) (
 
   -- a step of the plan, where it is m and goes on to n
   abbrev Stepping : Making → View → Making → Step → Type 0
-  Stepping m v n a = IsAllowed shape v a making × (making_left shape.slots n < making_left shape.slots m)
+  Stepping m v n a = Admits shape v a making × (making_left shape.slots n < making_left shape.slots m)
       × ((found : ℕ) (w : View) → Told shape making a v found w → Making_is (plan n) (Some found) w)
 
   looks : (m : Making) (k : ℕ) (v : View) → k < words → making_left shape.slots (makings.Looking k) < making_left shape.slots m → Tried k [] v → Stepping m v (makings.Looking k) (look k)
@@ -585,7 +585,7 @@ module _ (shape : HeapShape) (name : ObjectName) (immortal : Bool) (v0 : View) (
   making_keeps : 1 ≤ shape.slots → Keeps creation_takes creation_turned creation_answer shape making Making_is Outcome creation_left
   making_keeps some = record {
     takes_it = λ p last v i. subst (λ q. creation_takes q last) (sym i.1) (takes_at i.0 last v i.2);
-    steps_it = λ p last v a i is. subst (λ (q : Creation). IsAllowed shape v a making × (creation_left (creation_turned q last) < creation_left q) × ((found : ℕ) (w : View) → Told shape making a v found w → Making_is (creation_turned q last) (Some found) w)) (sym i.1)
+    steps_it = λ p last v a i is. subst (λ (q : Creation). Admits shape v a making × (creation_left (creation_turned q last) < creation_left q) × ((found : ℕ) (w : View) → Told shape making a v found w → Making_is (creation_turned q last) (Some found) w)) (sym i.1)
         (steps_at i.0 last v a some i.2 (subst (λ q. creation_answer q last ≡ nexts.Step a) i.1 is));
     ends_it = λ p last v a i is. ends_at i.0 last v a i.2 (subst (λ q. creation_answer q last ≡ nexts.Done a) i.1 is);
   }

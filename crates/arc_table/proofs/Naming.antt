@@ -19,7 +19,7 @@ use Rattle.arc_rule.specs.Shown.{ShowsName}
 use Rattle.arc_view.specs.declared.view.View.{View}
 use Rattle.arc_view.specs.Holding.{At, HasHand, heap_of}
 use Rattle.arc_view.specs.Rule.{InShape, IsSized}
-use Rattle.arc_view.specs.Built.{IsAllowed}
+use Rattle.arc_view.specs.Admission.{Admits}
 use Rattle.arc_view.specs.Steps.{Told}
 use Rattle.arc_view.proofs.Held.{Held, held_stays, strong≢weak}
 use Rattle.arc_view.proofs.Strongs.{slot_found}
@@ -40,8 +40,8 @@ module _ (shape : HeapShape) (k s : ℕ) (v0 : View) (sized : IsSized shape) (lt
   abbrev look : Step
   look = Load isa_at
 
-  may_look : IsAllowed shape v0 look intents.Look
-  may_look = ((Isa s, refl, lt, free, (i, o0, here0, slot0, inl (k, hand0)), tt), inl (λ found. refl, λ found. look_works v0.working (place_at (extent_of shape) isa_at) found))
+  may_look : Admits shape v0 look intents.Look
+  may_look = (Isa s, refl, lt, free, (i, o0, here0, slot0, inl (k, hand0)), tt)
 
   -- the word that was found is that of the name
   record Named (found : ℕ) (w : View) : Type 0 where
@@ -103,8 +103,8 @@ module _ (shape : HeapShape) (k s : ℕ) (v0 : View) (sized : IsSized shape) (lt
   step≢done e = absurd (cc)
 
   steps_at : (n : Once) (last : Option ℕ) (v : View) (a : Step) → IsAt n last v → name_of_answer (plan n) last ≡ nexts.Step a
-      → IsAllowed shape v a intents.Look × (one_left (one_turned (plan n) last) < one_left (plan n)) × ((found : ℕ) (w : View) → Told shape intents.Look a v found w → Is (one_turned (plan n) last) (Some found) w)
-  steps_at onces.Start last v a at is = subst (λ (t : View × Step). IsAllowed shape t.0 t.1 intents.Look × (one_left (one_turned (plan onces.Start) last) < one_left (plan onces.Start)) × ((found : ℕ) (w : View) → Told shape intents.Look t.1 t.0 found w → Is (one_turned (plan onces.Start) last) (Some found) w))
+      → Admits shape v a intents.Look × (one_left (one_turned (plan n) last) < one_left (plan n)) × ((found : ℕ) (w : View) → Told shape intents.Look a v found w → Is (one_turned (plan n) last) (Some found) w)
+  steps_at onces.Start last v a at is = subst (λ (t : View × Step). Admits shape t.0 t.1 intents.Look × (one_left (one_turned (plan onces.Start) last) < one_left (plan onces.Start)) × ((found : ℕ) (w : View) → Told shape intents.Look t.1 t.0 found w → Is (one_turned (plan onces.Start) last) (Some found) w))
       (λ j. (sym at.1 j, step_inj is j)) (may_look, omega arith, λ found w told. (onces.Asked, refl, named found w told))
   steps_at onces.Asked None v a at is = absurd (at)
   steps_at onces.Asked (Some f) v a at is = done≢step is
@@ -119,7 +119,7 @@ module _ (shape : HeapShape) (k s : ℕ) (v0 : View) (sized : IsSized shape) (lt
   name_keeps : Keeps name_of_takes one_turned name_of_answer shape intents.Look Is Claim one_left
   name_keeps = record {
     takes_it = λ p last v at. subst (λ q. name_of_takes q last) (sym at.1) (takes_it at.0 last v at.2);
-    steps_it = λ p last v a at is. subst (λ (q : OneStep). IsAllowed shape v a intents.Look × (one_left (one_turned q last) < one_left q) × ((found : ℕ) (w : View) → Told shape intents.Look a v found w → Is (one_turned q last) (Some found) w)) (sym at.1)
+    steps_it = λ p last v a at is. subst (λ (q : OneStep). Admits shape v a intents.Look × (one_left (one_turned q last) < one_left q) × ((found : ℕ) (w : View) → Told shape intents.Look a v found w → Is (one_turned q last) (Some found) w)) (sym at.1)
         (steps_at at.0 last v a at.2 (subst (λ q. name_of_answer q last ≡ nexts.Step a) at.1 is));
     ends_it = λ p last v a at is. ends_at at.0 last v a at.2 (subst (λ q. name_of_answer q last ≡ nexts.Done a) at.1 is);
   }

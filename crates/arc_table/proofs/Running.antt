@@ -8,7 +8,7 @@ use Rattle.arc_rule.specs.declared.plan.Next.TheVariants as nexts
 use Rattle.arc_view.specs.declared.view.Mark.{Mark}
 use Rattle.arc_view.specs.declared.view.View.{View}
 use Rattle.arc_view.specs.Views.{made_in}
-use Rattle.arc_view.specs.Built.{IsAllowed}
+use Rattle.arc_view.specs.Admission.{Admits}
 use Rattle.arc_view.specs.Steps.{Told}
 use Rattle.arc_table.specs.Runs.{MayRun, Ran, Walked}
 use Rattle.arc_table.specs.Runs.MayRun.{ends, steps_on}
@@ -34,10 +34,10 @@ module _ {P A : Type 0} (takes : P → Option ℕ → Type 0) (turned : P → Op
   may_take p last v m = elim m [ ends a t e ↦ t | steps_on s t e allowed on ↦ t ]
 
   -- a step that it asks for is allowed
-  pub may_step : (p : P) (last : Option ℕ) (v : View) (s : Step) → MayRun takes turned answer shape intent p last v → answer p last ≡ nexts.Step s → IsAllowed shape v s intent
+  pub may_step : (p : P) (last : Option ℕ) (v : View) (s : Step) → MayRun takes turned answer shape intent p last v → answer p last ≡ nexts.Step s → Admits shape v s intent
   may_step p last v s m is = elim m [
     | ends a t e ↦ absurd (step≢done (sym is ∙ e))
-    | steps_on r t e allowed on ↦ subst (λ z. IsAllowed shape v z intent) (step_inj (sym e ∙ is)) allowed
+    | steps_on r t e allowed on ↦ subst (λ z. Admits shape v z intent) (step_inj (sym e ∙ is)) allowed
   ]
 
   -- after it the plan may go on

@@ -42,8 +42,8 @@ use Rattle.arc_view.specs.declared.view.Working.{Working}
 use Rattle.arc_view.specs.declared.view.View.{View}
 use Rattle.arc_view.specs.Views.{made_in}
 use Rattle.arc_view.specs.Holding.{heap_of}
-use Rattle.arc_view.specs.Kinds.{act_of, event_list, kind_at, working_loaded, working_after}
-use Rattle.arc_view.specs.Built.{IsAllowed}
+use Rattle.arc_view.specs.Kinds.{act_of, event_list, working_loaded, working_after}
+use Rattle.arc_view.specs.Admission.{Admits}
 use Rattle.arc_view.specs.Steps.{Told}
 use Rattle.arc_view.specs.Calls.{Grew, Called}
 use Rattle.arc_model.proofs.Own.{own_gains}
@@ -136,8 +136,8 @@ module _ (shape : HeapShape) (k s : ℕ) (v0 : View) (sized : IsSized shape) (lt
     pub found : mark.found ≡ 1
 
   -- a load of the inline word shows no event, or the copy of an immortal object
-  may_look : (v : View) → Holding v → IsAllowed shape v look copy
-  may_look v g = ((Count s, refl, lt, ap (λ (w : Working). w.owes) g.working ∙ free, (i, g.o, g.here, g.slot, inl (k, kinds.Strong, g.hand, strong≢weak)), tt), inr tt)
+  may_look : (v : View) → Holding v → Admits shape v look copy
+  may_look v g = (Count s, refl, lt, ap (λ (w : Working). w.owes) g.working ∙ free, (i, g.o, g.here, g.slot, inl (k, kinds.Strong, g.hand, strong≢weak)), tt)
 
   look_none : (x : ℕ) → x ≢ 1 → act_of shape v0 look copy x ≡ None
   look_none x other = copy_told shape v0 k i s x o0 lt hand0 here0 slot0 ∙ ap (λ b. cond b (Some act) None) (ne_eqb x 1 other)
@@ -212,11 +212,8 @@ module _ (shape : HeapShape) (k s : ℕ) (v0 : View) (sized : IsSized shape) (lt
   after x v t = dite (ℕ_discrete x 1) (λ one. inl (one, lasts x v one t)) (λ other. inr (looked x v other t))
 
   -- the counts that were read have room
-  may_copy : (x : ℕ) (v : View) (c : Inline) → Looked x v → IsWordOf (Counts c) x → c.deiniting ≡ false → c.strong_extra < shape.caps.strong → IsAllowed shape v (Exchange count_at x (counts_word (strong_more c))) copy
-  may_copy x v c l word lives room = let g = l.holding in (
-    (Count s, refl, lt, ap (λ (w : Working). w.owes) g.working ∙ free, (kinds.Strong, i, g.o, (g.hand, tt), g.here, ap (λ m. is_number m s) g.slot ∙ eq-eqb s s refl, (c, word, lives, room, refl))),
-    tt,
-  )
+  may_copy : (x : ℕ) (v : View) (c : Inline) → Looked x v → IsWordOf (Counts c) x → c.deiniting ≡ false → c.strong_extra < shape.caps.strong → Admits shape v (Exchange count_at x (counts_word (strong_more c))) copy
+  may_copy x v c l word lives room = let g = l.holding in (Count s, refl, lt, ap (λ (w : Working). w.owes) g.working ∙ free, (kinds.Strong, i, g.o, (g.hand, tt), g.here, ap (λ m. is_number m s) g.slot ∙ eq-eqb s s refl, (c, word, lives, room, refl)))
 
   abbrev row : ℕ → Choice StrongUpAnswer
   row x = strong_up_row shape.caps.strong (unpacked x)
@@ -293,7 +290,7 @@ module _ (shape : HeapShape) (k s : ℕ) (v0 : View) (sized : IsSized shape) (lt
   step≢done e = absurd (cc)
 
   abbrev Stepping : At' → View → At' → Step → Type 0
-  Stepping m v n a = IsAllowed shape v a copy × (left_at n < left_at m) × ((found : ℕ) (w : View) → Told shape copy a v found w → Is (plan n) (Some found) w)
+  Stepping m v n a = Admits shape v a copy × (left_at n < left_at m) × ((found : ℕ) (w : View) → Told shape copy a v found w → Is (plan n) (Some found) w)
 
   looks : Stepping ats.Start v0 ats.Loading look
   looks = (may_look v0 holding0, omega arith, λ found w told. (ats.Loading, refl, after found w told))
@@ -343,7 +340,7 @@ module _ (shape : HeapShape) (k s : ℕ) (v0 : View) (sized : IsSized shape) (lt
   up_keeps : Keeps strong_up_takes strong_up_turned strong_up_answer shape copy Is Outcome (λ p. left_at p.at)
   up_keeps = record {
     takes_it = λ p last v i. subst (λ q. strong_up_takes q last) (sym i.1) (takes_it i.0 last v i.2);
-    steps_it = λ p last v a i is. subst (λ (q : CappedAttempt). IsAllowed shape v a copy × (left_at (strong_up_turned q last).at < left_at q.at) × ((found : ℕ) (w : View) → Told shape copy a v found w → Is (strong_up_turned q last) (Some found) w)) (sym i.1)
+    steps_it = λ p last v a i is. subst (λ (q : CappedAttempt). Admits shape v a copy × (left_at (strong_up_turned q last).at < left_at q.at) × ((found : ℕ) (w : View) → Told shape copy a v found w → Is (strong_up_turned q last) (Some found) w)) (sym i.1)
         (steps_at i.0 last v a i.2 (subst (λ q. strong_up_answer q last ≡ nexts.Step a) i.1 is));
     ends_it = λ p last v a i is. ends_at i.0 last v a i.2 (subst (λ q. strong_up_answer q last ≡ nexts.Done a) i.1 is);
   }

@@ -1,6 +1,6 @@
 //! How a plan runs on the shared heap: each step that it asks for is one atomic step.
 ghost use Rattle.std.specs.Prelude.{◌≡◌, Option, None};
-ghost use Rattle.arc_view.specs.Built.{IsAllowed};
+ghost use Rattle.arc_view.specs.Admission.{Admits};
 ghost use Rattle.arc_view.specs.Steps.{Told};
 ghost use Rattle.arc_table.specs.Runs.{MayRun, Ran, Walked};
 ghost use Rattle.arc_table.specs.Seats.{heap_id, shape_of, part_id, part_view};
@@ -10,10 +10,11 @@ use crate::heap::{Heap, Part};
 use arc_rule::{Next, Plan, Step};
 
 impl Heap {
+    #[inline(always)]
     fn step_as<J: Asks>(&self, part: &mut Part, step: Step) -> u64
         requires own { part_id part.old ≡ heap_id self.now }
         requires asks { J.shape ≡ shape_of self.now }
-        requires kind { IsAllowed (shape_of self.now) (part_view part.old) step J.intent }
+        requires kind { Admits (shape_of self.now) (part_view part.old) step J.intent }
         ensures same { part_id part.new ≡ part_id part.old }
         ensures told { Told (shape_of self.now) J.intent step (part_view part.old) result (part_view part.new) }
     {
@@ -30,6 +31,7 @@ impl Heap {
     }
 
     /// Makes the steps of a plan, which the pass admits whatever they find, to its answer. It takes no memory and waits for nobody.
+    #[inline(always)]
     pub(crate) fn run_as<J: Asks, P: Plan + Drop>(&self, part: &mut Part, plan: P) -> P::Answer
         requires own { part_id part.old ≡ heap_id self.now }
         requires asks { J.shape ≡ shape_of self.now }

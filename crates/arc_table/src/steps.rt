@@ -1,7 +1,7 @@
 //! Single steps.
 ghost use Rattle.std.specs.Prelude.{◌≡◌};
 ghost use Rattle.arc_rule.specs.declared.step.Step.TheVariants.{Load, Exchange, Store, Or, And};
-ghost use Rattle.arc_view.specs.Built.{IsAllowed};
+ghost use Rattle.arc_view.specs.Admission.{Admits};
 ghost use Rattle.arc_view.specs.Steps.{Told};
 ghost use Rattle.arc_table.specs.Seats.{heap_id, shape_of, part_id, part_view, pass_id, view_of};
 ghost use Rattle.arc_view_laws.specs.Strangers.{makes_object};
@@ -15,7 +15,7 @@ impl Heap {
     pub(crate) fn load_as<J: Asks>(&self, part: &mut Part, place: u32) -> u64
         requires own { part_id part.old ≡ heap_id self.now }
         requires asks { J.shape ≡ shape_of self.now }
-        requires kind { IsAllowed (shape_of self.now) (part_view part.old) (Load place) J.intent }
+        requires kind { Admits (shape_of self.now) (part_view part.old) (Load place) J.intent }
         ensures same { part_id part.new ≡ part_id part.old }
         ensures told { Told (shape_of self.now) J.intent (Load place) (part_view part.old) result (part_view part.new) }
     {
@@ -33,7 +33,7 @@ impl Heap {
     ) -> u64
         requires own { part_id part.old ≡ heap_id self.now }
         requires asks { J.shape ≡ shape_of self.now }
-        requires kind { IsAllowed (shape_of self.now) (part_view part.old) (Exchange place old new) J.intent }
+        requires kind { Admits (shape_of self.now) (part_view part.old) (Exchange place old new) J.intent }
         ensures same { part_id part.new ≡ part_id part.old }
         ensures told { Told (shape_of self.now) J.intent (Exchange place old new) (part_view part.old) result (part_view part.new) }
     {
@@ -45,7 +45,7 @@ impl Heap {
     pub(crate) fn store_as<J: Asks>(&self, part: &mut Part, place: u32, new: u64)
         requires own { part_id part.old ≡ heap_id self.now }
         requires asks { J.shape ≡ shape_of self.now }
-        requires kind { IsAllowed (shape_of self.now) (part_view part.old) (Store place new) J.intent }
+        requires kind { Admits (shape_of self.now) (part_view part.old) (Store place new) J.intent }
         ensures same { part_id part.new ≡ part_id part.old }
         ensures told { Told (shape_of self.now) J.intent (Store place new) (part_view part.old) 0 (part_view part.new) }
     {
@@ -57,7 +57,7 @@ impl Heap {
     pub(crate) fn or_as<J: Asks>(&self, part: &mut Part, place: u32, bits: u64) -> u64
         requires own { part_id part.old ≡ heap_id self.now }
         requires asks { J.shape ≡ shape_of self.now }
-        requires kind { IsAllowed (shape_of self.now) (part_view part.old) (Or place bits) J.intent }
+        requires kind { Admits (shape_of self.now) (part_view part.old) (Or place bits) J.intent }
         ensures same { part_id part.new ≡ part_id part.old }
         ensures told { Told (shape_of self.now) J.intent (Or place bits) (part_view part.old) result (part_view part.new) }
     {
@@ -69,7 +69,7 @@ impl Heap {
     pub(crate) fn and_as<J: Asks>(&self, part: &mut Part, place: u32, bits: u64) -> u64
         requires own { part_id part.old ≡ heap_id self.now }
         requires asks { J.shape ≡ shape_of self.now }
-        requires kind { IsAllowed (shape_of self.now) (part_view part.old) (And place bits) J.intent }
+        requires kind { Admits (shape_of self.now) (part_view part.old) (And place bits) J.intent }
         ensures same { part_id part.new ≡ part_id part.old }
         ensures told { Told (shape_of self.now) J.intent (And place bits) (part_view part.old) result (part_view part.new) }
     {
@@ -81,7 +81,7 @@ impl Heap {
     pub(crate) fn load_for<J: Asks>(&self, part: &mut Part, place: u32, _intent: Intent) -> u64
         requires own { part_id part.old ≡ heap_id self.now }
         requires asks { (J.intent ≡ _intent) × (J.shape ≡ shape_of self.now) }
-        requires kind { IsAllowed (shape_of self.now) (part_view part.old) (Load place) _intent }
+        requires kind { Admits (shape_of self.now) (part_view part.old) (Load place) _intent }
         ensures same { part_id part.new ≡ part_id part.old }
         ensures told { Told (shape_of self.now) _intent (Load place) (part_view part.old) result (part_view part.new) }
     {
@@ -98,7 +98,7 @@ impl Heap {
     ) -> u64
         requires own { part_id part.old ≡ heap_id self.now }
         requires asks { (J.intent ≡ _intent) × (J.shape ≡ shape_of self.now) }
-        requires kind { IsAllowed (shape_of self.now) (part_view part.old) (Exchange place old new) _intent }
+        requires kind { Admits (shape_of self.now) (part_view part.old) (Exchange place old new) _intent }
         ensures same { part_id part.new ≡ part_id part.old }
         ensures told { Told (shape_of self.now) _intent (Exchange place old new) (part_view part.old) result (part_view part.new) }
     {
@@ -108,7 +108,7 @@ impl Heap {
     fn store_for<J: Asks>(&self, part: &mut Part, place: u32, new: u64, _intent: Intent)
         requires own { part_id part.old ≡ heap_id self.now }
         requires asks { (J.intent ≡ _intent) × (J.shape ≡ shape_of self.now) }
-        requires kind { IsAllowed (shape_of self.now) (part_view part.old) (Store place new) _intent }
+        requires kind { Admits (shape_of self.now) (part_view part.old) (Store place new) _intent }
         ensures same { part_id part.new ≡ part_id part.old }
         ensures told { Told (shape_of self.now) _intent (Store place new) (part_view part.old) 0 (part_view part.new) }
     {
@@ -118,7 +118,7 @@ impl Heap {
     fn or_for<J: Asks>(&self, part: &mut Part, place: u32, bits: u64, _intent: Intent) -> u64
         requires own { part_id part.old ≡ heap_id self.now }
         requires asks { (J.intent ≡ _intent) × (J.shape ≡ shape_of self.now) }
-        requires kind { IsAllowed (shape_of self.now) (part_view part.old) (Or place bits) _intent }
+        requires kind { Admits (shape_of self.now) (part_view part.old) (Or place bits) _intent }
         ensures same { part_id part.new ≡ part_id part.old }
         ensures told { Told (shape_of self.now) _intent (Or place bits) (part_view part.old) result (part_view part.new) }
     {
@@ -128,7 +128,7 @@ impl Heap {
     fn and_for<J: Asks>(&self, part: &mut Part, place: u32, bits: u64, _intent: Intent) -> u64
         requires own { part_id part.old ≡ heap_id self.now }
         requires asks { (J.intent ≡ _intent) × (J.shape ≡ shape_of self.now) }
-        requires kind { IsAllowed (shape_of self.now) (part_view part.old) (And place bits) _intent }
+        requires kind { Admits (shape_of self.now) (part_view part.old) (And place bits) _intent }
         ensures same { part_id part.new ≡ part_id part.old }
         ensures told { Told (shape_of self.now) _intent (And place bits) (part_view part.old) result (part_view part.new) }
     {
@@ -137,7 +137,7 @@ impl Heap {
 
     fn step_for(&self, part: &mut Part, step: Step, intent: Intent) -> u64
         requires own { part_id part.old ≡ heap_id self.now }
-        requires kind { IsAllowed (shape_of self.now) (part_view part.old) step intent }
+        requires kind { Admits (shape_of self.now) (part_view part.old) step intent }
         ensures same { part_id part.new ≡ part_id part.old }
         ensures told { Told (shape_of self.now) intent step (part_view part.old) result (part_view part.new) }
     {
@@ -159,7 +159,7 @@ impl Heap {
     /// back the word that was found, and 0, which means nothing, by a store.
     pub fn step(&self, pass: &mut Pass, step: Step, intent: Intent) -> u64
         requires own { pass_id pass.old ≡ heap_id self.now }
-        requires kind { IsAllowed (shape_of self.now) (view_of pass.old) step intent }
+        requires kind { Admits (shape_of self.now) (view_of pass.old) step intent }
         ensures same { pass_id pass.new ≡ pass_id pass.old }
         ensures told { Told (shape_of self.now) intent step (view_of pass.old) result (view_of pass.new) }
     {

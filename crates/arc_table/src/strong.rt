@@ -40,6 +40,7 @@ pub(crate) enum Lowered {
 
 impl Heap {
     /// One more by the inline word.
+    #[inline(always)]
     fn raise_inline<J: Asks>(&self, part: &mut Part, of: &Strong) -> StrongUpAnswer
         requires own { part_id part.old ≡ heap_id self.now }
         requires asks { (J.intent ≡ copy_intent (Hand (hand_of of.now))) × (J.shape ≡ shape_of self.now) }
@@ -69,6 +70,7 @@ impl Heap {
         self.run_as::<J, EntryUp>(part, plan)
     }
 
+    #[inline(always)]
     fn raise<J: Asks>(&self, part: &mut Part, of: &Strong) -> Raised
         requires own { part_id part.old ≡ heap_id self.now }
         requires asks { (J.intent ≡ copy_intent (Hand (hand_of of.now))) × (J.shape ≡ shape_of self.now) }
@@ -96,6 +98,7 @@ impl Heap {
     /// `AtCap` where the inline word that was read counts as many strong references as it can, `CountFull` where the object's entry does,
     /// `Again` where the count has changed between two reads of this call: then the pass has what it had. RefCount.h (increment).
     /// Of an object of an immortal class it is one load, which shows that word, and no word changes.
+    #[inline(always)]
     pub fn retain(&self, pass: &mut Pass, of: &Strong) -> Up<Strong>
         requires own { pass_id pass.old ≡ heap_id self.now }
         requires held { IsHeld (shape_of self.now) (view_of pass.old) of.now }
@@ -117,6 +120,7 @@ impl Heap {
     }
 
     /// One fewer by the inline word.
+    #[inline(always)]
     fn lower_inline<J: Asks>(&self, part: &mut Part, held: &Strong) -> StrongDownAnswer
         requires own { part_id part.old ≡ heap_id self.now }
         requires asks { (J.intent ≡ drop_intent (hand_of held.now)) × (J.shape ≡ shape_of self.now) }
@@ -146,6 +150,7 @@ impl Heap {
         self.run_as::<J, EntryDown>(part, plan)
     }
 
+    #[inline(always)]
     fn lower<J: Asks>(&self, part: &mut Part, held: &Strong) -> Lowered
         requires own { part_id part.old ≡ heap_id self.now }
         requires asks { (J.intent ≡ drop_intent (hand_of held.now)) × (J.shape ≡ shape_of self.now) }
@@ -171,6 +176,7 @@ impl Heap {
     /// the pass owes its deinit. At most three steps; it takes no memory and waits for nobody. `Again` where the count has changed between two
     /// reads of this call: then nothing was given up. RefCount.h (doDecrement). Of an object of an immortal class it is one load, which
     /// shows that word; no word changes, and it is never the last one.
+    #[inline(always)]
     pub fn release(&self, pass: &mut Pass, held: Strong) -> Release
         requires own { pass_id pass.old ≡ heap_id self.now }
         requires held { IsHeld (shape_of self.now) (view_of pass.old) held }

@@ -5,7 +5,6 @@ use Rattle.arc_model.specs.declared.event.Act.{Act}
 use Rattle.arc_model.specs.declared.event.Act.TheVariants as acts
 use Rattle.arc_model.specs.declared.event.Origin.{Origin}
 use Rattle.arc_model.specs.declared.shape.Kind.{Kind}
-use Rattle.arc_model.specs.Holders.{is_claimed_by}
 use Rattle.arc_model.specs.Shapes.{HeapShape}
 use Rattle.arc_model.specs.Heaps.{Vacating}
 use Rattle.arc_model.specs.History.{History, heap_after, IsLegal}
@@ -26,9 +25,9 @@ use Rattle.arc_view.specs.declared.view.View.{View}
 use Rattle.arc_view.specs.Holding.{HasClaim}
 use Rattle.arc_view.specs.Views.{first_word}
 use Rattle.arc_view.specs.Admission.{Admits, IsNaming, IsWordOfEntry}
-use Rattle.arc_view.specs.Built.{IsBuilt}
 use Rattle.arc_view.specs.Kinds.{act_of, loaded_act, stored_act, or_act, and_act, working_after, working_loaded, working_stored, working_or, working_and, but_at, but_entry}
 use Rattle.arc_view.proofs.Advance.{Good}
+use Rattle.arc_view.proofs.Present.{claim_now}
 use Rattle.arc_view.proofs.Bridge.{Before, Reading, silent_good}
 use Rattle.arc_view.proofs.Owed.{OwedLater, owed_stays}
 use Rattle.arc_view.proofs.Searching.{search_good, entry_search_good}
@@ -90,22 +89,18 @@ module _ (shape : HeapShape) (v : View) (h : History) (b : Before shape v h) whe
       (subst (λ (q : Place). Good shape v h (number (extent_of shape) pl) x x (loaded_act shape v q x (intents.New class)) (working_loaded v.working q x (intents.New class))) (sym (place_at-number (extent_of shape) pl inside))
       (new_loaded class x pl inside owes (subst (λ n. Reading shape v h n x) at read)))
 
-  -- what the view has claimed, it has claimed now
-  claim_now : (e : ℕ) → HasClaim v e → is_claimed_by v.number e (heap_after h) ≡ true
-  claim_now e claim = let since : IsLegal shape (b.rest ++ v.seen) = subst (IsLegal shape) b.is b.legal in ap (λ l. is_claimed_by v.number e (heap_after l)) b.is ∙ (others_leave shape v.number v.seen b.rest since b.others).claims e ∙ claim
-
   abbrev Ored : ℕ → ℕ → Intent → ℕ → Type 1
   Ored place bits intent x = Good shape v h place x (bit_or x bits) (act_of shape v (Or place bits) intent x) (working_after shape v (Or place bits) intent x)
 
-  pub or_admitted : (place bits : ℕ) (intent : Intent) → Admits shape v (Or place bits) intent → IsBuilt shape v (Or place bits) intent → (x : ℕ) → Reading shape v h place x → Ored place bits intent x
-  or_admitted place bits (intents.New class) (pl, at, inside, owes, (s, is, lt, bit, is_class, room)) built x read =
+  pub or_admitted : (place bits : ℕ) (intent : Intent) → Admits shape v (Or place bits) intent → (x : ℕ) → Reading shape v h place x → Ored place bits intent x
+  or_admitted place bits (intents.New class) (pl, at, inside, owes, (s, is, lt, bit, is_class, room)) x read =
       let place_is = at ∙ ap (number (extent_of shape)) is in
       let within : IsPlace (extent_of shape) (places.SlotBits (s / 64)) = subst (IsPlace (extent_of shape)) is inside in
       subst (λ (t : ℕ × ℕ). Ored t.0 t.1 (intents.New class) x) (λ j. (sym place_is j, sym bit j))
       (subst (λ (q : Place). Good shape v h (number (extent_of shape) (places.SlotBits (s / 64))) x (bit_or x (bit_of s)) (if bit_and x (bit_of s) == 0 then or_act v q (bit_of s) (intents.New class) else None)
       (if bit_and x (bit_of s) == 0 then working_or v.working q (bit_of s) (intents.New class) else v.working)) (sym (place_at-number (extent_of shape) (places.SlotBits (s / 64)) within))
       (take_good shape v h b s class lt owes x is_class room (bits_says shape v h (s / 64) x owes within (subst (λ n. Reading shape v h n x) place_is read))))
-  or_admitted place bits (intents.Claim of) (pl, at, inside, owes, (e, s, kind, i, o, is, lt, bit, source, strong, here, slot)) built x read =
+  or_admitted place bits (intents.Claim of) (pl, at, inside, owes, (e, s, kind, i, o, is, lt, bit, source, strong, here, slot)) x read =
       let place_is = at ∙ ap (number (extent_of shape)) is in
       let within : IsPlace (extent_of shape) (places.EntryBits (e / 64)) = subst (IsPlace (extent_of shape)) is inside in
       subst (λ (t : ℕ × ℕ). Ored t.0 t.1 (intents.Claim of) x) (λ j. (sym place_is j, sym bit j))
@@ -118,13 +113,25 @@ module _ (shape : HeapShape) (v : View) (h : History) (b : Before shape v h) whe
       same_work : (t : Bool) → (if t then v.working else v.working) ≡ v.working
       same_work true = refl
       same_work false = refl
-  or_admitted place bits _ admits built x read = absurd (built)
+  or_admitted place bits intents.Look (pl, at, inside, owes, never) x read = absurd (never)
+  or_admitted place bits (intents.Copy from) (pl, at, inside, owes, never) x read = absurd (never)
+  or_admitted place bits (intents.UnownedOf of) (pl, at, inside, owes, never) x read = absurd (never)
+  or_admitted place bits (intents.WeakOf of) (pl, at, inside, owes, never) x read = absurd (never)
+  or_admitted place bits (intents.Load of) (pl, at, inside, owes, never) x read = absurd (never)
+  or_admitted place bits (intents.Drop k) (pl, at, inside, owes, never) x read = absurd (never)
+  or_admitted place bits (intents.Publish of why) (pl, at, inside, owes, never) x read = absurd (never)
+  or_admitted place bits intents.Back (pl, at, inside, owes, never) x read = absurd (never)
+  or_admitted place bits (intents.Swap c put) (pl, at, inside, owes, never) x read = absurd (never)
+  or_admitted place bits (intents.Access c) (pl, at, inside, owes, never) x read = absurd (never)
+  or_admitted place bits (intents.Deinit slot) (pl, at, inside, owes, never) x read = absurd (never)
+  or_admitted place bits intents.Vacate (pl, at, inside, owes, never) x read = absurd (never)
+  or_admitted place bits intents.Gone (pl, at, inside, owes, never) x read = absurd (never)
 
   abbrev Anded : ℕ → ℕ → Intent → ℕ → Type 1
   Anded place bits intent x = Good shape v h place x (bit_and x bits) (act_of shape v (And place bits) intent x) (working_after shape v (And place bits) intent x)
 
-  pub and_admitted : (place bits : ℕ) (intent : Intent) → Admits shape v (And place bits) intent → IsBuilt shape v (And place bits) intent → (x : ℕ) → Reading shape v h place x → Anded place bits intent x
-  and_admitted place bits intents.Vacate (pl, at, inside, owes, (s, i, o, is, lt, bit, here, slot, duty)) built x read =
+  pub and_admitted : (place bits : ℕ) (intent : Intent) → Admits shape v (And place bits) intent → (x : ℕ) → Reading shape v h place x → Anded place bits intent x
+  and_admitted place bits intents.Vacate (pl, at, inside, owes, (s, i, o, is, lt, bit, here, slot, duty)) x read =
       let place_is = at ∙ ap (number (extent_of shape)) is in
       let within : IsPlace (extent_of shape) (places.SlotBits (s / 64)) = subst (IsPlace (extent_of shape)) is inside in
       let since : IsLegal shape (b.rest ++ v.seen) = subst (IsLegal shape) b.is b.legal in
@@ -134,15 +141,27 @@ module _ (shape : HeapShape) (v : View) (h : History) (b : Before shape v h) whe
       (subst (λ (q : Place). Good shape v h (number (extent_of shape) (places.SlotBits (s / 64))) x (bit_and x (but_bit_of s)) (and_act q (but_bit_of s) intents.Vacate) (working_and (number (extent_of shape)) v.working q (but_bit_of s) intents.Vacate)) (sym (place_at-number (extent_of shape) (places.SlotBits (s / 64)) within))
       (subst (λ t. Good shape v h (number (extent_of shape) (places.SlotBits (s / 64))) x (bit_and x (but_bit_of s)) (Some (acts.Vacate t)) v.working) (sym (thing_left_but s))
       (vacate_good shape v h b i s now.q now.here (now.slot ∙ slot) still x owes (bits_says shape v h (s / 64) x owes within (subst (λ n. Reading shape v h n x) place_is read)))))
-  and_admitted place bits intents.Back (pl, at, inside, owes, (e, is, lt, bit, claim)) built x read =
+  and_admitted place bits intents.Back (pl, at, inside, owes, (e, is, lt, bit, claim)) x read =
       let place_is = at ∙ ap (number (extent_of shape)) is in
       let within : IsPlace (extent_of shape) (places.EntryBits (e / 64)) = subst (IsPlace (extent_of shape)) is inside in
       let entry = number (extent_of shape) (places.EntryBits (e / 64)) in
       subst (λ (t : ℕ × ℕ). Anded t.0 t.1 intents.Back x) (λ j. (sym place_is j, sym bit j))
       (subst (λ (q : Place). Good shape v h entry x (bit_and x (but_bit_of e)) (and_act q (but_bit_of e) intents.Back) (working_and (number (extent_of shape)) v.working q (but_bit_of e) intents.Back)) (sym (place_at-number (extent_of shape) (places.EntryBits (e / 64)) within))
       (subst (λ t. Good shape v h entry x (bit_and x (but_bit_of e)) (Some (acts.Back t)) (record v.working { stored = but_entry (number (extent_of shape)) t v.working.stored })) (sym (thing_left_but e))
-      (back_good shape v h b e lt owes (claim_now e claim) x (entry_bits_say shape v h (e / 64) x owes within (subst (λ n. Reading shape v h n x) place_is read)))))
-  and_admitted place bits _ admits built x read = absurd (built)
+      (back_good shape v h b e lt owes (claim_now shape v h b e claim) x (entry_bits_say shape v h (e / 64) x owes within (subst (λ n. Reading shape v h n x) place_is read)))))
+  and_admitted place bits intents.Look (pl, at, inside, owes, never) x read = absurd (never)
+  and_admitted place bits (intents.New class) (pl, at, inside, owes, never) x read = absurd (never)
+  and_admitted place bits (intents.Copy from) (pl, at, inside, owes, never) x read = absurd (never)
+  and_admitted place bits (intents.UnownedOf of) (pl, at, inside, owes, never) x read = absurd (never)
+  and_admitted place bits (intents.WeakOf of) (pl, at, inside, owes, never) x read = absurd (never)
+  and_admitted place bits (intents.Load of) (pl, at, inside, owes, never) x read = absurd (never)
+  and_admitted place bits (intents.Drop k) (pl, at, inside, owes, never) x read = absurd (never)
+  and_admitted place bits (intents.Claim of) (pl, at, inside, owes, never) x read = absurd (never)
+  and_admitted place bits (intents.Publish of why) (pl, at, inside, owes, never) x read = absurd (never)
+  and_admitted place bits (intents.Swap c put) (pl, at, inside, owes, never) x read = absurd (never)
+  and_admitted place bits (intents.Access c) (pl, at, inside, owes, never) x read = absurd (never)
+  and_admitted place bits (intents.Deinit slot) (pl, at, inside, owes, never) x read = absurd (never)
+  and_admitted place bits intents.Gone (pl, at, inside, owes, never) x read = absurd (never)
 
   abbrev Stored : ℕ → ℕ → Intent → ℕ → Type 1
   Stored place new intent x = Good shape v h place x new (act_of shape v (Store place new) intent 0) (working_after shape v (Store place new) intent 0)
@@ -167,7 +186,7 @@ module _ (shape : HeapShape) (v : View) (h : History) (b : Before shape v h) whe
       → Stored (number (extent_of shape) pl) new intent x
   entry_stored pl new x e intent its inside owes claim none work =
       subst (λ (q : Place). Good shape v h (number (extent_of shape) pl) x new (stored_act v q intent) (working_stored (number (extent_of shape)) v.working q new intent)) (sym (place_at-number (extent_of shape) pl inside))
-      (subst (λ (t : Option Act × Working). Good shape v h (number (extent_of shape) pl) x new t.0 t.1) (λ j. (sym none j, sym work j)) (store_good shape v h b e pl its inside owes (claim_now e claim) new x))
+      (subst (λ (t : Option Act × Working). Good shape v h (number (extent_of shape) pl) x new t.0 t.1) (λ j. (sym none j, sym work j)) (store_good shape v h b e pl its inside owes (claim_now shape v h b e claim) new x))
 
   pub claim_stored : (place new : ℕ) (of : Origin) (x : ℕ) → Admits shape v (Store place new) (intents.Claim of) → Stored place new (intents.Claim of) x
   claim_stored place new of x (pl, at, inside, (owes, (e, is, claim))) =

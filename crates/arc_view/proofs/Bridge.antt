@@ -6,6 +6,7 @@ use Rattle.std.proofs.lemmas.Nat.Bits.{bit_at-zero}
 use mathlib.Core.Option.{some, some-injective}
 use lib.ListN.{get_elem?}
 use Rattle.atomic_table.specs.Table.{State, Me, Allows, keeps}
+use Rattle.arc_model.specs.declared.event.CellName.TheVariants as cells
 use Rattle.arc_model.specs.Shapes.{HeapShape}
 use Rattle.arc_model.specs.Heaps.{Field as field_holder, Deinit, Object}
 use Rattle.arc_model.specs.Holders.{is_slot_taken, is_entry_taken}
@@ -25,7 +26,7 @@ use Rattle.arc_rule.specs.declared.layout.Place.{Place}
 use Rattle.arc_rule.specs.declared.layout.Place.TheVariants.{Zero, Global, Count, Isa, Next, Field, Link, Strong, Unowned, Weak, SlotBits, EntryBits}
 use Rattle.arc_rule.specs.Places.{IsPlace, extent_of, number}
 use Rattle.arc_rule.specs.Bits.{is_set}
-use Rattle.arc_rule.specs.Shown.{ShowsBut, word_at}
+use Rattle.arc_rule.specs.Shown.{Says, ShowsBut, word_at}
 use Rattle.arc_rule.proofs.Bits.{bit_shown}
 use Rattle.arc_rule.specs.Steps.{place_of}
 use Rattle.arc_view.specs.declared.view.Role.TheVariants.{Pass}
@@ -36,14 +37,15 @@ use Rattle.arc_view.specs.declared.view.View.{View}
 use Rattle.arc_view.specs.Views.{Each, within, private_words, Excepts}
 use Rattle.arc_view.specs.Holding.{At}
 use Rattle.arc_view.specs.Admission.{KnowsSlot}
-use Rattle.arc_view.specs.Rule.{MarkFits, OldFits, IsOwn, IsMine, IsNew, EnteredFits, WorkFits, Lies, Lying, Excepted, InShape, IsSized, IsKept}
+use Rattle.arc_view.specs.Rule.{MarkFits, OldFits, IsOwn, CellStays, IsMine, IsNew, EnteredFits, WorkFits, Lies, Lying, Excepted, InShape, IsSized, IsKept}
 use Rattle.arc_view.specs.Kinds.{act_of, event_list, working_after}
 use Rattle.arc_view.specs.Steps.{KeepsRule, given_back, Reads, moved, Stands, IsUnsettled, IsKeptAt, IsRead, Tells}
 use Rattle.arc_view.proofs.Lists.{each_more, others_came}
 use Rattle.arc_view.proofs.Held.{dying_stays, new_stays, owed_duty}
 use Rattle.arc_view.proofs.Keeps.{legal_left, owner_stays, reach_stays, stays_self}
-use Rattle.arc_view.proofs.Known.{Settles, known_apart}
-use Rattle.arc_view.proofs.Advance.{Good, Sees, Settled, advance, advance_log, new_once}
+use Rattle.arc_view.proofs.Busy.{cell_at, access_reaches, busy_held, own_busy}
+use Rattle.arc_view.proofs.Known.{Settles, AccessStays, known_apart}
+use Rattle.arc_view.proofs.Advance.{IsThere, Good, Sees, Settled, reach_there, advance, advance_log, new_once}
 
 -- an object whose deinit is owed isn't live
 pub dying_dead : (shape : HeapShape) (h : History) (p i : ℕ) (o : Object) → IsLegal shape h → At (heap_after h) i o → duty_of p i (heap_after h) ≡ Some Deinit → is_live shape o ≡ false
@@ -92,6 +94,8 @@ pub record Before (shape : HeapShape) (v : View) (h : History) : Type 0 where
   pub few : v.number ≤ 64
   pub seen_work : WorkFits shape v.number v.seen v.working
   pub work : WorkFits shape v.number h v.working
+  -- no event has changed the cell of an access
+  pub stays : AccessStays h v
 
 pub next_same : (shape : HeapShape) (v : View) (h : History) → Before shape v h → next_hand v.number v.seen ≡ next_hand v.number h
 next_same shape v h b = sym (next_hand_stays v.number v.seen b.rest b.others) ∙ ap (next_hand v.number) (sym b.is)
@@ -99,6 +103,10 @@ next_same shape v h b = sym (next_hand_stays v.number v.seen b.rest b.others) �
 -- the word that a step finds, for a kind
 abbrev pub Reading : HeapShape → View → History → ℕ → ℕ → Type 0
 Reading shape v h i x = v.working.owes ≡ None → (pl : Place) → IsPlace (extent_of shape) pl → i ≡ number (extent_of shape) pl → IsRead shape v h pl x
+
+-- the word that a step finds in a field, for a kind: the heap says it where the field's object isn't live, since no view accesses it
+abbrev pub Resting : HeapShape → History → ℕ → ℕ → Type 0
+Resting shape h i x = (t f : ℕ) → IsPlace (extent_of shape) (Field t f) → i ≡ number (extent_of shape) (Field t f) → (IsThere (heap_after h) (cells.Field t f) → ⊥) → Says shape (heap_after h) (Field t f) x
 
 -- a bit that is set in what a step gives back was found set
 given_set : (x : ℕ) (st : Step) (w : ℕ) → is_set x (given_back st w) ≡ true → is_set x w ≡ true
@@ -162,7 +170,17 @@ module _ {S : Type 0} (shape : HeapShape) (s : State S View) (k : IsKept shape s
   reads id v at pass i settles free pl inside is = subst (IsRead shape v k.log pl) (ap (slice_index s.words) (sym is)) (record {
     says = λ busy. k.words.says pl inside (λ x. busy (unsettled id v at pass free pl (settles pl inside is) x));
     private = each_more (Lies shape s.words) (IsKeptAt shape pl (word_at shape s.words pl)) (λ z lies same. ap (slice_index s.words) (sym same) ∙ lies) (private_words v.working) (k.lying id v at).private;
+    busy = λ c here one. busy_held shape s k id v at pass c (subst (IsPlace (extent_of shape)) here inside) (ap (word_at shape s.words) (sym here) ∙ one);
+    own = λ c here held. ap (word_at shape s.words) here ∙ own_busy shape s k id v at c held;
   })
+
+  -- a field that a view accesses is one of a live object
+  accessed_there : (t f : ℕ) → Excepted s.views (Field t f) → IsThere (heap_after k.log) (cells.Field t f)
+  accessed_there t f (i, u, e, (a, begun, at)) =
+      subst (IsThere (heap_after k.log)) (cell_at a.cell (cells.Field t f) at) (reach_there shape k.log u.number a.cell k.legal (access_reaches shape s k i u e a begun).1)
+
+  rests : (i : ℕ) → Resting shape k.log i (slice_index s.words i)
+  rests i t f inside is never = subst (Says shape (heap_after k.log) (Field t f)) (ap (slice_index s.words) (sym is)) (k.words.says (Field t f) inside (λ x. never (accessed_there t f x)))
 
   sees : (st : Step) → Sees shape k.log st (given_back st (slice_index s.words (place_of st)))
   sees st = record {
@@ -176,10 +194,10 @@ module _ {S : Type 0} (shape : HeapShape) (s : State S View) (k : IsKept shape s
       here t pl is set = ap (λ n. is_set t (slice_index s.words n)) (sym is) ∙ given_set t st (slice_index s.words (place_of st)) set
 
 -- A kind's fact makes a step that keeps the rule, and tells.
-pub steps : {S : Type 0} (shape : HeapShape) (id : ℕ) (me : Me S View) (intent : Intent) (st : Step) (f : ℕ → ℕ) → me.0.role ≡ Pass → (Reads st → me.0.working.owes ≡ None) → AllSettles shape me.0 (place_of st)
-    → ((h : History) → Before shape me.0 h → (x : ℕ) → Reading shape me.0 h (place_of st) x → Good shape me.0 h (place_of st) x (f x) (act_of shape me.0 st intent (given_back st x)) (working_after shape me.0 st intent (given_back st x)))
+pub rested_steps : {S : Type 0} (shape : HeapShape) (id : ℕ) (me : Me S View) (intent : Intent) (st : Step) (f : ℕ → ℕ) → me.0.role ≡ Pass → (Reads st → me.0.working.owes ≡ None) → AllSettles shape me.0 (place_of st)
+    → ((h : History) → Before shape me.0 h → (x : ℕ) → Reading shape me.0 h (place_of st) x → Resting shape h (place_of st) x → Good shape me.0 h (place_of st) x (f x) (act_of shape me.0 st intent (given_back st x)) (working_after shape me.0 st intent (given_back st x)))
     → KeepsRule shape id me intent st f
-steps shape id me intent st f pass free settles good s k at =
+rested_steps shape id me intent st f pass free settles good s k at =
     let v = me.0 in
     let mine = k.fits id v at in
     let i = place_of st in
@@ -200,11 +218,12 @@ steps shape id me intent st f pass free settles good s k at =
       few = le_trans (mine.numbered pass).0 k.few;
       seen_work = mine.work;
       work = subst (λ l. WorkFits shape v.number l v.working) (sym e) (work_stays shape v.number v.seen rest v.working (subst (IsLegal shape) e k.legal) others mine.work);
+      stays = λ a begun. ((k.lying id v at).access a begun).stays;
     } in
     let act = act_of shape v st intent found in
     let ev = event_list v.number act in
     let work = working_after shape v st intent found in
-    let g = good k.log before x (reads shape s k id v at pass i settles) in
+    let g = good k.log before x (reads shape s k id v at pass i settles) (rests shape s k i) in
     let only : Settled shape k.log v st = λ t lt is. settled shape s k id v at pass t (settles (Count t) lt is) in record {
       view = moved v k.log (ev ++ k.log) st found work;
       kept = advance shape s k id v (f x) act st found work me.1 at pass (sees shape s k st) only g;
@@ -218,6 +237,7 @@ steps shape id me intent st f pass free settles good s k at =
         met_in_shape = subst (InShape shape) e k.in_shape;
         after = ap (λ l. moved v l (ev ++ l) st found work) e;
         read = λ pl r inside is. read_back shape v k.log (rest ++ v.seen) st pl x e r (reads shape s k id v at pass i settles (free r) pl inside is);
+        accessed = λ a begun. subst (λ l. CellStays l v.seen a.cell) e ((k.lying id v at).access a begun).stays;
         olds = subst (λ l. Each (Stands l) v.olds) e (each_more (OldFits k.log (IsOwn v k.taken)) (Stands k.log) (λ o h. (h.begins, λ p w. (h.whole p w).0)) v.olds mine.olds);
         strange = λ z p lt. ap (λ l. share l p) (sym e) ∙ k.strange p (let g = mine.first pass z in omega (arith, g.0, lt));
       };
@@ -229,6 +249,12 @@ steps shape id me intent st f pass free settles good s k at =
     read_back shape v h since (Store place new) pl x e r read = absurd (r)
     read_back shape v h since (Or place bits) pl x e r read = subst (λ l. IsRead shape v l pl x) e read
     read_back shape v h since (And place bits) pl x e r read = subst (λ l. IsRead shape v l pl x) e read
+
+-- the same of a kind that asks nothing of a resting field
+pub steps : {S : Type 0} (shape : HeapShape) (id : ℕ) (me : Me S View) (intent : Intent) (st : Step) (f : ℕ → ℕ) → me.0.role ≡ Pass → (Reads st → me.0.working.owes ≡ None) → AllSettles shape me.0 (place_of st)
+    → ((h : History) → Before shape me.0 h → (x : ℕ) → Reading shape me.0 h (place_of st) x → Good shape me.0 h (place_of st) x (f x) (act_of shape me.0 st intent (given_back st x)) (working_after shape me.0 st intent (given_back st x)))
+    → KeepsRule shape id me intent st f
+steps shape id me intent st f pass free settles good = rested_steps shape id me intent st f pass free settles (λ h b x read rest. good h b x read)
 
 -- the table allows a step that keeps the rule, whatever slots it has
 pub allows : {S : Type 0} (shape : HeapShape) (slots id : ℕ) (me : Me S View) (intent : Intent) (st : Step) (f : ℕ → ℕ) → KeepsRule shape id me intent st f → Allows (IsKept shape) slots id me (place_of st) f (Tells shape intent st me)

@@ -51,7 +51,7 @@ use Rattle.arc_view.proofs.Plain.{IsPlain, plain_count, plain_fewer}
 use Rattle.arc_view.proofs.Put.{is_number_some, place_same}
 use Rattle.arc_view.proofs.Strongs.{none_fails, slot_found, entry_found, entry_unclaimed, put_there, in_without, length_without, same_true, alone_one}
 use Rattle.arc_view.proofs.Owed.{duty_parts, owes_it}
-use Rattle.arc_view.proofs.Relist.{IsRelisted, SlotStays, IsFound, Lasts, relist_says, field_kept, global_kept}
+use Rattle.arc_view.proofs.Relist.{IsRelisted, SlotStays, Lasts, all_found, relist_says, field_kept, global_kept}
 
 -- the words that stay private: all but the next word of the slot
 module _ (at : Place → ℕ) (s : ℕ) (P Q : Stored → Type 0) (keep : (k : Stored) → k.place ≢ Next s → P k → Q k) where
@@ -188,20 +188,6 @@ module _ (shape : HeapShape) (v : View) (h : History) (b : Before shape v h) (i 
   slot_put : (t : ℕ) → SlotStays shape heap new o q put refl is.relisted t
   slot_put t = find_put (in_slot t) heap.objects new.objects o q put (ap (λ m. is_number m t) is.slot)
 
-  found_all : (pl : Place) → IsFound shape heap new o q put refl is.relisted pl
-  found_all places.Zero = tt
-  found_all (places.Global g) = tt
-  found_all (Count t) = slot_put t
-  found_all (places.Isa t) = slot_put t
-  found_all (Next t) = tt
-  found_all (places.Field t f) = slot_put t
-  found_all (places.Link n) = tt
-  found_all (places.Strong n) = tt
-  found_all (places.Unowned n) = tt
-  found_all (places.Weak n) = tt
-  found_all (places.SlotBits k) = λ t _. slot_put t
-  found_all (places.EntryBits k) = tt
-
   kept : (c : CellName) → IsThere heap c → CellKept shape heap new c
   kept (cells.Field t f) there = field_kept shape heap new o q put refl is.relisted t f (slot_put t)
   kept (cells.Global g) there = global_kept shape heap new o q put refl is.relisted g
@@ -245,7 +231,7 @@ module _ (shape : HeapShape) (v : View) (h : History) (b : Before shape v h) (i 
       (finish_fits last_is owes)
       (λ Others ws shown. word_changes shape (λ u. Excepts v.working u ⊎ Others u) (λ u. Excepts work u ⊎ Others u) heap new ws pl w inside shown (λ _. says)
       (λ u ne notF. ⊎_elim (λ e. notF (inl (kept_exceptions (number (extent_of shape)) s v.working u e))) (λ e. notF (inr e)))
-      (λ u iu ne _ m t. relist_says shape heap new o q put refl is.relisted u (found_all u) (elsewhere u ne) m t))
+      (λ u iu ne _ m t. relist_says shape heap new o q put refl is.relisted u (all_found shape heap new o q put refl is.relisted slot_put u) (elsewhere u ne) m t))
 
   -- the object has no entry, and its inline word shows these counts
   module _ (c : Inline) (x : ℕ) (lt : s < shape.slots) (word : IsWordOf (Counts c) x) (says : Says shape (heap_after h) (Count s) x) (is_last : last ≡ (c.unowned == 1)) where

@@ -153,7 +153,7 @@ listed_busy Strong z o h ne = inl (in-not_empty z o.strong h)
 listed_busy Unowned z o h ne = inr (in-not_empty z o.unowned h)
 listed_busy Weak z o h ne = absurd (ne refl)
 
-listed_weak : (shape : HeapShape) (kind : Kind) (z : Holder) (o : Object) → IsWhole shape o → is_in z (list_of kind o) ≡ true → is_empty o.weak ≡ false
+pub listed_weak : (shape : HeapShape) (kind : Kind) (z : Holder) (o : Object) → IsWhole shape o → is_in z (list_of kind o) ≡ true → is_empty o.weak ≡ false
 listed_weak shape Strong z o w h = busy_weak shape o w (inl (in-not_empty z o.strong h))
 listed_weak shape Unowned z o w h = busy_weak shape o w (inr (in-not_empty z o.unowned h))
 listed_weak shape Weak z o w h = in-not_empty z o.weak h

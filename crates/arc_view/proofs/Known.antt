@@ -1,5 +1,6 @@
 -- Of a slot whose object a view keeps no other thread owes the words: a new object has no holder but its maker's hand.
 use Rattle.std.proofs.Common.{◌≡◌, ◌⊎◌, inl, inr, ℕ, Bool, true, false, [], ◌∷◌, ◌++◌, Some, refl, sym, ap, ◌∙◌, subst}
+use Rattle.arc_model.specs.declared.event.Origin.TheVariants as origins
 use Rattle.std.specs.Prelude.{◌||◌}
 use Rattle.arc_model.specs.declared.event.CellName.{CellName}
 use Rattle.arc_model.specs.declared.event.CellName.TheVariants as cells
@@ -24,10 +25,10 @@ use Rattle.arc_view.specs.declared.view.Begun.{Begun}
 use Rattle.arc_view.specs.declared.view.Naming.{Naming}
 use Rattle.arc_view.specs.declared.view.View.{View}
 use Rattle.arc_view.specs.Views.{StartsWith}
-use Rattle.arc_view.specs.Holding.{At}
+use Rattle.arc_view.specs.Holding.{At, IsSource}
 use Rattle.arc_view.specs.Rule.{IsNew, CellStays}
 use Rattle.arc_view.specs.Admission.{KeepsObject, KnowsSlot}
-use Rattle.arc_view.proofs.Held.{held_stays, hand_listed, listed_busy, stays_after}
+use Rattle.arc_view.proofs.Held.{Held, held_stays, hand_listed, listed_busy, listed_weak, stays_after}
 use Rattle.arc_view.proofs.Owed.{owed_stays, duty_parts}
 use Rattle.arc_view.proofs.Words.{slot_found}
 
@@ -78,7 +79,7 @@ cell_no_hand heap (cells.Field s f) q k e = cc
 cell_no_hand heap (cells.Global g) q k e = cc
 
 -- the cell stands in this list of object i
-abbrev Refers : History → CellName → ℕ → Kind → Type 0
+abbrev pub Refers : History → CellName → ℕ → Kind → Type 0
 Refers h c i kind = spot (cell (heap_after h) c) (heap_after h) ≡ Some (record { place = i; kind = kind })
 
 cell_listed : (shape : HeapShape) (h : History) (c : CellName) (i : ℕ) (kind : Kind) (o : Object) → IsLegal shape h → Refers h c i kind → At (heap_after h) i o → is_in (cell (heap_after h) c) (list_of kind o) ≡ true
@@ -86,20 +87,33 @@ cell_listed shape h c i kind o legal at here =
     let l = (lookup_after shape h (cell (heap_after h) c) legal (cell_own (heap_after h) c)).there (record { place = i; kind = kind }) at in
     subst (λ (r : Object). is_in (cell (heap_after h) c) (list_of kind r) ≡ true) (Some-inj (sym l.1 ∙ here)) l.3
 
--- while the cell refers to the object, and not weakly, it stays in its slot
-cell_stays : (shape : HeapShape) (c : CellName) (i : ℕ) (kind : Kind) (o : Object) (before after : History) → IsLegal shape (after ++ before) → (kind ≡ Weak → ⊥) → At (heap_after before) i o
-    → ((point : History) → StartsWith (after ++ before) point → StartsWith point before → Refers point c i kind) → (r : Object) × At (heap_after (after ++ before)) i r × (r.slot ≡ o.slot)
-cell_stays shape c i kind o before [] legal ne here refers = (o, here, refl)
-cell_stays shape c i kind o before (e ∷ after) legal ne here refers =
-    let ih = cell_stays shape c i kind o before after legal.1 ne here (λ point t u. refers point (e ∷ t.0, ap (λ l. e ∷ l) t.1) u) in
+-- what stays of an object while the cell refers to it
+pub cell_held : (shape : HeapShape) (c : CellName) (i : ℕ) (kind : Kind) (o : Object) (before after : History) → IsLegal shape (after ++ before) → At (heap_after before) i o
+    → ((point : History) → StartsWith (after ++ before) point → StartsWith point before → Refers point c i kind) → Held kind i o (heap_after (after ++ before))
+cell_held shape c i kind o before [] legal here refers = record { q = o; here = here; id = refl; class = refl; slot = λ _. refl; entry = λ n e. e }
+cell_held shape c i kind o before (e ∷ after) legal here refers =
+    let ih = cell_held shape c i kind o before after legal.1 here (λ point t u. refers point (e ∷ t.0, ap (λ l. e ∷ l) t.1) u) in
     let mid : Refers (after ++ before) c i kind = refers (after ++ before) (e ∷ [], refl) (after, refl) in
-    let listed = cell_listed shape (after ++ before) c i kind ih.0 legal.1 mid ih.1 in
-    let s = stays_after shape e (after ++ before) legal i ih.0 ih.1 in
-    (s.q, s.here, s.slot (listed_busy kind (cell (heap_after (after ++ before)) c) ih.0 listed ne) ∙ ih.2)
+    let end : Refers (e ∷ after ++ before) c i kind = refers (e ∷ after ++ before) ([], refl) (e ∷ after, refl) in
+    let s = stays_after shape e (after ++ before) legal i ih.q ih.here in
+    let was = cell_listed shape (after ++ before) c i kind ih.q legal.1 mid ih.here in
+    let is = cell_listed shape (e ∷ after ++ before) c i kind s.q legal end s.here in
+    let whole = (well_formed shape (e ∷ after ++ before) legal).whole i s.q s.here in record {
+      q = s.q;
+      here = s.here;
+      id = s.id ∙ ih.id;
+      class = s.class ∙ ih.class;
+      slot = λ ne. s.slot (listed_busy kind (cell (heap_after (after ++ before)) c) ih.q was ne) ∙ ih.slot ne;
+      entry = λ n t. s.entry n (listed_weak shape kind (cell (heap_after (e ∷ after ++ before)) c) s.q whole is) (ih.entry n t);
+    }
 
 -- no event since what the view saw has changed the cell of its access
 abbrev pub AccessStays : History → View → Type 0
 AccessStays h v = (a : Begun) → v.working.access ≡ Some a → CellStays h v.seen a.cell
+
+-- so that a cell that it accesses refers to what it did
+pub refers_still : (h : History) (v : View) (c : CellName) (i : ℕ) (kind : Kind) → AccessStays h v → IsSource v (origins.Cell c) kind i → (point : History) → StartsWith h point → StartsWith point v.seen → Refers point c i kind
+refers_still h v c i kind stays (at, (a, begun, same)) point t u = subst (λ (d : CellName). Refers point d i kind) same ((stays a begun).refers point t u ∙ subst (λ (d : CellName). Refers v.seen d i kind) (sym same) at)
 
 pub known_apart : (shape : HeapShape) (h : History) (v : View) (s : ℕ) (rest : History) → h ≡ rest ++ v.seen → IsLegal shape h → share rest v.number ≡ [] → AccessStays h v → KnowsSlot v s → (q : ℕ) → IsNew (heap_after h) q s → q ≡ v.number
 known_apart shape h v s rest is legal none stays (i, o, here, slot, keeps) q (j, u, k, there, in_it, unshared) = by keeps
@@ -126,9 +140,8 @@ known_apart shape h v s rest is legal none stays (i, o, here, slot, keeps) q (j,
     by (inr (inl (d, duty))) =
         let owed = owed_stays shape v.number i d o v.seen rest since none here duty in
         absurd (owed_not_new shape (rest ++ v.seen) v.number q k i d owed.q since owed.here ((others_leave shape v.number v.seen rest since none).duties i ∙ duty) (unshared_in owed.q owed.here owed.slot))
-    by (inr (inr (c, kind, (at, (a, begun, same)), ne))) =
-        let refers : (point : History) → StartsWith (rest ++ v.seen) point → StartsWith point v.seen → Refers point c i kind
-        = λ point t t2. subst (λ (d : CellName). Refers point d i kind) same ((stays a begun).refers point (subst (λ l. StartsWith l point) (sym is) t) t2 ∙ subst (λ (d : CellName). Refers v.seen d i kind) (sym same) at) in
-        let r = cell_stays shape c i kind o v.seen rest since ne here refers in
-        let listed = cell_listed shape (rest ++ v.seen) c i kind r.0 since (refers (rest ++ v.seen) ([], refl) (rest, refl)) r.1 in
-        absurd (cell_no_hand (heap_after (rest ++ v.seen)) c q k (sole_holder q k (cell (heap_after (rest ++ v.seen)) c) kind r.0 (cell_own (heap_after (rest ++ v.seen)) c) (unshared_in r.0 r.1 r.2) listed))
+    by (inr (inr (c, kind, source, ne))) =
+        let refers : (point : History) → StartsWith (rest ++ v.seen) point → StartsWith point v.seen → Refers point c i kind = λ point t. refers_still h v c i kind stays source point (subst (λ l. StartsWith l point) (sym is) t) in
+        let held = cell_held shape c i kind o v.seen rest since here refers in
+        let listed = cell_listed shape (rest ++ v.seen) c i kind held.q since (refers (rest ++ v.seen) ([], refl) (rest, refl)) held.here in
+        absurd (cell_no_hand (heap_after (rest ++ v.seen)) c q k (sole_holder q k (cell (heap_after (rest ++ v.seen)) c) kind held.q (cell_own (heap_after (rest ++ v.seen)) c) (unshared_in held.q held.here (held.slot ne)) listed))

@@ -49,16 +49,21 @@ duty_own shape e h p i legal still duty =
     (λ (t : (o.0.thread ≡ e.thread) × (ends o.0.duty e.act ≡ true)). absurd (true≢false (sym t.1 ∙ (ap (λ d. ends d e.act) o.2 ∙ still))))
     (duties_last shape h e i o.0 legal o.1)
 
--- who alone writes a word goes on doing so, where the deinit is owed still for which a next word is
+-- who alone writes a next word goes on doing so, where the deinit is owed still
+pub next_after : (shape : HeapShape) (e : Event) (h : History) (p s : ℕ) → IsLegal shape (e ∷ h) → ((i : ℕ) (o : Object) → At (heap_after h) i o → in_slot s o ≡ true → duty_of p i (heap_after h) ≡ Some Deinit → duty_of p i (heap_after (e ∷ h)) ≡ Some Deinit)
+    → Owns (heap_after h) p (Next s) → Owns (heap_after (e ∷ h)) p (Next s)
+next_after shape e h p s legal duties (i, o, here, slot, duty) =
+    let q = stays_after shape e h legal i o here in
+    (i, q.q, q.here, ap (λ m. is_number m s) (q.slot (dying_busy shape h p i o legal.1 here duty)) ∙ slot, duties i o here slot duty)
+
+-- the same of any word
 pub owner_after : (shape : HeapShape) (e : Event) (h : History) (p : ℕ) (pl : Place) → IsLegal shape (e ∷ h) → ((t i : ℕ) (o : Object) → pl ≡ Next t → At (heap_after h) i o → in_slot t o ≡ true → duty_of p i (heap_after h) ≡ Some Deinit → duty_of p i (heap_after (e ∷ h)) ≡ Some Deinit)
     → ((n : ℕ) → is_claimed_by p n (heap_after h) ≡ true → is_claimed_by p n (heap_after (e ∷ h)) ≡ true) → Owns (heap_after h) p pl → Owns (heap_after (e ∷ h)) p pl
 owner_after shape e h p Zero legal duties claims o = absurd (o)
 owner_after shape e h p (Global g) legal duties claims o = absurd (o)
 owner_after shape e h p (Count s) legal duties claims o = absurd (o)
 owner_after shape e h p (Isa s) legal duties claims o = absurd (o)
-owner_after shape e h p (Next s) legal duties claims (i, o, here, slot, duty) =
-    let q = stays_after shape e h legal i o here in
-    (i, q.q, q.here, ap (λ m. is_number m s) (q.slot (dying_busy shape h p i o legal.1 here duty)) ∙ slot, duties s i o refl here slot duty)
+owner_after shape e h p (Next s) legal duties claims o = next_after shape e h p s legal (λ i r. duties s i r refl) o
 owner_after shape e h p (Field s f) legal duties claims o = absurd (o)
 owner_after shape e h p (Link n) legal duties claims o = claims n o
 owner_after shape e h p (Strong n) legal duties claims o = claims n o

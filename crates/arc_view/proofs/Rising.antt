@@ -30,7 +30,7 @@ use Rattle.arc_view.proofs.Strongs.{entry_found, room_below, empty_length}
 use Rattle.arc_view.proofs.Turned.{count_place, Turned, inline_good, entry_good}
 use Rattle.arc_view.proofs.Growing.{grown, grown_length, other_length}
 
-some_strong : (xs : List Holder) → is_empty xs ≡ false → 1 ≤ length xs
+pub some_strong : (xs : List Holder) → is_empty xs ≡ false → 1 ≤ length xs
 some_strong [] e = absurd (true≢false e)
 some_strong (x ∷ xs) e = omega arith
 

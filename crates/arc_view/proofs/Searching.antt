@@ -42,7 +42,7 @@ use Rattle.arc_view.proofs.Plain.{plain_bits, plain_entry_bits, plain_good}
 use Rattle.arc_view.proofs.Strongs.{none_fails}
 
 -- every number below the bound passes
-each_below_is : (n : ℕ) (test : ℕ → Bool) → ((t : ℕ) → t < n → test t ≡ true) → each_below n test ≡ true
+pub each_below_is : (n : ℕ) (test : ℕ → Bool) → ((t : ℕ) → t < n → test t ≡ true) → each_below n test ≡ true
 each_below_is zero test all = refl
 each_below_is (suc n) test all = both (test n) (each_below n test) (all n (omega arith)) (each_below_is n test (λ t lt. all t (omega (arith, lt))))
 

@@ -30,7 +30,7 @@ no_true e = absurd (cc)
 strong≢weak : kinds.Strong ≡ kinds.Weak → ⊥
 strong≢weak e = cc
 
-unowned≢weak : kinds.Unowned ≡ kinds.Weak → ⊥
+pub unowned≢weak : kinds.Unowned ≡ kinds.Weak → ⊥
 unowned≢weak e = cc
 
 -- what is to be shown of an inline word and of an isa word

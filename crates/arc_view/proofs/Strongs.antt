@@ -51,7 +51,7 @@ use Rattle.arc_view.proofs.Own.{work_own}
 use Rattle.arc_view.proofs.Lasting.{immortal_same, header_inline}
 use Rattle.arc_view.proofs.Counting.{Counted, counts_mortal, inline_counts, strong_mortal}
 use Rattle.arc_view.proofs.Plain.{plain_count, plain_good}
-use Rattle.arc_view.proofs.Put.{IsRecount, Leaves, recount_says, recount_cells}
+use Rattle.arc_view.proofs.Recount.{IsRecount, Leaves, recount_says, recount_cells}
 
 -- where each need holds, none fails
 pub none_fails : (ns : List Need) → AreMet ns → first_failing ns ≡ None

@@ -27,7 +27,7 @@ use Rattle.arc_view.proofs.Advance.{IsThere, CellKept, Good}
 use Rattle.arc_view.proofs.Bridge.{Before}
 use Rattle.arc_view.proofs.Plain.{IsPlain, plain_count, plain_good}
 use Rattle.arc_view.proofs.Strongs.{entry_found, entry_unclaimed, put_there}
-use Rattle.arc_view.proofs.Relist.{IsRelisted, SlotStays, IsFound, Lasts, relist_says, field_kept, global_kept}
+use Rattle.arc_view.proofs.Relist.{IsRelisted, SlotStays, Lasts, all_found, relist_says, field_kept, global_kept}
 
 -- the word of an entry that counts a list of this kind
 abbrev pub count_place : Kind → ℕ → Place
@@ -58,20 +58,6 @@ module _ (shape : HeapShape) (v : View) (h : History) (b : Before shape v h) (ac
   slot_put : (s : ℕ) → SlotStays shape heap new o q t.put t.claims t.relisted s
   slot_put s = find_put (in_slot s) heap.objects new.objects o q t.put (ap (λ m. is_number m s) t.slot)
 
-  found_all : (pl : Place) → IsFound shape heap new o q t.put t.claims t.relisted pl
-  found_all places.Zero = tt
-  found_all (places.Global g) = tt
-  found_all (Count s) = slot_put s
-  found_all (places.Isa s) = slot_put s
-  found_all (places.Next s) = tt
-  found_all (places.Field s f) = slot_put s
-  found_all (places.Link n) = tt
-  found_all (places.Strong n) = tt
-  found_all (places.Unowned n) = tt
-  found_all (places.Weak n) = tt
-  found_all (places.SlotBits k) = λ s _. slot_put s
-  found_all (places.EntryBits k) = tt
-
   kept : (c : CellName) → IsThere heap c → CellKept shape heap new c
   kept (cells.Field s f) there = field_kept shape heap new o q t.put t.claims t.relisted s f (slot_put s)
   kept (cells.Global g) there = global_kept shape heap new o q t.put t.claims t.relisted g
@@ -80,7 +66,7 @@ module _ (shape : HeapShape) (v : View) (h : History) (b : Before shape v h) (ac
   turned_at : (pl : Place) (x w : ℕ) → IsPlain heap pl → IsPlace (extent_of shape) pl → ((u : Place) → u ≢ pl → Lasts shape heap new o q t.put t.claims t.relisted u) → Says shape new pl w → Good shape v h (number (extent_of shape) pl) x w (Some act) v.working
   turned_at pl x w plain inside elsewhere says = plain_good shape v h b pl plain inside x w (Some act) v.working refl owes refl t.legal t.in_shape kept t.work
       (λ Others ws shown. word_changes shape (λ u. Excepts v.working u ⊎ Others u) (λ u. Excepts v.working u ⊎ Others u) heap new ws pl w inside shown (λ _. says) (λ u ne notE e. notE e)
-      (λ u iu ne _ m says. relist_says shape heap new o q t.put t.claims t.relisted u (found_all u) (elsewhere u ne) m says))
+      (λ u iu ne _ m says. relist_says shape heap new o q t.put t.claims t.relisted u (all_found shape heap new o q t.put t.claims t.relisted slot_put u) (elsewhere u ne) m says))
 
   -- the object has no entry: its counts are in the inline word
   module _ (s : ℕ) (slot : o.slot ≡ Some s) (lt : s < shape.slots) (unentered : o.entry ≡ None) where

@@ -51,7 +51,7 @@ use Rattle.arc_view.proofs.Owed.{duty_parts, owes_it}
 use Rattle.arc_view.proofs.Relist.{IsRelisted, SlotStays, relist_says, slot_taken_same, field_kept, global_kept}
 
 -- the object after the vacating
-no_unowneds : (z : Holder) → is_cell z ≡ true → same_holder z Unowneds ≡ false
+pub no_unowneds : (z : Holder) → is_cell z ≡ true → same_holder z Unowneds ≡ false
 no_unowneds (Hand p k) c = refl
 no_unowneds (holders.Field id f) c = refl
 no_unowneds (holders.Global g) c = refl

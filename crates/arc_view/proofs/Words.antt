@@ -40,13 +40,13 @@ number_below l (EntryBits k) h = omega (arith, h)
 pub word_set : (shape : HeapShape) (E : Place → Type 0) (heap : Heap) (ws : List ℕ) (pl : Place) (y : ℕ) → IsPlace (extent_of shape) pl → ShowsBut E shape heap ws → word_at shape (set ws (number (extent_of shape) pl) y) pl ≡ y
 word_set shape E heap ws pl y inside shows = get_or-set_same ws (number (extent_of shape) pl) y 0 (subst (λ n. number (extent_of shape) pl < n) (sym shows.whole) (number_below (extent_of shape) pl inside))
 
--- The word of one place changes, and the heap: it shows the heap after at that place, and what was shown at the others is shown.
-pub word_changes : (shape : HeapShape) (E F : Place → Type 0) (heap new : Heap) (ws : List ℕ) (pl : Place) (y : ℕ) → IsPlace (extent_of shape) pl → ShowsBut E shape heap ws
+-- The word of one place changes, and the heap: it shows the heap after at that place, and the words that are at the others show it.
+pub word_changes_so : (shape : HeapShape) (E F : Place → Type 0) (heap new : Heap) (ws : List ℕ) (pl : Place) (y : ℕ) → IsPlace (extent_of shape) pl → ShowsBut E shape heap ws
     → ((F pl → ⊥) → Says shape new pl y)
     → ((q : Place) → q ≢ pl → (F q → ⊥) → (E q → ⊥))
-    → ((q : Place) → IsPlace (extent_of shape) q → q ≢ pl → (F q → ⊥) → (w : ℕ) → Says shape heap q w → Says shape new q w)
+    → ((q : Place) → IsPlace (extent_of shape) q → q ≢ pl → (F q → ⊥) → Says shape heap q (word_at shape ws q) → Says shape new q (word_at shape ws q))
     → ShowsBut F shape new (set ws (number (extent_of shape) pl) y)
-word_changes shape E F heap new ws pl y inside shows here less others =
+word_changes_so shape E F heap new ws pl y inside shows here less others =
     let l = extent_of shape in record {
       whole = length-set ws (number l pl) y ∙ shows.whole;
       says = λ q iq notF. dite (ℕ_discrete (number l q) (number l pl))
@@ -54,8 +54,16 @@ word_changes shape E F heap new ws pl y inside shows here less others =
           subst (λ (r : Place). Says shape new r (word_at shape (set ws (number l pl) y) r)) (sym same)
           (subst (Says shape new pl) (sym (word_set shape E heap ws pl y inside shows)) (here (subst (λ (r : Place). F r → ⊥) same notF))))
           (λ ne. let apart : q ≢ pl = λ e. ne (ap (number l) e) in
-          subst (Says shape new q) (sym (get_or-set_other ws (number l pl) (number l q) y 0 ne)) (others q iq apart notF (word_at shape ws q) (shows.says q iq (less q apart notF))));
+          subst (Says shape new q) (sym (get_or-set_other ws (number l pl) (number l q) y 0 ne)) (others q iq apart notF (shows.says q iq (less q apart notF))));
     }
+
+-- whatever words these are
+pub word_changes : (shape : HeapShape) (E F : Place → Type 0) (heap new : Heap) (ws : List ℕ) (pl : Place) (y : ℕ) → IsPlace (extent_of shape) pl → ShowsBut E shape heap ws
+    → ((F pl → ⊥) → Says shape new pl y)
+    → ((q : Place) → q ≢ pl → (F q → ⊥) → (E q → ⊥))
+    → ((q : Place) → IsPlace (extent_of shape) q → q ≢ pl → (F q → ⊥) → (w : ℕ) → Says shape heap q w → Says shape new q w)
+    → ShowsBut F shape new (set ws (number (extent_of shape) pl) y)
+word_changes shape E F heap new ws pl y inside shows here less others = word_changes_so shape E F heap new ws pl y inside shows here less (λ q iq ne notF. others q iq ne notF (word_at shape ws q))
 
 pub shows_to : (shape : HeapShape) (E F : Place → Type 0) (heap : Heap) (ws : List ℕ) → ((q : Place) → E q → F q) → ShowsBut E shape heap ws → ShowsBut F shape heap ws
 shows_to shape E F heap ws more shows = record { whole = shows.whole; says = λ q iq notF. shows.says q iq (λ e. notF (more q e)) }

@@ -6,4 +6,3 @@ pub mod Admission
 pub mod Steps
 pub mod Passes
 pub mod Calls
-pub mod Built

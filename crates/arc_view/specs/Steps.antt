@@ -1,8 +1,10 @@
 -- The view after a step, and what the step tells.
-use Rattle.std.specs.Prelude.{ℕ, ◌≡◌, ◌≢◌, ◌<◌, true, [], ◌∷◌, ◌++◌, length, slice_index, ⊤}
+use Rattle.std.specs.Prelude.{ℕ, ◌≡◌, ◌≢◌, ◌<◌, ◌≤◌, ◌⊎◌, true, false, [], ◌∷◌, ◌++◌, length, slice_index, Some, ⊤}
 use mathlib.Core.Option.{some}
 use lib.ListN.{get_elem?}
 use Rattle.atomic_table.specs.Table.{State, Me, keeps, stepped}
+use Rattle.arc_model.specs.declared.event.CellName.{CellName}
+use Rattle.arc_model.specs.declared.event.Origin.TheVariants as origins
 use Rattle.arc_model.specs.Shapes.{HeapShape}
 use Rattle.arc_model.specs.History.{History, heap_after, share, IsLegal}
 use Rattle.arc_rule.specs.declared.step.Step.{Step}
@@ -13,12 +15,14 @@ use Rattle.arc_rule.specs.declared.layout.Place.TheVariants.{Global, Field}
 use Rattle.arc_rule.specs.Places.{IsPlace, extent_of, number}
 use Rattle.arc_rule.specs.Shown.{Says}
 use Rattle.arc_rule.specs.Steps.{place_of}
+use Rattle.arc_view.specs.declared.view.Begun.{Begun}
 use Rattle.arc_view.specs.declared.view.Old.{Old}
 use Rattle.arc_view.specs.declared.view.Stored.{Stored}
 use Rattle.arc_view.specs.declared.view.Working.{Working}
 use Rattle.arc_view.specs.declared.view.View.{View}
-use Rattle.arc_view.specs.Views.{StartsWith, Each, within, made_in, private_words}
-use Rattle.arc_view.specs.Rule.{InShape, IsKept}
+use Rattle.arc_view.specs.Views.{StartsWith, Each, within, made_in, cell_place, private_words}
+use Rattle.arc_view.specs.Holding.{IsOpen, CanReach}
+use Rattle.arc_view.specs.Rule.{InShape, CellStays, IsKept}
 use Rattle.arc_view.specs.Kinds.{act_of, event_list, working_after}
 
 -- a step that gives back the word that it found; a store gives back 0
@@ -63,10 +67,21 @@ IsUnsettled _ found = ⊥
 abbrev pub IsKeptAt : HeapShape → Place → ℕ → Stored → Type 0
 IsKeptAt shape pl found k = number (extent_of shape) k.place ≡ number (extent_of shape) pl → found ≡ k.word
 
+-- another pass, which the view hasn't taken in; where the view is the first pass's, it has split it off
+abbrev pub IsOther : View → ℕ → Type 0
+IsOther v q = (q ≢ v.number) × (within q v.taken ≡ false) × (v.number ≡ 0 → q ≤ v.splits)
+
+-- a busy cell is accessed by the view itself or by another pass; either reaches it, a field by a strong hand of its owner
+abbrev pub IsHeld : HeapShape → View → History → CellName → Type 0
+IsHeld shape v h c = (q : ℕ) × (((q ≡ v.number) × IsOpen v (origins.Cell c)) ⊎ IsOther v q) × CanReach shape (heap_after h) q c
+
 -- what a step of the view v shows of the word that it finds at a place, where h was the history before its own event
 pub record IsRead (shape : HeapShape) (v : View) (h : History) (pl : Place) (found : ℕ) : Type 0 where
   pub says : (IsUnsettled pl found → ⊥) → Says shape (heap_after h) pl found
   pub private : Each (IsKeptAt shape pl found) (private_words v.working)
+  -- a cell is read as busy only while it is accessed, and always where the view itself accesses it
+  pub busy : (c : CellName) → pl ≡ cell_place c → found ≡ 1 → IsHeld shape v h c
+  pub own : (c : CellName) → pl ≡ cell_place c → IsOpen v (origins.Cell c) → found ≡ 1
 
 -- What a step tells: other threads' events came between, and then the step's own. What is seen is legal, and in the shape, as it was before the
 -- step's own event. The word that is given back is one that the heap before that event allows.
@@ -80,6 +95,8 @@ pub record Told (shape : HeapShape) (intent : Intent) (st : Step) (v : View) (fo
   pub after : w ≡ moved v (between ++ v.seen) (event_list v.number (act_of shape v st intent found) ++ (between ++ v.seen)) st found (working_after shape v st intent found)
   pub read : (pl : Place) → Reads st → IsPlace (extent_of shape) pl → place_of st ≡ number (extent_of shape) pl → IsRead shape v (between ++ v.seen) pl found
   pub olds : Each (Stands (between ++ v.seen)) v.olds
+  -- the cell that the view accesses has stayed, so that it refers to what it did
+  pub accessed : (a : Begun) → v.working.access ≡ Some a → CellStays (between ++ v.seen) v.seen a.cell
   -- a number that the first pass hasn't given to any pass has no event
   pub strange : v.number ≡ 0 → (p : ℕ) → v.splits < p → share (between ++ v.seen) p ≡ []
 

@@ -1,5 +1,5 @@
 -- How many objects a pass has made, and that the first pass sees no stranger, after a step.
-use Rattle.std.proofs.Common.{inl, inr, ◌≡◌, ℕ, zero, suc, ◌+◌, ◌==◌, ◌&&◌, Bool, true, false, cond, [], ◌∷◌, ◌++◌, Option, None, Some, refl, sym, ap, ◌∙◌, subst, arith, eq-eqb}
+use Rattle.std.proofs.Common.{◌≡◌, ℕ, zero, suc, ◌+◌, ◌==◌, ◌&&◌, Bool, true, false, cond, [], ◌∷◌, ◌++◌, Option, None, Some, refl, sym, ap, ◌∙◌, subst, arith, eq-eqb}
 use Rattle.std.specs.Prelude.{count_by, bit_and, ◌/◌}
 use Rattle.std.proofs.lemmas.List.Sums.{sum_by-cons}
 use Rattle.arc_model.specs.declared.event.Act.{Act}
@@ -10,6 +10,7 @@ use Rattle.arc_model.specs.declared.shape.Kind.{Kind}
 use Rattle.arc_model.specs.declared.shape.Kind.TheVariants as kinds
 use Rattle.arc_model.specs.declared.shape.Kind.TheVariants.{Strong, Unowned, Weak}
 use Rattle.arc_model.specs.declared.event.Got.TheVariants as got
+use Rattle.arc_model.specs.declared.event.CellName.{CellName}
 use Rattle.arc_model.specs.declared.event.Origin.{Origin}
 use Rattle.arc_model.specs.Heaps.{Hand, Object}
 use Rattle.arc_model.specs.Lookup.{spot}
@@ -19,7 +20,7 @@ use Rattle.arc_rule.specs.declared.step.Intent.{Intent}
 use Rattle.arc_view.specs.declared.view.View.{View}
 use Rattle.arc_view.specs.Rule.{is_new, news}
 use Rattle.arc_view.specs.Kinds.{act_of, event_list, loaded_act, or_act, and_act, stored_act, hit_act, first_of, when, kind_at, object_at, source_at, is_full, is_forever, is_strong, shows_end, load_refused, load_shown}
-use Rattle.arc_view.specs.Built.{IsAllowed}
+use Rattle.arc_view.specs.Admission.{Admits}
 use Rattle.arc_rule.specs.declared.layout.Place.{Place}
 use Rattle.arc_rule.specs.declared.layout.Place.TheVariants as places
 use Rattle.arc_rule.specs.Places.{extent_of, place_at}
@@ -204,6 +205,20 @@ news_stored_fill v (places.Weak e) of why = refl
 news_stored_fill v (places.SlotBits k) of why = refl
 news_stored_fill v (places.EntryBits k) of why = refl
 
+news_stored_access : (v : View) (pl : Place) (cell : CellName) → news_if (stored_act v pl (intents.Access cell)) ≡ zero
+news_stored_access v places.Zero cell = refl
+news_stored_access v (places.Global g) cell = refl
+news_stored_access v (places.Count s) cell = refl
+news_stored_access v (places.Isa s) cell = refl
+news_stored_access v (places.Next s) cell = refl
+news_stored_access v (places.Field s f) cell = refl
+news_stored_access v (places.Link e) cell = refl
+news_stored_access v (places.Strong e) cell = refl
+news_stored_access v (places.Unowned e) cell = refl
+news_stored_access v (places.Weak e) cell = refl
+news_stored_access v (places.SlotBits k) cell = refl
+news_stored_access v (places.EntryBits k) cell = refl
+
 news_stored_ended : (v : View) (pl : Place) (slot : ℕ) → news_if (stored_act v pl (intents.Deinit slot)) ≡ zero
 news_stored_ended v places.Zero slot = refl
 news_stored_ended v (places.Global g) slot = refl
@@ -262,70 +277,69 @@ news_entry v (places.SlotBits k) bits of = refl
 news_entry v (places.EntryBits k) bits of = refl
 
 -- a step makes an object where its Or for one finds the slot's bit clear
-news_act : (shape : HeapShape) (v : View) (st : Step) (intent : Intent) (found : ℕ) → IsAllowed shape v st intent → news_if (act_of shape v st intent found) ≡ cond (makes_object st intent found) 1 zero
-news_act shape v (Load place) intent found (may, inl silent) = ap news_if (silent.0 found)
-news_act shape v (Load place) intents.Look found (may, inr told) = refl
-news_act shape v (Load place) (intents.New class) found (may, inr told) = news_searched shape v (place_at (extent_of shape) place) found class
-news_act shape v (Load place) (intents.Copy from) found (may, inr told) = news_copied shape v (place_at (extent_of shape) place) found from
-news_act shape v (Load place) (intents.UnownedOf of) found (may, inr told) = news_unowned shape v (place_at (extent_of shape) place) found of
-news_act shape v (Load place) (intents.WeakOf of) found (may, inr told) = news_when _ (acts.CountFull kinds.Weak (origins.Hand of)) refl
-news_act shape v (Load place) (intents.Load of) found (may, inr told) =
+news_act : (shape : HeapShape) (v : View) (st : Step) (intent : Intent) (found : ℕ) → Admits shape v st intent → news_if (act_of shape v st intent found) ≡ cond (makes_object st intent found) 1 zero
+news_act shape v (Load place) intents.Look found may = refl
+news_act shape v (Load place) (intents.New class) found may = news_searched shape v (place_at (extent_of shape) place) found class
+news_act shape v (Load place) (intents.Copy from) found may = news_copied shape v (place_at (extent_of shape) place) found from
+news_act shape v (Load place) (intents.UnownedOf of) found may = news_unowned shape v (place_at (extent_of shape) place) found of
+news_act shape v (Load place) (intents.WeakOf of) found may = news_when _ (acts.CountFull kinds.Weak (origins.Hand of)) refl
+news_act shape v (Load place) (intents.Load of) found may =
     news_load shape (kind_at (spot (Hand v.number of) (heap_of v))) (object_at (heap_of v) (spot (Hand v.number of) (heap_of v))) (place_at (extent_of shape) place) found of (next_hand v.number v.seen)
-news_act shape v (Load place) (intents.Drop k) found (may, inr told) = news_when _ (acts.Drop k false) refl
-news_act shape v (Load place) (intents.Claim of) found (may, inr told) = news_claimed shape v (place_at (extent_of shape) place) found of
-news_act shape v (Load place) (intents.Publish of why) found (may, inr told) = refl
-news_act shape v (Load place) intents.Back found (may, inr told) = refl
-news_act shape v (Load place) (intents.Swap cell put) found (may, inr told) = refl
-news_act shape v (Load place) (intents.Access cell) found (may, inr told) = news_when _ (acts.Look cell) refl
-news_act shape v (Load place) (intents.Deinit slot) found (may, inr told) = refl
-news_act shape v (Load place) intents.Vacate found (may, inr told) = refl
-news_act shape v (Load place) intents.Gone found (may, inr told) = refl
-news_act shape v (Exchange place old new) intent found (may, built) = news_cond (found == old) (hit_act v (place_at (extent_of shape) place) old new intent) (news_hit v (place_at (extent_of shape) place) old new intent)
-news_act shape v (Store place new) intents.Look found (may, none) = absurd (none)
-news_act shape v (Store place new) (intents.New class) found (may, built) = news_stored_new v (place_at (extent_of shape) place) class
-news_act shape v (Store place new) (intents.Copy from) found (may, none) = absurd (none)
-news_act shape v (Store place new) (intents.UnownedOf of) found (may, none) = absurd (none)
-news_act shape v (Store place new) (intents.WeakOf of) found (may, none) = absurd (none)
-news_act shape v (Store place new) (intents.Load of) found (may, none) = absurd (none)
-news_act shape v (Store place new) (intents.Drop k) found (may, none) = absurd (none)
-news_act shape v (Store place new) (intents.Claim of) found (may, built) = news_stored_claim v (place_at (extent_of shape) place) of
-news_act shape v (Store place new) (intents.Publish of why) found (may, built) = news_stored_fill v (place_at (extent_of shape) place) of why
-news_act shape v (Store place new) intents.Back found (may, none) = absurd (none)
-news_act shape v (Store place new) (intents.Swap cell put) found (may, none) = absurd (none)
-news_act shape v (Store place new) (intents.Access cell) found (may, none) = absurd (none)
-news_act shape v (Store place new) (intents.Deinit slot) found (may, built) = news_stored_ended v (place_at (extent_of shape) place) slot
-news_act shape v (Store place new) intents.Vacate found (may, none) = absurd (none)
-news_act shape v (Store place new) intents.Gone found (may, none) = absurd (none)
-news_act shape v (Or place bits) intents.Look found (may, none) = absurd (none)
-news_act shape v (Or place bits) (intents.Copy from) found (may, none) = absurd (none)
-news_act shape v (Or place bits) (intents.UnownedOf of) found (may, none) = absurd (none)
-news_act shape v (Or place bits) (intents.WeakOf of) found (may, none) = absurd (none)
-news_act shape v (Or place bits) (intents.Load of) found (may, none) = absurd (none)
-news_act shape v (Or place bits) (intents.Drop k) found (may, none) = absurd (none)
-news_act shape v (Or place bits) (intents.Claim of) found (may, built) = news_cond (bit_and found bits == 0) (or_act v (place_at (extent_of shape) place) bits (intents.Claim of)) (news_entry v (place_at (extent_of shape) place) bits of)
-news_act shape v (Or place bits) (intents.Publish of why) found (may, none) = absurd (none)
-news_act shape v (Or place bits) intents.Back found (may, none) = absurd (none)
-news_act shape v (Or place bits) (intents.Swap cell put) found (may, none) = absurd (none)
-news_act shape v (Or place bits) (intents.Access cell) found (may, none) = absurd (none)
-news_act shape v (Or place bits) (intents.Deinit slot) found (may, none) = absurd (none)
-news_act shape v (Or place bits) intents.Vacate found (may, none) = absurd (none)
-news_act shape v (Or place bits) intents.Gone found (may, none) = absurd (none)
-news_act shape v (And place bits) intents.Look found (may, none) = absurd (none)
-news_act shape v (And place bits) (intents.New class) found (may, none) = absurd (none)
-news_act shape v (And place bits) (intents.Copy from) found (may, none) = absurd (none)
-news_act shape v (And place bits) (intents.UnownedOf of) found (may, none) = absurd (none)
-news_act shape v (And place bits) (intents.WeakOf of) found (may, none) = absurd (none)
-news_act shape v (And place bits) (intents.Load of) found (may, none) = absurd (none)
-news_act shape v (And place bits) (intents.Drop k) found (may, none) = absurd (none)
-news_act shape v (And place bits) (intents.Claim of) found (may, none) = absurd (none)
-news_act shape v (And place bits) (intents.Publish of why) found (may, none) = absurd (none)
-news_act shape v (And place bits) intents.Back found (may, built) = news_back (place_at (extent_of shape) place) bits
-news_act shape v (And place bits) (intents.Swap cell put) found (may, none) = absurd (none)
-news_act shape v (And place bits) (intents.Access cell) found (may, none) = absurd (none)
-news_act shape v (And place bits) (intents.Deinit slot) found (may, none) = absurd (none)
-news_act shape v (And place bits) intents.Vacate found (may, built) = news_vacated (place_at (extent_of shape) place) bits
-news_act shape v (And place bits) intents.Gone found (may, none) = absurd (none)
-news_act shape v (Or place bits) (intents.New class) found ((pl, is, inside, free, (s, word, below, bits_is, is_class, room)), built) = go (bit_and found bits == 0)
+news_act shape v (Load place) (intents.Drop k) found may = news_when _ (acts.Drop k false) refl
+news_act shape v (Load place) (intents.Claim of) found may = news_claimed shape v (place_at (extent_of shape) place) found of
+news_act shape v (Load place) (intents.Publish of why) found may = refl
+news_act shape v (Load place) intents.Back found may = refl
+news_act shape v (Load place) (intents.Swap cell put) found may = refl
+news_act shape v (Load place) (intents.Access cell) found may = news_when _ (acts.Look cell) refl
+news_act shape v (Load place) (intents.Deinit slot) found may = refl
+news_act shape v (Load place) intents.Vacate found may = refl
+news_act shape v (Load place) intents.Gone found may = refl
+news_act shape v (Exchange place old new) intent found may = news_cond (found == old) (hit_act v (place_at (extent_of shape) place) old new intent) (news_hit v (place_at (extent_of shape) place) old new intent)
+news_act shape v (Store place new) intents.Look found (pl, at, inside, never) = absurd (never)
+news_act shape v (Store place new) (intents.New class) found may = news_stored_new v (place_at (extent_of shape) place) class
+news_act shape v (Store place new) (intents.Copy from) found (pl, at, inside, never) = absurd (never)
+news_act shape v (Store place new) (intents.UnownedOf of) found (pl, at, inside, never) = absurd (never)
+news_act shape v (Store place new) (intents.WeakOf of) found (pl, at, inside, never) = absurd (never)
+news_act shape v (Store place new) (intents.Load of) found (pl, at, inside, never) = absurd (never)
+news_act shape v (Store place new) (intents.Drop k) found (pl, at, inside, never) = absurd (never)
+news_act shape v (Store place new) (intents.Claim of) found may = news_stored_claim v (place_at (extent_of shape) place) of
+news_act shape v (Store place new) (intents.Publish of why) found may = news_stored_fill v (place_at (extent_of shape) place) of why
+news_act shape v (Store place new) intents.Back found (pl, at, inside, never) = absurd (never)
+news_act shape v (Store place new) (intents.Swap cell put) found (pl, at, inside, never) = absurd (never)
+news_act shape v (Store place new) (intents.Access cell) found may = news_stored_access v (place_at (extent_of shape) place) cell
+news_act shape v (Store place new) (intents.Deinit slot) found may = news_stored_ended v (place_at (extent_of shape) place) slot
+news_act shape v (Store place new) intents.Vacate found (pl, at, inside, never) = absurd (never)
+news_act shape v (Store place new) intents.Gone found (pl, at, inside, never) = absurd (never)
+news_act shape v (Or place bits) intents.Look found (pl, at, inside, owes, never) = absurd (never)
+news_act shape v (Or place bits) (intents.Copy from) found (pl, at, inside, owes, never) = absurd (never)
+news_act shape v (Or place bits) (intents.UnownedOf of) found (pl, at, inside, owes, never) = absurd (never)
+news_act shape v (Or place bits) (intents.WeakOf of) found (pl, at, inside, owes, never) = absurd (never)
+news_act shape v (Or place bits) (intents.Load of) found (pl, at, inside, owes, never) = absurd (never)
+news_act shape v (Or place bits) (intents.Drop k) found (pl, at, inside, owes, never) = absurd (never)
+news_act shape v (Or place bits) (intents.Claim of) found may = news_cond (bit_and found bits == 0) (or_act v (place_at (extent_of shape) place) bits (intents.Claim of)) (news_entry v (place_at (extent_of shape) place) bits of)
+news_act shape v (Or place bits) (intents.Publish of why) found (pl, at, inside, owes, never) = absurd (never)
+news_act shape v (Or place bits) intents.Back found (pl, at, inside, owes, never) = absurd (never)
+news_act shape v (Or place bits) (intents.Swap cell put) found (pl, at, inside, owes, never) = absurd (never)
+news_act shape v (Or place bits) (intents.Access cell) found (pl, at, inside, owes, never) = absurd (never)
+news_act shape v (Or place bits) (intents.Deinit slot) found (pl, at, inside, owes, never) = absurd (never)
+news_act shape v (Or place bits) intents.Vacate found (pl, at, inside, owes, never) = absurd (never)
+news_act shape v (Or place bits) intents.Gone found (pl, at, inside, owes, never) = absurd (never)
+news_act shape v (And place bits) intents.Look found (pl, at, inside, owes, never) = absurd (never)
+news_act shape v (And place bits) (intents.New class) found (pl, at, inside, owes, never) = absurd (never)
+news_act shape v (And place bits) (intents.Copy from) found (pl, at, inside, owes, never) = absurd (never)
+news_act shape v (And place bits) (intents.UnownedOf of) found (pl, at, inside, owes, never) = absurd (never)
+news_act shape v (And place bits) (intents.WeakOf of) found (pl, at, inside, owes, never) = absurd (never)
+news_act shape v (And place bits) (intents.Load of) found (pl, at, inside, owes, never) = absurd (never)
+news_act shape v (And place bits) (intents.Drop k) found (pl, at, inside, owes, never) = absurd (never)
+news_act shape v (And place bits) (intents.Claim of) found (pl, at, inside, owes, never) = absurd (never)
+news_act shape v (And place bits) (intents.Publish of why) found (pl, at, inside, owes, never) = absurd (never)
+news_act shape v (And place bits) intents.Back found may = news_back (place_at (extent_of shape) place) bits
+news_act shape v (And place bits) (intents.Swap cell put) found (pl, at, inside, owes, never) = absurd (never)
+news_act shape v (And place bits) (intents.Access cell) found (pl, at, inside, owes, never) = absurd (never)
+news_act shape v (And place bits) (intents.Deinit slot) found (pl, at, inside, owes, never) = absurd (never)
+news_act shape v (And place bits) intents.Vacate found may = news_vacated (place_at (extent_of shape) place) bits
+news_act shape v (And place bits) intents.Gone found (pl, at, inside, owes, never) = absurd (never)
+news_act shape v (Or place bits) (intents.New class) found (pl, is, inside, free, (s, word, below, bits_is, is_class, room)) = go (bit_and found bits == 0)
   where
     taken : place_at (extent_of shape) place ≡ places.SlotBits (s / 64)
     taken = ap (place_at (extent_of shape)) is ∙ (place_at-number (extent_of shape) pl inside ∙ word)
@@ -334,7 +348,7 @@ news_act shape v (Or place bits) (intents.New class) found ((pl, is, inside, fre
     go true = ap (λ (q : Place). news_if (or_act v q bits (intents.New class))) taken
     go false = refl
 
-pub news_step : (shape : HeapShape) (intent : Intent) (st : Step) (v : View) (found : ℕ) (w : View) → IsAllowed shape v st intent → Told shape intent st v found w → news w.number w.seen ≡ cond (makes_object st intent found) 1 zero + news v.number v.seen
+pub news_step : (shape : HeapShape) (intent : Intent) (st : Step) (v : View) (found : ℕ) (w : View) → Admits shape v st intent → Told shape intent st v found w → news w.number w.seen ≡ cond (makes_object st intent found) 1 zero + news v.number v.seen
 news_step shape intent st v found w allowed t =
     let a = news_told (act_of shape v st intent found) v w (told_grew shape intent st v found w t) in
     let b = news_act shape v st intent found allowed in omega (arith, a, b)

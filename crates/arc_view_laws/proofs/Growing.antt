@@ -1,5 +1,4 @@
 -- What steps tell, as what calls tell.
-use Rattle.std.proofs.Common.{inl}
 use Rattle.std.proofs.Common.{◌≡◌, ℕ, cond, List, [], ◌∷◌, ◌++◌, length, Option, Some, None, refl, sym, ap, ◌∙◌, subst, arith, append_assoc, eq-eqb}
 use Rattle.arc_model.specs.declared.event.Act.{Act}
 use Rattle.arc_model.specs.Shapes.{HeapShape}
@@ -15,7 +14,7 @@ use Rattle.arc_view.specs.declared.view.Working.{Working}
 use Rattle.arc_view.specs.declared.view.View.{View}
 use Rattle.arc_view.specs.Views.{StartsWith}
 use Rattle.arc_view.specs.Kinds.{act_of, event_list, working_loaded}
-use Rattle.arc_view.specs.Built.{IsAllowed}
+use Rattle.arc_view.specs.Admission.{Admits}
 use Rattle.arc_view.specs.Steps.{Told}
 use Rattle.arc_view.specs.Passes.{longer, met, joined}
 use Rattle.arc_view.specs.Calls.{events_by, Grew, Called, Took}
@@ -66,8 +65,8 @@ look_works w (SlotBits k) found = refl
 look_works w (EntryBits k) found = refl
 
 -- a pass that owes no name may look
-pub look_allowed : (shape : HeapShape) (v : View) → v.working.owes ≡ None → IsAllowed shape v (Load 0) Look
-look_allowed shape v free = ((Zero, refl, tt, free, tt, tt), inl (λ found. refl, λ found. look_works v.working (place_at (extent_of shape) 0) found))
+pub look_allowed : (shape : HeapShape) (v : View) → v.working.owes ≡ None → Admits shape v (Load 0) Look
+look_allowed shape v free = (Zero, refl, tt, free, tt, tt)
 
 pub met_called : (shape : HeapShape) (v u : View) (found : ℕ) (w : View) → Told shape Look (Load 0) (met v u) found w → Called shape [] 2 v w × StartsWith w.seen u.seen × (w.working ≡ v.working)
 met_called shape v u found w t =

@@ -1,4 +1,4 @@
-use Rattle.arc_schedule.proofs.Worked.{places_come_first as places, accesses_end_first as accesses, operations_tell as events}
+use Rattle.arc_schedule.proofs.Worked.{places_come_first as places, accesses_end_first as accesses, operations_tell as events, blocks_are_run as blocks}
 use Rattle.arc_schedule.proofs.schedules_are_followed.Goals as goal
 
 pub returns-clause-places : goal.returns-clause-places
@@ -9,3 +9,6 @@ returns-clause-accesses c = accesses
 
 pub returns-clause-events : goal.returns-clause-events
 returns-clause-events c = events
+
+pub returns-clause-blocks : goal.returns-clause-blocks
+returns-clause-blocks c = blocks

@@ -20,6 +20,6 @@ make_on-requires-clause-goes_on c =
     let under_way = rw (sym c.replace-doing.ensures.value ∙ c.in-Making.is) at c.self.invariant.under_way in
     let in_operation = rw (sym c.replace-doing.ensures.value ∙ c.in-Making.is) at c.self.invariant.in_operation in
     let i = c.self.inside in
-    let idle : Thread = record { layout = i.layout; shape = i.shape.now; thread = i.thread; phases = i.phases.now; program = i.program.items; vars = i.vars.items; phase = i.phase; index = i.index; doing = c.replace-doing.new.dest; asked = i.asked; first = false; hands = i.hands; made = i.made; event = None; kept = i.lines } in
+    let idle : Thread = record { layout = i.layout; shape = i.shape.now; thread = i.thread; phases = i.phases.now; program = i.program; vars = i.vars.items; phase = i.phase; index = i.index; doing = c.replace-doing.new.dest; asked = i.asked; first = false; hands = i.hands; made = i.made; event = None; kept = i.lines } in
     rw (c.next-next.ensures.turned, c.next-next.ensures.answer)
     (making_goes_on idle c.in-Making.name c.in-Making.plan c.args.last under_way.2 under_way.3 under_way.1 in_operation.1)

@@ -18,7 +18,7 @@ fetch_and-requires g c =
     let seat = a.part.now.seat in
     let kind = c.requires.kind in (
       c.requires.own,
-      subst (λ n. a.place < n) (sym heap.wide) (subst (λ n. n < word_count (extent_of heap.shape)) (sym kind.0.1) (number_below (extent_of heap.shape) kind.0.0 kind.0.2)),
+      subst (λ n. a.place < n) (sym heap.wide) (subst (λ n. n < word_count (extent_of heap.shape)) (sym kind.1) (number_below (extent_of heap.shape) kind.0 kind.2)),
       subst (λ (t : HeapShape × HeapShape). Allows (IsKept t.0) heap.table.shared.table_id.slots seat.id seat.me a.place (λ x. bit_and x a.bits) (Tells t.1 g.J.Asks.intent (And a.place a.bits) seat.me)) (λ i. (sym heap.keyed i, sym c.requires.asks i))
-          (allows heap.shape heap.table.shared.table_id.slots seat.id seat.me g.J.Asks.intent (And a.place a.bits) (λ x. bit_and x a.bits) (ands heap.shape seat.id seat.me g.J.Asks.intent a.place a.bits a.part.now.live kind.0 kind.1)),
+          (allows heap.shape heap.table.shared.table_id.slots seat.id seat.me g.J.Asks.intent (And a.place a.bits) (λ x. bit_and x a.bits) (ands heap.shape seat.id seat.me g.J.Asks.intent a.place a.bits a.part.now.live kind)),
     )

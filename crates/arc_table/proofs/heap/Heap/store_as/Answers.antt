@@ -17,7 +17,7 @@ store-requires g c =
     let seat = a.part.now.seat in
     let kind = c.requires.kind in (
       c.requires.own,
-      subst (λ n. a.place < n) (sym heap.wide) (subst (λ n. n < word_count (extent_of heap.shape)) (sym kind.0.1) (number_below (extent_of heap.shape) kind.0.0 kind.0.2)),
+      subst (λ n. a.place < n) (sym heap.wide) (subst (λ n. n < word_count (extent_of heap.shape)) (sym kind.1) (number_below (extent_of heap.shape) kind.0 kind.2)),
       subst (λ (t : HeapShape × HeapShape). Allows (IsKept t.0) heap.table.shared.table_id.slots seat.id seat.me a.place (λ _. a.new) (Tells t.1 g.J.Asks.intent (Store a.place a.new) seat.me)) (λ i. (sym heap.keyed i, sym c.requires.asks i))
-          (allows heap.shape heap.table.shared.table_id.slots seat.id seat.me g.J.Asks.intent (Store a.place a.new) (λ _. a.new) (stores heap.shape seat.id seat.me g.J.Asks.intent a.place a.new a.part.now.live kind.0 kind.1)),
+          (allows heap.shape heap.table.shared.table_id.slots seat.id seat.me g.J.Asks.intent (Store a.place a.new) (λ _. a.new) (stores heap.shape seat.id seat.me g.J.Asks.intent a.place a.new a.part.now.live kind)),
     )

@@ -1,0 +1,9 @@
+pub mod Alone
+pub mod Witness
+pub mod Born
+pub mod Migrated
+pub mod Counted
+pub mod Joined
+pub mod Held
+pub mod Emptied
+pub mod Ended
