@@ -3,7 +3,8 @@
 
 The other program writes a line `NAME PAIR MODE THREADS LEAST MEDIAN COUNT` a row (tabs; nanoseconds a pair); it is stopped once the rows that are
 asked for are there, and has to pin its threads itself. Ours are pinned here, each to a core of its own, and what a run of one pair takes (the start
-of the threads, and the objects that stay) is taken off. Of mode own the least time counts, of shared the median.
+of the threads, and the objects that stay) is taken off. A run takes a few milliseconds at most, and there are many, so that some find the machine
+free, as short repetitions of the other program do. Of mode own the least time counts, of shared the median.
 
     bench/pairs.py [--rows WORD,..] [--program FILE] ROUNDS COMMAND [WORD ..]
 
@@ -21,14 +22,16 @@ TOP = os.path.dirname(os.path.dirname(os.path.abspath(__file__)))
 CRATE = os.path.join(TOP, "crates", "arc_pairs")
 PROGRAM = os.path.join(CRATE, "out", "arc_pairs")
 BEHIND = "new+release behind 1000 live"
-# By word: the other program's pair and mode, the numbers of threads, and how many pairs a run of ours makes.
+# By word: the other program's pair and mode, and by number of threads how many pairs a run of ours makes. Of several threads the start weighs
+# more, and they are pinned while they run already, so their runs are longer.
 ROWS = {
-    "own": ("retain+release", "own", (1, 2, 4), 1_000_000),
-    "shared": ("retain+release", "shared", (1, 2, 4), 300_000),
-    "lives": ("new+release", "own", (1, 2, 4), 400_000),
-    "behind": (BEHIND, "own", (1,), 200_000),
+    "own": ("retain+release", "own", {1: 20_000, 2: 200_000, 4: 200_000}),
+    "shared": ("retain+release", "shared", {1: 20_000, 2: 20_000, 4: 20_000}),
+    "lives": ("new+release", "own", {1: 10_000, 2: 50_000, 4: 50_000}),
+    "behind": (BEHIND, "own", {1: 5_000}),
 }
-RUNS = 15
+# How many runs of each length a round makes, as many as the other program's repetitions of a row.
+RUNS = 120
 
 
 def pin(child, threads):
@@ -61,7 +64,7 @@ def once(program, word, threads, times):
 
 def ours(program, word, threads, chosen):
     """Nanoseconds a pair of each of some runs, without what a run of one pair takes."""
-    times = ROWS[word][3]
+    times = ROWS[word][2][threads]
     start = chosen([once(program, word, threads, 1) for _ in range(RUNS)])
     return [(once(program, word, threads, times) - start) / (times - 1) for _ in range(RUNS)]
 
@@ -85,12 +88,12 @@ def theirs(command, wanted):
 
 def row_of(word, threads):
     """The other program's row. One thread that shares an object is one with an object of its own."""
-    pair, mode, _, _ = ROWS[word]
+    pair, mode, _ = ROWS[word]
     return pair, "own" if threads == 1 else mode, threads
 
 
 def show(word, threads, mine, other):
-    pair, mode, _, _ = ROWS[word]
+    pair, mode, _ = ROWS[word]
     own = mode == "own"
     there = min(least for least, _ in other) if own else statistics.median(median for _, median in other)
     here = min(mine) if own else statistics.median(mine)

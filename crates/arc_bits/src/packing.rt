@@ -32,11 +32,11 @@ const IMMORTAL: u64 = 1;
 
 const UNOWNED_ONE: u64 = 1 << 1;
 
-const DEINITING: u64 = 1 << 32;
+pub(crate) const DEINITING: u64 = 1 << 32;
 
-const STRONG_EXTRA_ONE: u64 = 1 << 33;
+pub(crate) const STRONG_EXTRA_ONE: u64 = 1 << 33;
 
-const SLOW: u64 = 1 << 63;
+pub(crate) const SLOW: u64 = 1 << 63;
 
 /// The word in 64 bits: bits 1 to 31 are the unowned count, bit 32 is deiniting, bits 33 to 62 are the strong extra count, and
 /// bit 63 says that the low 32 bits are an entry's number. A free slot's word is 0, an immortal object's is 1.

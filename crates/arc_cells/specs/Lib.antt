@@ -1,2 +1,4 @@
+pub mod Begins
 pub mod Cascades
+pub mod Ends
 pub mod Swaps

@@ -5,10 +5,10 @@ use Rattle.arc_rule.specs.declared.step.Changed.{Changed}
 use Rattle.arc_rule.specs.declared.plan.Next.{Next}
 use Rattle.arc_rule.specs.Extents.{Extent}
 use Rattle.arc_rule.specs.Places.{word_count}
-use Rattle.arc_plan.specs.declared.attempt.At.{At}
-use Rattle.arc_plan.specs.declared.attempt.Choice.{Choice}
-use Rattle.arc_plan.specs.declared.attempt.Choice.TheVariants.{Tell, Write}
-use Rattle.arc_plan.specs.Attempts.{takes_at, turned_at, answer_at}
+use Rattle.arc_rule.specs.declared.attempt.At.{At}
+use Rattle.arc_rule.specs.declared.attempt.Choice.{Choice}
+use Rattle.arc_rule.specs.declared.attempt.Choice.TheVariants.{Tell, Write}
+use Rattle.arc_rule.specs.Attempts.{takes_at, turned_at, answer_at}
 use Rattle.arc_cells.specs.declared.swap.SwapAnswer.{SwapAnswer}
 use Rattle.arc_cells.specs.declared.swap.SwapAnswer.TheVariants.{Took, Busy, Again}
 

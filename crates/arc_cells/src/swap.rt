@@ -1,12 +1,12 @@
 //! The exchange of a cell's word.
 
-ghost use Rattle.std.specs.Prelude.{◌≡◌};
-ghost use Rattle.arc_plan.specs.declared.attempt.At.TheVariants.{Start};
-ghost use Rattle.arc_plan.specs.Attempts.{asked_at, left_at, rests_at};
-ghost use Rattle.arc_cells.specs.Swaps.{IsInTable, swap_row, swap_takes, swap_turned, swap_answer, swap_change};
+ghost use Rattle.std.specs.Prelude.{◌≡◌, ⊤};
+ghost use Rattle.arc_rule.specs.declared.attempt.At.TheVariants.{Start};
+ghost use Rattle.arc_rule.specs.Attempts.{goes_nowhere};
+ghost use Rattle.arc_cells.specs.declared.swap.SwapAnswer.TheVariants.{Took, Again};
+ghost use Rattle.arc_cells.specs.Swaps.{IsInTable, swap_row, swap_change};
 
-use arc_plan::attempt::{At, Choice};
-use arc_rule::{Changed, Layout, Next, Plan, Step};
+use arc_rule::{At, Changed, Choice, Layout, Row};
 use std::alloc::AllocError;
 use std::marker::Model;
 
@@ -65,65 +65,62 @@ impl Swap {
             at: At::Start,
         }
     }
+}
 
-    fn choice(&self, word: u64) -> Choice<SwapAnswer>
-        ensures { result ≡ swap_row self.now.new word }
-    {
+impl Row for Swap {
+    type Answer = SwapAnswer;
+
+    ghost at = { λ p. p.at };
+
+    ghost moved = { λ p at. record p { at = at } };
+
+    ghost place = { λ p. p.place };
+
+    ghost fits = { λ p w. ⊤ };
+
+    ghost choice = { λ p w. swap_row p.new w };
+
+    ghost after = { λ p seen. Took seen };
+
+    ghost again = { Again };
+
+    ghost onward = { goes_nowhere };
+
+    ghost load_leaves = { λ p. 1 };
+
+    ghost exchange_leaves = { λ p. 0 };
+
+    ghost changes = { swap_change };
+
+    fn at(&self) -> At {
+        self.at
+    }
+
+    fn move_to(&mut self, to: At) {
+        self.at = to;
+    }
+
+    fn place(&self) -> u32 {
+        self.place
+    }
+
+    fn choice(&self, word: u64) -> Choice<SwapAnswer> {
         if word == 1 {
             Choice::Tell(SwapAnswer::Busy)
         } else {
             Choice::Write(self.new)
         }
     }
-}
 
-impl Plan for Swap {
-    type Answer = SwapAnswer;
+    fn after(&self, seen: u64) -> SwapAnswer {
+        SwapAnswer::Took(seen)
+    }
 
-    ghost takes = { swap_takes };
+    fn again(words: Changed) -> SwapAnswer {
+        SwapAnswer::Again(words)
+    }
 
-    ghost turned = { swap_turned };
-
-    ghost answer = { swap_answer };
-
-    ghost asked = { λ p. asked_at p.place p.at };
-
-    ghost left = { λ p. left_at p.at };
-
-    ghost rests = { λ p. rests_at p.place p.at };
-
-    ghost changed = { swap_change };
-
-    fn next(&mut self, last: Option<u64>) -> Next<SwapAnswer> {
-        let word = last.unwrap_or(0);
-        match self.at {
-            At::Start => {
-                self.at = At::Loading;
-                Next::Step(Step::Load { place: self.place })
-            }
-            At::Loading => match self.choice(word) {
-                Choice::Tell(answer) => {
-                    self.at = At::Ended;
-                    Next::Done(answer)
-                }
-                Choice::Write(new) => {
-                    self.at = At::Exchanging { seen: word, new };
-                    Next::Step(Step::Exchange {
-                        place: self.place,
-                        old: word,
-                        new,
-                    })
-                }
-            },
-            At::Exchanging { seen, new: _ } => {
-                self.at = At::Ended;
-                Next::Done(if word == seen {
-                    SwapAnswer::Took(seen)
-                } else {
-                    SwapAnswer::Again(Changed { seen, found: word })
-                })
-            }
-            At::Ended => unreachable!(),
-        }
+    fn onward(&self, _last: Option<u64>) -> Option<Swap> {
+        None
     }
 }

@@ -2,7 +2,7 @@
 
 ghost use Rattle.std.specs.Prelude.{◌≡◌, IfSome};
 
-use crate::{Swap, SwapAnswer};
+use crate::{Begin, BeginAnswer, End, Swap, SwapAnswer};
 use arc_model::{Caps, ClassShape, Kind, RefShape, Shape};
 use arc_rule::{Changed, Layout, Next, Plan, Step};
 use std::alloc::Global;
@@ -52,4 +52,37 @@ fn global_is_exchanged(rt: HostRuntime) {
     let mut busy = Swap::start(&layout, 1, 2);
     assert_eq!(rt; busy.next(None), Next::Step(Step::Load { place: 1 }));
     assert_eq!(rt; busy.next(Some(1)), Next::Done(SwapAnswer::Busy));
+}
+
+#[test]
+fn access_begins(rt: HostRuntime) {
+    let layout = small_layout(rt.alloc()).expect(&rt, "a layout");
+    let mut held = Begin::start(&layout, 1);
+    assert_eq!(rt; held.next(None), Next::Step(Step::Load { place: 1 }));
+    assert_eq!(rt;
+        held.next(Some(4)),
+        Next::Step(Step::Exchange {
+            place: 1,
+            old: 4,
+            new: 1
+        })
+    );
+    assert_eq!(rt; held.next(Some(4)), Next::Done(BeginAnswer::Held(4)));
+    let mut nil = Begin::start(&layout, 1);
+    assert_eq!(rt; nil.next(None), Next::Step(Step::Load { place: 1 }));
+    assert_eq!(rt; nil.next(Some(0)), Next::Done(BeginAnswer::Nil));
+    let mut busy = Begin::start(&layout, 1);
+    assert_eq!(rt; busy.next(None), Next::Step(Step::Load { place: 1 }));
+    assert_eq!(rt; busy.next(Some(1)), Next::Done(BeginAnswer::Busy));
+}
+
+#[test]
+fn access_ends(rt: HostRuntime) {
+    let layout = small_layout(rt.alloc()).expect(&rt, "a layout");
+    let mut end = End::start(&layout, 1, 2);
+    assert_eq!(rt;
+        end.next(None),
+        Next::Step(Step::Store { place: 1, new: 2 })
+    );
+    assert_eq!(rt; end.next(Some(0)), Next::Done(()));
 }

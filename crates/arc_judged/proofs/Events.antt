@@ -5,6 +5,7 @@ use Rattle.std.specs.List.{AllByRecursion}
 use Rattle.std.proofs.lemmas.List.{length-map, length-reverse, get_or-reverse}
 use Rattle.std.proofs.lemmas.List.Elements.{All-from_recursion, recursion_from_All}
 use Rattle.arc_model.specs.declared.event.Origin.TheVariants as origins
+use Rattle.arc_model.specs.declared.event.Got.TheVariants as gots
 use Rattle.arc_model.specs.declared.event.Act.{Act}
 use Rattle.arc_model.specs.declared.event.Act.TheVariants as acts
 use Rattle.arc_model.specs.declared.event.Event.{Event}
@@ -40,9 +41,11 @@ act_fits s threads (acts.New hand class slot) e f p h = (h, omega arith, p)
 act_fits s threads acts.Full e f p h = tt
 act_fits s threads (acts.Copy (origins.Hand of) hand) e f p h = (h.0, h.1)
 act_fits s threads (acts.Copy (origins.Cell c) hand) e f p h = absurd f
-act_fits s threads (acts.UnownedOf of hand) e f p h = absurd f
+act_fits s threads (acts.UnownedOf of hand) e f p h = (h.0, h.1)
 act_fits s threads (acts.WeakOf of hand) e f p h = absurd f
-act_fits s threads (acts.Load of g) e f p h = absurd f
+act_fits s threads (acts.Load of (gots.Hand hand)) e f p h = (h.0, h.1)
+act_fits s threads (acts.Load of gots.Dead) e f p h = (h.0, tt)
+act_fits s threads (acts.Load of gots.Nil) e f p h = (h.0, tt)
 act_fits s threads (acts.Drop hand last) e f p h = h
 act_fits s threads (acts.CountFull list from) e f p h = absurd f
 act_fits s threads (acts.Claim entry) e f p h = absurd f
@@ -63,9 +66,11 @@ wider (acts.Copy (origins.Hand of) hand) h = (let a = h.0 in omega arith, let b 
 wider (acts.Drop hand last) h = omega arith
 wider (acts.Copy (origins.Cell c) hand) h = tt
 wider acts.Full h = tt
-wider (acts.UnownedOf of hand) h = tt
+wider (acts.UnownedOf of hand) h = (let a = h.0 in omega arith, let b = h.1 in omega arith)
 wider (acts.WeakOf of hand) h = tt
-wider (acts.Load of g) h = tt
+wider (acts.Load of (gots.Hand hand)) h = (let a = h.0 in omega arith, let b = h.1 in omega arith)
+wider (acts.Load of gots.Dead) h = (let a = h.0 in omega arith, tt)
+wider (acts.Load of gots.Nil) h = (let a = h.0 in omega arith, tt)
 wider (acts.CountFull list from) h = tt
 wider (acts.Claim entry) h = tt
 wider acts.NoEntry h = tt

@@ -12,7 +12,8 @@ use Rattle.arc_script.specs.Valid.{IsScript}
 use Rattle.arc_view.specs.Rule.{InShape}
 use Rattle.arc_ops.specs.declared.told.Stamped.{Stamped}
 use Rattle.arc_ops.specs.Served.{IsServed}
-use Rattle.arc_ops.specs.Thread.{Thread, turned}
+use Rattle.arc_ops.specs.Thread.{Thread}
+use Rattle.arc_ops.specs.Turns.{turned}
 use Rattle.arc_replays.specs.Stages.{Stage, Reached, stamped, stepped}
 use Rattle.arc_replays.specs.Stages.Reached.{new, begins, makes, passes, by_number, last, last_step}
 use Rattle.arc_replays.specs.Histories.{history_of}

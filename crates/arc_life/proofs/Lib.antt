@@ -1,5 +1,6 @@
 pub mod Alone
 pub mod Witness
+pub mod BitWords
 pub mod Born
 pub mod Migrated
 pub mod Counted
@@ -7,3 +8,4 @@ pub mod Joined
 pub mod Held
 pub mod Emptied
 pub mod Ended
+pub mod Closed

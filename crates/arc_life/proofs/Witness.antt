@@ -1,5 +1,5 @@
 -- What the witnesses of admitted steps are made of.
-use Rattle.std.proofs.Common.{◌≡◌, ◌≢◌, ◌≤◌, ◌<◌, ◌+◌, ◌^◌, ℕ, Bool, zero, suc, true, [], Option, Some, refl, arith}
+use Rattle.std.proofs.Common.{◌≡◌, ◌≢◌, ◌≤◌, ◌<◌, ◌+◌, ◌^◌, ℕ, Bool, zero, suc, true, [], Option, None, Some, refl, sym, ◌∙◌, inl, inr, arith}
 use Rattle.std.specs.Prelude.{slice_get}
 use Rattle.std.proofs.Math.Dec.{leb}
 use Rattle.std.proofs.lemmas.Bool.{leb-true}
@@ -7,9 +7,16 @@ use Rattle.arc_bits.specs.declared.packing.Inline.{Inline}
 use Rattle.arc_bits.specs.declared.packing.Word.TheVariants.{Counts}
 use Rattle.arc_bits.specs.Words.{IsWordOf, flag, counts_word}
 use Rattle.arc_model.specs.declared.shape.Kind.TheVariants as kinds
+use Rattle.arc_model.specs.declared.event.CellName.TheVariants as cells
+use Rattle.arc_model.specs.Shapes.{HeapShape}
+use Rattle.arc_model.proofs.Basics.{None≢Some}
 use Rattle.arc_rule.specs.declared.layout.Place.{Place}
-use Rattle.arc_rule.specs.declared.layout.Place.TheVariants.{Count, Strong}
+use Rattle.arc_rule.specs.declared.layout.Place.TheVariants.{Global, Count, Field, Strong}
+use Rattle.arc_rule.specs.Shown.{Says}
 use Rattle.arc_view.specs.declared.view.Entered.{Entered}
+use Rattle.arc_view.specs.declared.view.View.{View}
+use Rattle.arc_view.specs.Holding.{heap_of}
+use Rattle.arc_view.specs.Steps.{IsRead, IsHeld, IsOther}
 
 -- numbers that are compared by computing
 pub le : {n m : ℕ} → leb n m ≡ true → n ≤ m
@@ -56,3 +63,26 @@ one_below P first (suc g) lt = absurd (omega (arith, lt))
 pub two_below : (P : ℕ → Type 0) → P 0 → P 1 → (g : ℕ) → g < 2 → P g
 two_below P first second zero lt = first
 two_below P first second (suc g) lt = one_below (λ (n : ℕ). P (suc n)) second g (omega (arith, lt))
+
+-- the word of no place but a cell is unsettled
+pub never : ⊥ → ⊥
+never none = none
+
+-- where there is one pass, nobody else accesses a cell
+no_other : (v : View) (q : ℕ) → v.number ≡ 0 → v.splits ≡ 0 → IsOther v q → ⊥
+no_other v q first only other = let low = other.2 first in other.0 (omega (arith, low, only, first))
+
+-- a cell that isn't accessed is as the heap says
+pub field_read : {shape : HeapShape} {v : View} {s f found : ℕ} → v.number ≡ 0 → v.splits ≡ 0 → v.working.access ≡ None → IsRead shape v v.seen (Field s f) found → Says shape (heap_of v) (Field s f) found
+field_read {shape} {v} {s} {f} {found} first only closed r = r.says (λ busy. held (r.busy (cells.Field s f) refl busy))
+  where
+    held : IsHeld shape v v.seen (cells.Field s f) → ⊥
+    held (q, inl (own, (a, begun, at)), reach) = None≢Some a (sym closed ∙ begun)
+    held (q, inr other, reach) = no_other v q first only other
+
+pub global_read : {shape : HeapShape} {v : View} {g found : ℕ} → v.number ≡ 0 → v.splits ≡ 0 → v.working.access ≡ None → IsRead shape v v.seen (Global g) found → Says shape (heap_of v) (Global g) found
+global_read {shape} {v} {g} {found} first only closed r = r.says (λ busy. held (r.busy (cells.Global g) refl busy))
+  where
+    held : IsHeld shape v v.seen (cells.Global g) → ⊥
+    held (q, inl (own, (a, begun, at)), reach) = None≢Some a (sym closed ∙ begun)
+    held (q, inr other, reach) = no_other v q first only other

@@ -1,12 +1,15 @@
 -- The heap of the life, and what the pass has after each of its parts.
-use Rattle.std.specs.Prelude.{false, true, [], ◌∷◌}
+use Rattle.std.specs.Prelude.{ℕ, ◌≡◌, ◌<◌, false, true, List, [], ◌∷◌, ◌++◌}
 use Rattle.arc_model.specs.declared.shape.Kind.{Kind}
 use Rattle.arc_model.specs.declared.shape.Kind.TheVariants.{Strong, Unowned, Weak}
 use Rattle.arc_model.specs.declared.shape.RefShape.{RefShape}
 use Rattle.arc_model.specs.Shapes.{HeapShape, ObjectClass}
+use Rattle.arc_model.specs.History.{History}
+use Rattle.arc_rule.specs.declared.layout.Place.TheVariants.{Zero, Global, Count, Isa, Field, SlotBits, EntryBits}
+use Rattle.arc_rule.specs.Shown.{word_at}
 use Rattle.arc_view.specs.declared.view.View.{View}
 use Rattle.arc_view.specs.Views.{first_view}
-use Rattle.arc_life.specs.Alone.{after_all}
+use Rattle.arc_life.specs.Alone.{after_all, events_of}
 use Rattle.arc_life.specs.declared.life.TheConstants.{BORN, MIGRATED, COUNTED, JOINED, HELD, EMPTIED, ENDED}
 
 abbrev pub leaf_cell : Kind → RefShape
@@ -46,3 +49,17 @@ after_emptied = after_all life_shape after_held EMPTIED
 
 unfoldable pub at_end : View
 at_end = after_all life_shape after_emptied ENDED
+
+-- the events that are written beside the steps of the whole life
+abbrev pub whole_life : History
+whole_life = events_of (BORN ++ MIGRATED ++ COUNTED ++ JOINED ++ HELD ++ EMPTIED ++ ENDED)
+
+-- The words that are left: slot 2 is in the immortal object, no other slot and no entry is taken, and every cell is nil.
+pub record WordsLeft (words : List ℕ) : Type 0 where
+  pub zero : word_at life_shape words Zero ≡ 0
+  pub global : word_at life_shape words (Global 0) ≡ 0
+  pub count : word_at life_shape words (Count 2) ≡ 1
+  pub isa : word_at life_shape words (Isa 2) ≡ 196610
+  pub fields : (s f : ℕ) → s < 3 → f < 8 → word_at life_shape words (Field s f) ≡ 0
+  pub slots : word_at life_shape words (SlotBits 0) ≡ 4
+  pub entries : word_at life_shape words (EntryBits 0) ≡ 0

@@ -18,7 +18,8 @@ use Rattle.arc_script.proofs.OneList.{all_in_one, length_in_one}
 use Rattle.arc_ops.specs.Served.{IsServed, IsServedThread, IsServedOp}
 use Rattle.arc_ops.specs.Programs.{phases_in, phases_of, program_of, ops_in_first, count_of_vars, vars_of, VarsFit, ClassFits, GoesForth, ToFits, BlocksFit}
 use Rattle.arc_ops.proofs.Blocks.{phases_forth, all_to_fit}
-use Rattle.arc_ops.specs.Thread.{HeldFits, IsStepper, stepper_of}
+use Rattle.arc_ops.specs.Thread.{stepper_of}
+use Rattle.arc_ops.specs.Steppers.{HeldFits, IsStepper}
 
 thread_few : (ts : List ThreadDecl) (i : ℕ) → sum_by (λ (ops : List Op). length ops) (phases_in (slice_get ts i)) ≤ op_count ts
 thread_few [] i = omega arith
@@ -48,9 +49,9 @@ op_fits classes globals vars few (op.New to class) h s = let k = h.1 in (h.0, (h
 op_fits classes globals vars few (op.Copy to from) h s = ((h.0.to_there, h.0.of_there), tt)
 op_fits classes globals vars few (op.Move to from) h s = ((h.0.to_there, h.0.of_there), tt)
 op_fits classes globals vars few (op.Drop v) h s = (h, tt)
-op_fits classes globals vars few (op.Unown to of) h s = absurd s
+op_fits classes globals vars few (op.Unown to of) h s = ((h.to_there, h.of_there), tt)
 op_fits classes globals vars few (op.Weak to of) h s = absurd s
-op_fits classes globals vars few (op.Load to of) h s = absurd s
+op_fits classes globals vars few (op.Load to of) h s = ((h.0.to_there, h.0.of_there), tt)
 op_fits classes globals vars few (op.Get to cell) h s = absurd s
 op_fits classes globals vars few (op.Set cell from) h s = absurd s
 op_fits classes globals vars few (op.IfNil var to) h s = (h, tt)

@@ -1,6 +1,7 @@
 -- What holds of each stepper goes on to hold.
-use Rattle.std.proofs.Common.{◌≡◌, ℕ, ◌+◌, ◌≤◌, ◌<◌, Bool, true, false, cond, ltb, List, length, Option, Some, None, bit_and, ◌==◌, refl, sym, ap, ◌∙◌, subst, arith}
-use Rattle.std.proofs.lemmas.Bool.{ltb-true}
+use Rattle.std.proofs.Common.{◌≡◌, ℕ, ◌+◌, ◌≤◌, ◌<◌, Bool, true, false, cond, ltb, List, length, set, eqb, Option, Some, None, bit_and, ◌==◌, refl, sym, ap, ◌∙◌, subst, arith}
+use Rattle.std.proofs.lemmas.Bool.{ltb-true, eqb-true}
+use Rattle.std.proofs.lemmas.List.{length-set}
 use Rattle.std.specs.Prelude.{All}
 use Rattle.std.specs.Option.{unwrap_or}
 use Rattle.arc_model.specs.declared.event.Act.{Act}
@@ -14,19 +15,42 @@ use Rattle.arc_plan.specs.declared.slots.NewObjectAnswer.TheVariants.{Slot, NoSl
 use Rattle.arc_plan.specs.declared.unowned.UnownedDownAnswer.{UnownedDownAnswer}
 use Rattle.arc_plan.specs.declared.unowned.UnownedDownAnswer.TheVariants as less
 use Rattle.arc_plan.specs.Attempts.{Attempt}
+use Rattle.arc_bits.specs.declared.packing.Word.{Word}
+use Rattle.arc_bits.specs.declared.packing.Word.TheVariants as words
+use Rattle.arc_bits.specs.Words.{packed, unpacked}
+use Rattle.arc_bits.specs.Moves.{strong_more, unowned_more}
+use Rattle.arc_model.specs.Shapes.{CapNumbers}
+use Rattle.arc_model.specs.declared.shape.Kind.{Kind}
+use Rattle.arc_model.specs.declared.shape.Kind.TheVariants as kinds
+use Rattle.arc_rule.specs.declared.attempt.At.{At}
+use Rattle.arc_rule.specs.declared.attempt.At.TheVariants as attempt
+use Rattle.arc_rule.specs.declared.attempt.Choice.TheVariants.{Tell, Write}
+use Rattle.arc_rule.specs.Attempts.{answer_by, chosen, told_as}
+use Rattle.arc_plan.specs.declared.strong.StrongUpAnswer.TheVariants as strongs
+use Rattle.arc_plan.specs.declared.unowned.UnownedUpAnswer.TheVariants as unowneds
+use Rattle.arc_plan.specs.Strong.{strong_up_row}
+use Rattle.arc_plan.specs.Unowned.{unowned_up_row}
+use Rattle.arc_side.specs.declared.up.UpAnswer.TheVariants as ups
+use Rattle.arc_side.specs.Inline.{entry_named}
+use Rattle.arc_side.specs.Ups.{Rise, of_strong_up, of_unowned_up, up_in, up_place, up_answer}
 use Rattle.arc_plan.proofs.Bits.{free_is_clear}
 use Rattle.arc_rule.specs.Bits.{words_of, bit_of}
 use Rattle.arc_rule.specs.Extents.{Extent}
 use Rattle.arc_rule.specs.Isa.{IsName}
 use Rattle.arc_plan.specs.Unowned.{unowned_down_turned, unowned_down_answer}
 use Rattle.arc_plan.specs.Slots.{Creation, OneStep, IsTaking, free_slot, looked, looked_answer, looking, counting, making_turned, making_answer, creation_turned, creation_answer, one_turned, vacate_answer}
-use Rattle.arc_cells.specs.declared.cascade.At.{At}
+use Rattle.arc_cells.specs.declared.cascade.At.{At as CascadeAt}
 use Rattle.arc_cells.specs.declared.cascade.At.TheVariants as at
 use Rattle.arc_cells.specs.Cascades.{CascadeState, cascade_turned, turned_at, finish_turned, vacated}
 use Rattle.arc_ops.specs.Kept.{Kept}
+use Rattle.arc_ops.specs.Takes.{IsGainWord, gain_takes, IsGainAnswer}
+use Rattle.arc_ops.specs.declared.gain.Gain.{Gain}
 use Rattle.arc_ops.specs.declared.stepper.Held.{Held}
 use Rattle.arc_ops.specs.declared.stepper.Doing.TheVariants.{Ended}
-use Rattle.arc_ops.specs.Thread.{Thread, put, replaced, made_on, IsStepper, HeldFits, IsMakingIn, FewBefore, MadeBefore, MakingGoesOn}
+use Rattle.arc_ops.specs.Thread.{Thread, put}
+use Rattle.arc_ops.specs.Drops.{replaced}
+use Rattle.arc_ops.specs.Makes.{strong_to, made_on}
+use Rattle.arc_ops.specs.Steppers.{IsStepper, HeldFits, IsMakingIn, FewBefore, MadeBefore, MakingGoesOn}
 
 -- an idle stepper at a later operation, behind operations that moved references
 pub moved : (t : Thread) → IsStepper t → t.doing ≡ Ended → (i : ℕ) (vars : List (Option Held)) (kept : Kept) → t.index ≤ i → i ≤ length t.program → length vars ≡ length t.vars →
@@ -50,6 +74,31 @@ moved t s idle i vars kept from within count held = record {
   under_way = rw idle tt;
   in_operation = rw idle tt;
 }
+
+-- a stepper two of whose variables have other references
+pub revalued : (t : Thread) → IsStepper t → (to from : ℕ) (new last : Option Held) → All (HeldFits t.layout.slots) (set (set t.vars to new) from last) → IsStepper (record t { vars = set (set t.vars to new) from last })
+revalued t s to from new last held = record {
+  layout = s.layout;
+  without_fields = s.without_fields;
+  slots = s.slots;
+  strong_cap = s.strong_cap;
+  thread = s.thread;
+  vars_fit = rw same s.vars_fit;
+  classes_fit = s.classes_fit;
+  whole = s.whole;
+  blocks = s.blocks;
+  few = s.few;
+  held = held;
+  phase = s.phase;
+  index = s.index;
+  hands = s.hands;
+  made = s.made;
+  under_way = rw same s.under_way;
+  in_operation = s.in_operation;
+}
+  where
+    same : length (set (set t.vars to new) from last) ≡ length t.vars
+    same = length-set (set t.vars to new) from last ∙ length-set t.vars to new
 
 -- an idle stepper that has made an object
 pub made_one : (t : Thread) → IsStepper t → t.doing ≡ Ended → FewBefore t → (event : Option Act) → IsStepper (record t { hands = t.hands + 1; made = t.made + 1; event = event })
@@ -146,7 +195,7 @@ same_heap c last = go c.at
     vacating p (nexts.Step s) = record { layout = refl; shape = refl }
     vacating p (nexts.Done a) = record { layout = refl; shape = refl }
 
-    go : (a : At) → SameHeap c (turned_at (record c { at = at.Ended; event = None }) last a)
+    go : (a : CascadeAt) → SameHeap c (turned_at (record c { at = at.Ended; event = None }) last a)
     go at.Start = record { layout = refl; shape = refl }
     go at.Entering = record { layout = refl; shape = refl }
     go at.Naming = record { layout = refl; shape = refl }
@@ -158,6 +207,57 @@ same_heap c last = go c.at
 
 -- the object is in the slot, and the variable has the new reference
 pub slot_made : (to : ℕ) (name : ObjectName) (plan : Creation) (place : ℕ) (t middle new : Thread) (hand : ℕ) → hand ≡ t.hands → middle ≡ put (answers.New name) t →
-    new ≡ replaced to (record { hand = hand; place = place }) middle → new ≡ made_on to name plan (nexts.Done (Slot place)) t
+    new ≡ replaced to (Some (strong_to hand place)) middle → new ≡ made_on to name plan (nexts.Done (Slot place)) t
 slot_made to name plan place t middle new hand hands line replaces =
-    replaces ∙ ap (λ (m : Thread). replaced to (record { hand = hand; place = place }) m) line ∙ ap (λ (h : ℕ). replaced to (record { hand = h; place = place }) (put (answers.New name) t)) hands
+    replaces ∙ ap (λ (m : Thread). replaced to (Some (strong_to hand place)) m) line ∙ ap (λ (h : ℕ). replaced to (Some (strong_to h place)) (put (answers.New name) t)) hands
+
+-- ---- a gain's answer
+
+abbrev rise : Extent → ℕ → Kind → CapNumbers → Option ℕ → At → Rise
+rise layout slot list caps entry at = record { layout = layout; slot = slot; list = list; caps = caps; entry = entry; at = at }
+
+-- by the inline word that its load gave
+strong_answers : (gain : Gain) (p : Rise) (w : ℕ) (word : Option Word) → IsGainWord gain kinds.Strong p.caps word →
+    IsGainAnswer gain (answer_by up_place (up_in p (entry_named word)) (chosen (up_place p) w (told_as of_strong_up (strong_up_row p.caps.strong word))))
+strong_answers gain p w None h = absurd h
+strong_answers gain p w (Some words.Free) h = absurd h
+strong_answers gain p w (Some (words.Slow e)) h = absurd h
+strong_answers gain p w (Some words.Immortal) h = tt
+strong_answers gain p w (Some (words.Counts c)) h = go c.deiniting refl (eqb c.strong_extra p.caps.strong) refl
+  where
+    go : (d : Bool) → c.deiniting ≡ d → (e : Bool) → eqb c.strong_extra p.caps.strong ≡ e →
+        IsGainAnswer gain (chosen (up_place p) w (told_as of_strong_up (cond d (Tell strongs.Dead) (cond e (Tell strongs.AtCap) (Write (packed (words.Counts (strong_more c))))))))
+    go true d e f = h.0 d
+    go false d true f = let same = eqb-true c.strong_extra p.caps.strong f in let below = h.1 d in absurd (omega (arith, same, below))
+    go false d false f = tt
+
+unowned_answers : (gain : Gain) (p : Rise) (w : ℕ) (word : Option Word) → IsGainWord gain kinds.Unowned p.caps word →
+    IsGainAnswer gain (answer_by up_place (up_in p (entry_named word)) (chosen (up_place p) w (told_as of_unowned_up (unowned_up_row p.caps.unowned word))))
+unowned_answers gain p w None h = absurd h
+unowned_answers gain p w (Some words.Free) h = absurd h
+unowned_answers gain p w (Some (words.Slow e)) h = absurd h
+unowned_answers gain p w (Some words.Immortal) h = tt
+unowned_answers gain p w (Some (words.Counts c)) h = go (eqb c.unowned p.caps.unowned) refl
+  where
+    go : (e : Bool) → eqb c.unowned p.caps.unowned ≡ e →
+        IsGainAnswer gain (chosen (up_place p) w (told_as of_unowned_up (cond e (Tell unowneds.AtCap) (Write (packed (words.Counts (unowned_more c)))))))
+    go true f = let same = eqb-true c.unowned p.caps.unowned f in absurd (omega (arith, same, h))
+    go false f = tt
+
+answers_at : (gain : Gain) (layout : Extent) (slot : ℕ) (list : Kind) (caps : CapNumbers) (entry : Option ℕ) (at : At) (last : Option ℕ) → gain_takes gain (rise layout slot list caps entry at) last → IsGainAnswer gain (up_answer (rise layout slot list caps entry at) last)
+answers_at gain layout slot list caps (Some e) at last t = absurd t.1
+answers_at gain layout slot list caps None attempt.Start last t = tt
+answers_at gain layout slot list caps None attempt.Loading None t = absurd t.0
+answers_at gain layout slot kinds.Strong caps None attempt.Loading (Some w) t = strong_answers gain (rise layout slot kinds.Strong caps None attempt.Loading) w (unpacked w) t.1
+answers_at gain layout slot kinds.Unowned caps None attempt.Loading (Some w) t = unowned_answers gain (rise layout slot kinds.Unowned caps None attempt.Loading) w (unpacked w) t.1
+answers_at gain layout slot kinds.Weak caps None attempt.Loading (Some w) t = absurd t.0
+answers_at gain layout slot list caps None (attempt.Exchanging seen new) last t = go (eqb (unwrap_or last 0) seen)
+  where
+    go : (b : Bool) → IsGainAnswer gain (nexts.Done (cond b ups.Up (ups.Again (record { seen = seen; found = unwrap_or last 0 }))))
+    go true = tt
+    go false = tt
+answers_at gain layout slot list caps None attempt.Ended last t = absurd t.0
+
+-- what it may be given has none of the answers that a gain doesn't have
+pub gain_answers : (gain : Gain) (p : Rise) (last : Option ℕ) → gain_takes gain p last → IsGainAnswer gain (up_answer p last)
+gain_answers gain p last t = answers_at gain p.layout p.slot p.list p.caps p.entry p.at last t

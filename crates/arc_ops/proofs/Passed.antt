@@ -5,14 +5,19 @@ use Rattle.std.proofs.lemmas.List.Elements.{All-get_or}
 use Rattle.std.proofs.lemmas.Bool.{lt-ltb, le-ltb}
 use Rattle.std.proofs.lemmas.Option.{slice_get_within, get_or_from_slice_get}
 use Rattle.std.proofs.Math.Seq.{drop-cons}
-use Rattle.std.specs.Prelude.{slice_get, All}
+use Rattle.std.specs.Prelude.{slice_get, All, ◌||◌}
 use Rattle.arc_model.specs.declared.answer.Answer.{Answer}
 use Rattle.arc_script.specs.declared.script.Op.{Op}
 use Rattle.arc_script.specs.declared.script.Op.TheVariants as op
+use Rattle.arc_ops.specs.declared.gain.Gain.{Gain}
+use Rattle.arc_ops.specs.declared.gain.Gain.TheVariants as gains
 use Rattle.arc_ops.specs.declared.stepper.Held.{Held}
 use Rattle.arc_ops.specs.Kept.{Kept, with_line}
 use Rattle.arc_ops.specs.Programs.{VarsFit, GoesForth, ordinal}
-use Rattle.arc_ops.specs.Thread.{Thread, value, is_held, asks, block_goes_on, at_place, begun, begun_at, begun_nil, begun_move, begun_op, phase_end, skipped, IsStepper}
+use Rattle.arc_ops.specs.Thread.{Thread, value, is_held}
+use Rattle.arc_ops.specs.Plans.{op_of}
+use Rattle.arc_ops.specs.Begins.{asks, block_goes_on, at_place, begun, begun_at, begun_nil, begun_gain, begun_move, begun_op, phase_end, skipped}
+use Rattle.arc_ops.specs.Steppers.{IsStepper}
 
 -- what an operation does that asks for no step, whatever goes on behind it
 abbrev pub IsDoneAtOnce : Op → (vars new : List (Option Held)) → Answer → Type 0
@@ -145,10 +150,16 @@ move_begun : (to from : ℕ) (held : Held) (old : Option Held) (t : Thread) (res
 move_begun to from held None t rest e = absurd (cc)
 move_begun to from held (Some old) t rest e = refl
 
--- the copy of a nil reference begins
-pub copy_of_nil : (t new : Thread) (o : Op) (to from : ℕ) → o ≡ op.Copy to from → value t.vars from ≡ None → asks t.vars o ≡ true →
-    ((rest : Thread → Thread) → new ≡ begun_nil to (value t.vars to) (record t { first = true }) rest) → (rest : Thread → Thread) → new ≡ begun_op o t rest
-copy_of_nil t new o to from o_is nil asks_step begins rest = rw (o_is, nil) (begins rest ∙ nil_begun to (value t.vars to) t rest (rw (o_is, nil) at asks_step))
+-- a reference is gained for a variable by that in another one
+gain_first : (gain : Gain) (to : ℕ) (from old : Option Held) (t : Thread) (rest : Thread → Thread) → (is_held from || is_held old) ≡ true → begun_gain gain to from old (record t { first = true }) rest ≡ begun_gain gain to from old t rest
+gain_first gain to (Some held) old t rest e = refl
+gain_first gain to None old t rest e = nil_begun to old t rest e
+
+pub gain_of : (gain : Gain) (t new : Thread) (o : Op) (to from : ℕ) → o ≡ op_of gain to from → asks t.vars o ≡ true →
+    ((rest : Thread → Thread) → new ≡ begun_gain gain to (value t.vars from) (value t.vars to) (record t { first = true }) rest) → (rest : Thread → Thread) → new ≡ begun_op o t rest
+gain_of gains.Copy t new o to from o_is asks_step begins rest = rw o_is (begins rest ∙ gain_first gains.Copy to (value t.vars from) (value t.vars to) t rest (rw o_is at asks_step))
+gain_of gains.Unown t new o to from o_is asks_step begins rest = rw o_is (begins rest ∙ gain_first gains.Unown to (value t.vars from) (value t.vars to) t rest (rw o_is at asks_step))
+gain_of gains.Load t new o to from o_is asks_step begins rest = rw o_is (begins rest ∙ gain_first gains.Load to (value t.vars from) (value t.vars to) t rest (rw o_is at asks_step))
 
 -- the move of a nil reference begins
 pub move_of_nil : (t new : Thread) (o : Op) (to from : ℕ) → o ≡ op.Move to from → value t.vars from ≡ None → asks t.vars o ≡ true →

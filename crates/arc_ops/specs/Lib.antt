@@ -2,3 +2,11 @@ pub mod Served
 pub mod Kept
 pub mod Programs
 pub mod Thread
+pub mod Plans
+pub mod Begins
+pub mod Drops
+pub mod Makes
+pub mod Gains
+pub mod Turns
+pub mod Takes
+pub mod Steppers

@@ -1,9 +1,12 @@
 -- The phases and operations of a thread, and what they may name.
-use Rattle.std.specs.Prelude.{ℕ, ◌≡◌, ◌==◌, ◌-◌, ◌+◌, ◌<◌, ◌≤◌, if◌then◌else◌, Bool, true, false, List, [], length, take, flat_map, sum_by, count_by, slice_get, slice_index_or, Option, Some, None}
+use Rattle.std.specs.Prelude.{ℕ, ◌≡◌, ◌==◌, ◌-◌, ◌+◌, ◌<◌, ◌≤◌, if◌then◌else◌, Bool, true, false, List, [], length, map, take, flat_map, sum_by, count_by, slice_get, slice_index_or, Option, Some, None}
+use Rattle.arc_model.specs.declared.shape.Kind.{Kind}
+use Rattle.arc_model.specs.declared.shape.Kind.TheVariants.{Strong, Unowned}
 use Rattle.arc_script.specs.declared.script.Op.{Op}
 use Rattle.arc_script.specs.declared.script.Op.TheVariants as op
 use Rattle.arc_script.specs.OneList.{in_one_list, numbered}
 use Rattle.arc_script.specs.declared.script.ThreadDecl.{ThreadDecl}
+use Rattle.arc_script.specs.declared.script.VarDecl.{VarDecl}
 use Rattle.arc_script.specs.declared.script.Script.{Script}
 
 -- the thread's declaration; thread 0 has none
@@ -80,9 +83,9 @@ VarsFit vars (op.New to class) = to < vars
 VarsFit vars (op.Copy to from) = (to < vars) × (from < vars)
 VarsFit vars (op.Move to from) = (to < vars) × (from < vars)
 VarsFit vars (op.Drop var) = var < vars
-VarsFit vars (op.Unown to of) = ⊥
+VarsFit vars (op.Unown to of) = (to < vars) × (of < vars)
 VarsFit vars (op.Weak to of) = ⊥
-VarsFit vars (op.Load to of) = ⊥
+VarsFit vars (op.Load to of) = (to < vars) × (of < vars)
 VarsFit vars (op.Get to cell) = ⊥
 VarsFit vars (op.Set cell from) = ⊥
 VarsFit vars (op.IfNil var to) = var < vars
@@ -92,3 +95,26 @@ VarsFit vars (op.IfSome var to) = var < vars
 abbrev pub ClassFits : ℕ → Op → Type 0
 ClassFits classes (op.New to class) = (class < classes) × (class < 64)
 ClassFits classes _ = Unit {0}
+
+-- ---- the kinds of variables
+
+abbrev pub kinds_in : Option ThreadDecl → List Kind
+kinds_in None = []
+kinds_in (Some decl) = map (λ (v : VarDecl). v.kind) decl.vars
+
+-- the kind of each variable of the thread
+abbrev pub kinds_of : Script → ℕ → List Kind
+kinds_of script thread = kinds_in (declared_of script thread)
+
+abbrev pub kind_of : List Kind → ℕ → Kind
+kind_of kinds v = slice_index_or kinds v Strong
+
+-- An operation that is served names variables of its kinds: a new object's is strong, a copy's and a move's are of one kind, an unowned
+-- reference is formed from a strong one, and a strong one is loaded by an unowned one.
+abbrev pub KindsFit : List Kind → Op → Type 0
+KindsFit kinds (op.New to class) = kind_of kinds to ≡ Strong
+KindsFit kinds (op.Copy to from) = kind_of kinds to ≡ kind_of kinds from
+KindsFit kinds (op.Move to from) = kind_of kinds to ≡ kind_of kinds from
+KindsFit kinds (op.Unown to of) = (kind_of kinds to ≡ Unowned) × (kind_of kinds of ≡ Strong)
+KindsFit kinds (op.Load to of) = (kind_of kinds to ≡ Strong) × (kind_of kinds of ≡ Unowned)
+KindsFit kinds _ = Unit {0}

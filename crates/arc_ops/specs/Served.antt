@@ -1,36 +1,37 @@
 -- Which scripts are served so far.
-use Rattle.std.specs.Prelude.{◌≡◌, [], All}
-use Rattle.arc_model.specs.declared.shape.Kind.TheVariants as kind
+use Rattle.std.specs.Prelude.{◌≡◌, [], All, ⊤}
 use Rattle.arc_model.specs.Shapes.{ObjectClass}
+use Rattle.arc_side.specs.Inline.{IsCountedInline}
 use Rattle.arc_script.specs.declared.script.VarDecl.{VarDecl}
 use Rattle.arc_script.specs.declared.script.Op.{Op}
 use Rattle.arc_script.specs.declared.script.Op.TheVariants as op
 use Rattle.arc_script.specs.declared.script.ThreadDecl.{ThreadDecl}
 use Rattle.arc_script.specs.declared.script.Script.{Script}
 
--- makes an object, copies, moves or drops a reference, or begins a block
+-- makes an object, gains a reference by a copy of one, from a strong or from an unowned one, moves or drops one, or begins a block
 abbrev pub IsServedOp : Op → Type 0
-IsServedOp (op.New to class) = Unit {0}
-IsServedOp (op.Copy to from) = Unit {0}
-IsServedOp (op.Move to from) = Unit {0}
-IsServedOp (op.Drop var) = Unit {0}
-IsServedOp (op.Unown to of) = ⊥
+IsServedOp (op.New to class) = ⊤
+IsServedOp (op.Copy to from) = ⊤
+IsServedOp (op.Move to from) = ⊤
+IsServedOp (op.Drop var) = ⊤
+IsServedOp (op.Unown to of) = ⊤
 IsServedOp (op.Weak to of) = ⊥
-IsServedOp (op.Load to of) = ⊥
+IsServedOp (op.Load to of) = ⊤
 IsServedOp (op.Get to cell) = ⊥
 IsServedOp (op.Set cell from) = ⊥
-IsServedOp (op.IfNil var to) = Unit {0}
-IsServedOp (op.IfSome var to) = Unit {0}
+IsServedOp (op.IfNil var to) = ⊤
+IsServedOp (op.IfSome var to) = ⊤
 
-abbrev pub IsStrongVar : VarDecl → Type 0
-IsStrongVar v = v.kind ≡ kind.Strong
+-- strong or unowned
+abbrev pub IsServedVar : VarDecl → Type 0
+IsServedVar v = IsCountedInline v.kind
 
--- strong variables, and operations that are served
+-- strong and unowned variables, and operations that are served
 pub record IsServedThread (t : ThreadDecl) : Type 0 where
-  pub strong : All IsStrongVar t.vars
+  pub vars : All IsServedVar t.vars
   pub ops : All (All IsServedOp) t.phases
 
--- threads whose strong variables have objects made, copied, moved and dropped, in blocks and phases and by any schedule; classes without
+-- threads that make objects, and copy, move, drop and load strong and unowned references, in blocks and phases and by any schedule; classes without
 -- fields, no globals, the greatest caps
 pub record IsServed (s : Script) : Type 0 where
   pub threads : All IsServedThread s.threads

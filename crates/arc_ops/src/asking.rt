@@ -5,7 +5,9 @@ ghost use Rattle.arc_model.specs.Shapes.{class_at};
 ghost use Rattle.arc_script.specs.declared.script.Op.{Op};
 ghost use Rattle.arc_script.specs.Valid.{begins_block};
 ghost use Rattle.arc_ops.specs.Programs.{VarsFit, GoesForth};
-ghost use Rattle.arc_ops.specs.Thread.{Thread, AsksAt, asks, block_goes_on, begun, begun_op, HeldFits, is_held, phase_end, skipped};
+ghost use Rattle.arc_ops.specs.Thread.{Thread, is_held};
+ghost use Rattle.arc_ops.specs.Begins.{AsksAt, asks, block_goes_on, begun, begun_op, phase_end, skipped};
+ghost use Rattle.arc_ops.specs.Steppers.{HeldFits};
 
 use crate::kept::Lines;
 use crate::program::Program;
@@ -132,6 +134,8 @@ fn asks(op: Op, vars: &[Option<Held>]) -> bool
     match op {
         Op::New { to: _, class: _ } => true,
         Op::Copy { to, from } => is_held(vars[from as usize]) || is_held(vars[to as usize]),
+        Op::Unown { to, of } => is_held(vars[of as usize]) || is_held(vars[to as usize]),
+        Op::Load { to, of } => is_held(vars[of as usize]) || is_held(vars[to as usize]),
         Op::Move { to, from: _ } => is_held(vars[to as usize]),
         Op::Drop { var } => is_held(vars[var as usize]),
         Op::IfNil { .. } => false,

@@ -3,9 +3,13 @@
 #![tactic(auto)]
 
 mod asking;
+mod drop;
+mod gain;
 mod kept;
+mod making;
 mod program;
 mod programs;
+mod scope;
 mod served;
 mod stepper;
 mod told;

@@ -2,7 +2,7 @@
 
 ghost use Rattle.std.specs.Prelude.{◌≡◌, ◌↔◌, All, IsTrue, []};
 ghost use Rattle.arc_model.specs.Shapes.{ObjectClass};
-ghost use Rattle.arc_ops.specs.Served.{IsServed, IsServedThread, IsServedOp, IsStrongVar};
+ghost use Rattle.arc_ops.specs.Served.{IsServed, IsServedThread, IsServedOp, IsServedVar};
 
 use arc_model::{Caps, ClassShape, Kind};
 use arc_script::{Op, Script, ThreadDecl, VarDecl};
@@ -15,6 +15,8 @@ fn is_served_op(op: &Op) -> bool
         Op::Copy { to: _, from: _ } => true,
         Op::Move { to: _, from: _ } => true,
         Op::Drop { var: _ } => true,
+        Op::Unown { to: _, of: _ } => true,
+        Op::Load { to: _, of: _ } => true,
         Op::IfNil { .. } => true,
         Op::IfSome { .. } => true,
         _ => false,
@@ -27,12 +29,12 @@ fn are_served_ops(ops: &[Op]) -> bool
     ops.iter().all(|op| is_served_op(op))
 }
 
-fn is_strong_var(var: &VarDecl) -> bool
-    ensures { IsTrue result ↔ IsStrongVar var.now }
+fn is_served_var(var: &VarDecl) -> bool
+    ensures { IsTrue result ↔ IsServedVar var.now }
 {
     match var.kind {
         Kind::Strong => true,
-        Kind::Unowned => false,
+        Kind::Unowned => true,
         Kind::Weak => false,
     }
 }
@@ -40,13 +42,13 @@ fn is_strong_var(var: &VarDecl) -> bool
 fn is_served_thread(thread: &ThreadDecl) -> bool
     ensures { IsTrue result ↔ IsServedThread thread.now }
 {
-    let strong = thread.vars.as_slice().iter().all(|var| is_strong_var(var));
+    let vars = thread.vars.as_slice().iter().all(|var| is_served_var(var));
     let ops = thread
         .phases
         .as_slice()
         .iter()
         .all(|ops| are_served_ops(ops.as_slice()));
-    strong && ops
+    vars && ops
 }
 
 fn are_served_threads(threads: &[ThreadDecl]) -> bool
@@ -67,8 +69,9 @@ fn are_greatest(caps: Caps) -> bool
     caps.strong() == 1_073_741_823 && caps.unowned() == 2_147_483_647 && caps.wide() == u32::MAX
 }
 
-/// Whether the script is one of those that are served so far: threads with strong variables and the operations `new`, `copy`, `move`
-/// and `drop`, in any blocks and phases and by any schedule; classes without fields, no globals and the greatest caps.
+/// Whether the script is one of those that are served so far: threads with strong and unowned variables and the operations `new`,
+/// `copy`, `move`, `drop`, `unown` and `load`, in any blocks and phases and by any schedule; classes without fields, no globals and
+/// the greatest caps.
 pub fn is_served(script: &Script) -> bool
     ensures { IsTrue result ↔ IsServed script.now }
 {

@@ -1,6 +1,6 @@
 -- A stepper whose last reference to an object has gone: the object dies.
-use Rattle.std.proofs.Common.{◌≡◌, ◌≢◌, inl, inr, ℕ, ◌/◌, ◌<◌, ◌≤◌, ◌==◌, not, Bool, true, false, cond, List, [], ◌∷◌, ◌++◌, length, option_map, get_or, zero, suc, Option, Some, None, refl, sym, ap, ◌∙◌, subst, arith, eq-eqb, ne_eqb}
-use Rattle.std.specs.Prelude.{slice_get, is_some}
+use Rattle.std.proofs.Common.{◌≡◌, ◌≢◌, inl, inr, ℕ, ◌<◌, ◌≤◌, ◌==◌, Bool, true, false, cond, List, [], ◌∷◌, ◌++◌, length, option_map, get_or, zero, suc, Option, Some, None, refl, sym, ap, ◌∙◌, subst, arith, eq-eqb, ne_eqb}
+use Rattle.std.specs.Prelude.{slice_get}
 use Rattle.std.proofs.lemmas.List.Elements.{recursion_from_All}
 use Rattle.std.specs.List.{AllByRecursion}
 use mathlib.Core.Logic.{dite}
@@ -10,54 +10,53 @@ use Rattle.arc_bits.specs.declared.packing.Word.{Word}
 use Rattle.arc_bits.specs.declared.packing.Word.TheVariants.{Counts}
 use Rattle.arc_bits.specs.Words.{IsWordOf, counts_word, unpacked}
 use Rattle.arc_bits.specs.Moves.{unowned_less}
-use Rattle.arc_bits.proofs.Unpacking.{unpacked-packed}
 use Rattle.arc_model.specs.declared.event.Act.{Act}
 use Rattle.arc_model.specs.declared.event.Act.TheVariants as acts
 use Rattle.arc_model.specs.declared.event.Event.{Event}
-use Rattle.arc_model.specs.declared.event.ObjectName.{ObjectName}
 use Rattle.arc_model.specs.declared.shape.Kind.{Kind}
 use Rattle.arc_model.specs.declared.shape.Kind.TheVariants.{Unowned}
 use Rattle.arc_model.specs.declared.shape.RefShape.{RefShape}
 use Rattle.arc_model.specs.Shapes.{ObjectClass}
-use Rattle.arc_model.specs.Heaps.{Field, Deinit, Vacating, Gone, Object}
+use Rattle.arc_model.specs.Heaps.{Field, Deinit, Vacating, Object}
 use Rattle.arc_model.specs.Holders.{at_slot, in_slot}
 use Rattle.arc_model.specs.Cells.{are_all_nil, each_below, is_nil}
 use Rattle.arc_model.specs.History.{History, heap_after, IsLegal}
-use Rattle.arc_model.specs.Lookup.{duty_of, passes_at, entry_in}
+use Rattle.arc_model.specs.Lookup.{duty_of, passes_at}
 use Rattle.arc_model.specs.Needs.{passes}
 use Rattle.arc_model.proofs.Duties.{own_duties}
-use Rattle.arc_model.specs.SpellingTies.{name_of}
 use Rattle.arc_model.specs.SpellingTies.Causes.{Judged}
 use Rattle.arc_rule.specs.Extents.{Extent}
 use Rattle.arc_rule.specs.Places.{IsPlace, extent_of, number, place_at}
-use Rattle.arc_rule.specs.Isa.{IsName, IsIsaWord, isa_word_of, isa_name_of}
-use Rattle.arc_rule.specs.Shown.{ShowsName, ShowsCounts}
+use Rattle.arc_rule.specs.Shown.{ShowsCounts}
 use Rattle.arc_rule.proofs.Places.{place_at-number}
-use Rattle.arc_rule.specs.Bits.{words_of, but_bit_of}
-use Rattle.arc_rule.proofs.Bits.{thing_left_but}
 use Rattle.arc_rule.specs.declared.layout.Place.{Place}
-use Rattle.arc_rule.specs.declared.layout.Place.TheVariants.{Count, Isa, Next, SlotBits}
+use Rattle.arc_rule.specs.declared.layout.Place.TheVariants.{Count, Isa, Next}
 use Rattle.arc_rule.specs.declared.step.Step.{Step}
-use Rattle.arc_rule.specs.declared.step.Step.TheVariants.{Load, Exchange, Store, And}
+use Rattle.arc_rule.specs.declared.step.Step.TheVariants.{Load, Exchange, Store}
 use Rattle.arc_rule.specs.declared.step.Intent.{Intent}
 use Rattle.arc_rule.specs.declared.step.Intent.TheVariants as intents
 use Rattle.arc_rule.specs.declared.plan.Next.TheVariants as nexts
-use Rattle.arc_plan.specs.declared.attempt.At.{At as AttemptAt}
-use Rattle.arc_plan.specs.declared.attempt.At.TheVariants as attempt
-use Rattle.arc_plan.specs.declared.attempt.Choice.{Choice}
-use Rattle.arc_plan.specs.declared.attempt.Choice.TheVariants.{Write}
+use Rattle.arc_rule.specs.declared.attempt.At.{At as AttemptAt}
+use Rattle.arc_rule.specs.declared.attempt.At.TheVariants as attempt
+use Rattle.arc_rule.specs.declared.attempt.Choice.{Choice}
+use Rattle.arc_rule.specs.declared.attempt.Choice.TheVariants.{Write}
 use Rattle.arc_plan.specs.declared.slots.Once.TheVariants as once
 use Rattle.arc_plan.specs.declared.unowned.UnownedDownAnswer.{UnownedDownAnswer}
 use Rattle.arc_plan.specs.declared.unowned.UnownedDownAnswer.TheVariants as downs
-use Rattle.arc_plan.specs.Attempts.{Attempt, IsCountWord, exchanging, chosen}
+use Rattle.arc_plan.specs.Attempts.{Attempt, IsCountWord}
+use Rattle.arc_rule.specs.Attempts.{exchanging, chosen}
 use Rattle.arc_plan.specs.Unowned.{unowned_down_row, unowned_down_end}
 use Rattle.arc_cells.specs.declared.cascade.At.{At as CascadeAt}
 use Rattle.arc_cells.specs.declared.cascade.At.TheVariants as ats
-use Rattle.arc_cells.specs.Cascades.{NamesClass, CascadeState, IsInline, finish_turned, finish_says}
+use Rattle.arc_cells.specs.Cascades.{CascadeState, IsInline, finish_turned, finish_says}
 use Rattle.arc_ops.specs.declared.stepper.Held.{Held}
 use Rattle.arc_ops.specs.declared.stepper.Doing.{Doing}
 use Rattle.arc_ops.specs.declared.stepper.Doing.TheVariants as doings
-use Rattle.arc_ops.specs.Thread.{Thread, takes_at, turned_at, dying_on, next_op}
+use Rattle.arc_ops.specs.Thread.{Thread}
+use Rattle.arc_ops.specs.Begins.{next_op}
+use Rattle.arc_ops.specs.Drops.{dying_on}
+use Rattle.arc_ops.specs.Turns.{turned_at}
+use Rattle.arc_ops.specs.Takes.{takes_at}
 use Rattle.arc_spelled.specs.StepperStands.{Work}
 use Rattle.arc_spelled.specs.Spelled.{WordsHold}
 use Rattle.arc_view.specs.declared.view.Working.{Working}
@@ -65,9 +64,8 @@ use Rattle.arc_view.specs.declared.view.View.{View}
 use Rattle.arc_view.specs.Views.{Each, idle, private_words}
 use Rattle.arc_view.specs.Holding.{At, HasClaim, heap_of}
 use Rattle.arc_view.specs.Rule.{InShape, IsWithin}
-use Rattle.arc_view.specs.Kinds.{act_of, event_list, is_last, is_last_in, stored_act, and_act, but_at, working_loaded, working_stored, working_hit, working_and, without_next, hit_act}
-use Rattle.arc_view.specs.Admission.{HasEntered, IsDown}
-use Rattle.arc_view.specs.Admission.{Admits}
+use Rattle.arc_view.specs.Kinds.{act_of, event_list, is_last, is_last_in, stored_act, but_at, working_loaded, working_stored, working_hit, without_next, hit_act}
+use Rattle.arc_view.specs.Admission.{HasEntered, IsDown, Admits}
 use Rattle.arc_view.specs.Steps.{Told, IsKeptAt}
 use Rattle.arc_view.specs.Calls.{Called}
 use Rattle.arc_view.proofs.Within.{each_at}
@@ -75,14 +73,16 @@ use Rattle.arc_view.proofs.Counting.{inline_counts}
 use Rattle.arc_view.proofs.Held.{Stays, stays_after, dying_busy}
 use Rattle.arc_view.proofs.Owed.{OwedLater, owed_stays}
 use Rattle.arc_view.proofs.Strongs.{slot_found}
-use Rattle.arc_model.proofs.Basics.{None≢Some, Some-inj, true≢false}
+use Rattle.arc_model.proofs.Basics.{None≢Some, true≢false}
 use Rattle.arc_model.proofs.Others.{others_leave}
-use Rattle.arc_view_laws.proofs.Entries.{entry_kept, none_stays}
+use Rattle.arc_view_laws.proofs.Entries.{entry_kept}
 use Rattle.arc_view_laws.proofs.DyingWords.{ShowsDying, counts, slow, shows_dying}
 use Rattle.arc_ops_passes.specs.References.{in_vars, references, Owns}
 use Rattle.arc_ops_passes.specs.Drives.{Asks, UnderWay, IsDying, OwesOne, entered}
 use Rattle.arc_ops_passes.proofs.Walks.{next_walks}
-use Rattle.arc_ops_passes.proofs.Owed.{slot_is, not_in, owed_still, is_name, name_back, is_isa}
+use Rattle.arc_ops_passes.proofs.Owed.{slot_is, not_in, owed_still}
+use Rattle.arc_ops_passes.proofs.Counts.{inline_unpacked}
+use Rattle.arc_ops_passes.proofs.Names.{NameRead, name_read, name_shown, no_entry_shown}
 use Rattle.arc_ops_passes.proofs.Goes.{quiet, Facts, Comes, told_by, fresh_under, claims_still, claims_on, owns_still, owns_on, nothing_shown, count_no_name, next_no_name}
 
 abbrev pub dying : Work → ℕ → CascadeAt → Option Act → Doing
@@ -92,9 +92,6 @@ no-fields : (classes : List ObjectClass) (i : ℕ) → AllByRecursion (λ (c : O
 no-fields [] i bare = refl
 no-fields (c ∷ classes) zero bare = bare.0
 no-fields (c ∷ classes) (suc i) bare = no-fields classes i bare.1
-
-inline_unpacked : (c : Inline) (n : ℕ) → IsWordOf (Counts c) n → unpacked n ≡ Some (Counts c)
-inline_unpacked c n word = ap unpacked (sym word.packed_is) ∙ unpacked-packed (Counts c) word.packable
 
 cond-same : (b : Bool) (x : Working) → cond b x x ≡ x
 cond-same true x = refl
@@ -128,13 +125,6 @@ module _ (w : Work) (t : Thread) (v : View) (s : ℕ) (a : CascadeAt) (e : Optio
 
     abbrev Swap : ℕ → ℕ → Step
     Swap seen new = Exchange (number (extent_of w.shape) (Count s)) seen new
-
-    -- an exchange reads no name
-    no_load : (seen new slot : ℕ) → Path (Option (Step × Intent)) (Some (Swap seen new, deinit)) (Some (Load (number (extent_of w.shape) (Isa slot)), intents.Deinit slot)) → ⊥
-    no_load seen new slot e = apart (ap (λ (x : Step × Intent). x.0) (Some-inj e))
-      where
-        apart : Swap seen new ≡ Load (number (extent_of w.shape) (Isa slot)) → ⊥
-        apart x = cc
 
     pub enter_allowed : v.working ≡ idle → Admits w.shape v (Store (number (extent_of w.shape) (Next s)) 0) deinit
     enter_allowed is = (Next s, refl, below, (free idle is refl, (owes.place, owes.object, None, refl, owes.here, owes.slot, owes.owes, (λ (h : HasEntered v s). never h), tt, refl)))
@@ -181,7 +171,7 @@ module _ (w : Work) (t : Thread) (v : View) (s : ℕ) (a : CascadeAt) (e : Optio
           )
 
       -- the cascade goes on to this
-      on : (u : Thread) (b : CascadeAt) → takes_at (Some found) (dying w s a e) → u.event ≡ None → u.hands ≡ t.hands → u.vars ≡ t.vars → u.doing ≡ dying w s b None → Asks w.shape u (dying w s b None) → IsDying w.shape v' (record { layout = extent_of w.shape; shape = w.shape; slot = s; at = b; event = None })
+      on : (u : Thread) (b : CascadeAt) → takes_at w.shape (Some found) (dying w s a e) → u.event ≡ None → u.hands ≡ t.hands → u.vars ≡ t.vars → u.doing ≡ dying w s b None → Asks w.shape u (dying w s b None) → IsDying w.shape v' (record { layout = extent_of w.shape; shape = w.shape; slot = s; at = b; event = None })
           → WordsHold Judged w.shape (extent_of w.shape) (Some (step, deinit)) (Some found) w.thread None h → Comes w v step deinit found v' h (dying w s a e) u
       on u b takes event hands vars doing asks under holds =
           let same : (g : Held → ℕ) → references u.vars u.hands u.doing g ≡ references t.vars t.hands (dying w s a e) g = λ g. (λ j. references (vars j) (hands j) (doing j) g) in record {
@@ -204,7 +194,7 @@ module _ (w : Work) (t : Thread) (v : View) (s : ℕ) (a : CascadeAt) (e : Optio
         let works : v'.working ≡ entered s = ap (λ (x : View). x.working) told.after ∙ (ap (λ (pl : Place). working_stored (number (extent_of w.shape)) v.working pl 0 deinit) (place_at-number (extent_of w.shape) (Next s) below)
         ∙ ap (λ (x : Working). record x { stored = but_at (number (extent_of w.shape)) (number (extent_of w.shape) (Next s)) x.stored; entered = record { slot = s; parent = None; next_field = 0 } ∷ x.entered }) is) in
         subst (λ (b : CascadeAt). Comes w v st deinit found v' (told.between ++ v.seen) (dying w s b e) (turned_at (Some found) (dying w s ats.Entering e) (quiet t))) at
-        (on st found v' told none (turned_at (Some found) (dying w s ats.Entering e) (quiet t)) ats.Naming (subst (λ b. takes_at (Some found) (dying w s b e)) (sym at) (λ x. cc)) refl refl refl refl (refl, refl)
+        (on st found v' told none (turned_at (Some found) (dying w s ats.Entering e) (quiet t)) ats.Naming (subst (λ b. takes_at w.shape (Some found) (dying w s b e)) (sym at) (λ x. cc)) refl refl refl refl (refl, refl)
         (record { working = works; duty = owes_then st found v' told none; rests = tt }) (nothing_shown w.shape (extent_of w.shape) st deinit found w.thread None (told.between ++ v.seen) tt tt))
 
     -- ---- it reads the name
@@ -221,36 +211,13 @@ module _ (w : Work) (t : Thread) (v : View) (s : ℕ) (a : CascadeAt) (e : Optio
       abbrev h_name : History
       h_name = told.between ++ v.seen
 
-      there : at_slot s (heap_after h_name) ≡ Some met_name.0
-      there = slot_found w.shape h_name (owes_then ReadName found v' told refl).place s met_name.0 met_name.4 met_name.1 met_name.2
-
-      word : found ≡ isa_word_of (name_of met_name.0)
-      word = subst (λ m. ShowsName m found) there ((told.read (Isa s) tt below refl).says (λ u. u))
-
-      fits : IsName (name_of met_name.0)
-      fits = is_name w.shape h_name (owes_then ReadName found v' told refl).place met_name.0 f.sized met_name.5 met_name.1
-
-      name_is : name_of met_name.0 ≡ isa_name_of found
-      name_is = name_back (name_of met_name.0) fits ∙ ap isa_name_of (sym word)
-
-      isa_takes : NamesClass w.shape (Some found)
-      isa_takes = (subst IsIsaWord (sym word) (is_isa (name_of met_name.0) fits), subst (λ (n : ObjectName). n.class < length w.shape.classes) name_is (met_name.5.classes (owes_then ReadName found v' told refl).place met_name.0 met_name.1).0)
-
-      deinit_inj : (x y : ℕ) → intents.Deinit x ≡ intents.Deinit y → x ≡ y
-      deinit_inj x y e = cc
-
-      shown : WordsHold Judged w.shape (extent_of w.shape) (Some (ReadName, deinit)) (Some found) w.thread None h_name
-      shown = record {
-        names = λ slot x asked last.
-            let same : s ≡ slot = deinit_inj s slot (ap (λ (x : Step × Intent). x.1) (Some-inj asked)) in
-            subst (λ (p : ℕ × ℕ). option_map name_of (at_slot p.0 (heap_after h_name)) ≡ Some (isa_name_of p.1)) (λ j. (same j, Some-inj last j)) (ap (option_map name_of) there ∙ ap Some name_is);
-        entries = λ slot x new c e. absurd (None≢Some (acts.Finish slot true) e);
-      }
+      read : NameRead w.shape s found h_name
+      read = name_read w.shape h_name (owes_then ReadName found v' told refl).place s found met_name.0 f.sized met_name.4 met_name.5 met_name.1 met_name.2 ((told.read (Isa s) tt below refl).says (λ u. u))
 
       pub names : a ≡ ats.Naming → v.working ≡ entered s → Comes w v ReadName deinit found v' h_name (dying w s a e) (turned_at (Some found) (dying w s ats.Naming e) (quiet t))
       names at is =
-          on ReadName found v' told refl (turned_at (Some found) (dying w s ats.Naming e) (quiet t)) ats.Leaving (subst (λ b. takes_at (Some found) (dying w s b e)) (sym at) isa_takes) refl refl refl refl (refl, refl)
-          (record { working = works_on (Isa s) found v' told below (λ x. refl) ∙ is; duty = owes_then ReadName found v' told refl; rests = tt }) shown
+          on ReadName found v' told refl (turned_at (Some found) (dying w s ats.Naming e) (quiet t)) ats.Leaving (subst (λ b. takes_at w.shape (Some found) (dying w s b e)) (sym at) read.takes) refl refl refl refl (refl, refl)
+          (record { working = works_on (Isa s) found v' told below (λ x. refl) ∙ is; duty = owes_then ReadName found v' told refl; rests = tt }) (name_shown w.shape (extent_of w.shape) s found w.thread deinit h_name read.named)
 
     -- ---- it reads the next word
     abbrev ReadNext : Step
@@ -263,7 +230,7 @@ module _ (w : Work) (t : Thread) (v : View) (s : ℕ) (a : CascadeAt) (e : Optio
         → Comes w v ReadNext deinit found v' (told.between ++ v.seen) (dying w s a e) (turned_at (Some found) (dying w s ats.Leaving e) (quiet t))
     leaves found v' told at is =
         let kept : Each (IsKeptAt w.shape (Next s) found) (private_words (entered s)) = subst (λ (x : Working). Each (IsKeptAt w.shape (Next s) found) (private_words x)) is (told.read (Next s) tt below refl).private in
-        on ReadNext found v' told refl (turned_at (Some found) (dying w s ats.Leaving e) (quiet t)) (fin attempt.Loading) (subst (λ b. takes_at (Some found) (dying w s b e)) (sym at) (ap Some (kept.0 refl))) refl refl refl refl (refl, (refl, refl))
+        on ReadNext found v' told refl (turned_at (Some found) (dying w s ats.Leaving e) (quiet t)) (fin attempt.Loading) (subst (λ b. takes_at w.shape (Some found) (dying w s b e)) (sym at) (ap Some (kept.0 refl))) refl refl refl refl (refl, (refl, refl))
         (record { working = works_on (Next s) found v' told below (λ x. refl) ∙ is; duty = owes_then ReadNext found v' told refl; rests = tt }) (nothing_shown w.shape (extent_of w.shape) ReadNext deinit found w.thread None (told.between ++ v.seen) (next_no_name (extent_of w.shape) s s) tt)
 
     -- ---- it loads the count
@@ -297,7 +264,7 @@ module _ (w : Work) (t : Thread) (v : View) (s : ℕ) (a : CascadeAt) (e : Optio
           by o (counts c some word ends unowned none) =
               let row : unowned_down_row (unpacked found) ≡ Write (counts_word (unowned_less c)) = ap unowned_down_row some in
               let fits : IsCountWord w.shape.entries (λ c. c.deiniting ≡ false → 2 ≤ c.unowned) (unpacked found) = subst (IsCountWord w.shape.entries (λ c. c.deiniting ≡ false → 2 ≤ c.unowned)) (sym some) (unowned, λ live. absurd (true≢false (sym ends ∙ live))) in
-              let takes : takes_at (Some found) (dying w s a e) = subst (λ b. takes_at (Some found) (dying w s b e)) (sym at) (fits, served) in
+              let takes : takes_at w.shape (Some found) (dying w s a e) = subst (λ b. takes_at w.shape (Some found) (dying w s b e)) (sym at) (fits, served) in
               let new = counts_word (unowned_less c) in
               let u : Thread = dying_on (Turned (Write new)) (finish_says (here_at (fin attempt.Loading)) (chosen (number (extent_of w.shape) (Count s)) found (Write new))) (record (quiet t) { event = (Turned (Write new)).event }) in
               let done : Loaded (Write new) = on ReadCount found v' told refl u (fin (attempt.Exchanging found new)) takes refl refl refl refl (refl, (refl, refl))
@@ -315,8 +282,8 @@ module _ (w : Work) (t : Thread) (v : View) (s : ℕ) (a : CascadeAt) (e : Optio
       abbrev Swapped : UnownedDownAnswer → Type 0
       Swapped answer = Comes w v (Swap seen new) deinit found v' h_swap (dying w s a e) (dying_on (TurnedTo answer) (finish_says (here_at (fin (attempt.Exchanging seen new))) (nexts.Done answer)) (record (quiet t) { event = (TurnedTo answer).event }))
 
-      takes_swap : takes_at (Some found) (dying w s a e)
-      takes_swap = subst (λ b. takes_at (Some found) (dying w s b e)) (sym at) ((λ x. cc), tt)
+      takes_swap : takes_at w.shape (Some found) (dying w s a e)
+      takes_swap = subst (λ b. takes_at w.shape (Some found) (dying w s b e)) (sym at) ((λ x. cc), tt)
 
       missed : found ≢ seen → Swapped (downs.Again (record { seen = seen; found = found }))
       missed ne =
@@ -386,7 +353,7 @@ module _ (w : Work) (t : Thread) (v : View) (s : ℕ) (a : CascadeAt) (e : Optio
             takes_it = takes_swap;
             event = act ∙ sym walk.event;
             holds = subst (λ (x : Option Act). WordsHold Judged w.shape (extent_of w.shape) (Some (Swap seen new, deinit)) (Some found) w.thread x h_swap) (sym walk.event)
-                (record { names = λ slot x asked. absurd (no_load seen new slot asked); entries = λ slot x n c e. absurd (cc) });
+                (nothing_shown w.shape (extent_of w.shape) (Swap seen new) deinit found w.thread (Some (acts.Finish s false)) h_swap tt tt);
             count = walk.count ∙ f.count;
             owns = owns_end same false act u.hands (references u.vars u.hands u.doing) walk.hands walk.same;
             no_claim = no_claim_end same false act;
@@ -399,7 +366,7 @@ module _ (w : Work) (t : Thread) (v : View) (s : ℕ) (a : CascadeAt) (e : Optio
       last_one same c word act = record {
         takes_it = takes_swap;
         event = act;
-        holds = record { names = λ slot x asked. absurd (no_load seen new slot asked); entries = entry_none };
+        holds = no_entry_shown w.shape (extent_of w.shape) s seen new found w.thread deinit (acts.Finish s true) h_swap entry_none;
         count = f.count;
         owns = owns_end same true act t.hands (references t.vars t.hands (dying w s (ats.Vacating (record { layout = extent_of w.shape; slot = s; at = once.Asked })) (Some (acts.Finish s true)))) refl (λ g. omega arith);
         no_claim = no_claim_end same true act;
@@ -442,13 +409,8 @@ module _ (w : Work) (t : Thread) (v : View) (s : ℕ) (a : CascadeAt) (e : Optio
             bare = λ e. bare_then;
           }
 
-          finish_inj : (x y : ℕ) → Some (acts.Finish x true) ≡ Some (acts.Finish y true) → x ≡ y
-          finish_inj x y e = cc
-
-          entry_none : (slot x n : ℕ) (k : Inline) → Some (acts.Finish s true) ≡ Some (acts.Finish slot true) → Path (Option (Step × Intent)) (Some (Swap seen new, deinit)) (Some (Exchange (number (extent_of w.shape) (Count slot)) x n, intents.Deinit slot)) → Some found ≡ Some x → unpacked x ≡ Some (Counts k)
-              → option_map (λ (o : Object). o.entry) (at_slot slot (heap_after (record { thread = w.thread; act = acts.Finish s true } ∷ h_swap))) ≡ Some None
-          entry_none slot x n k ev asked last un =
-              subst (λ (p : ℕ × ℕ). option_map (λ (o : Object). o.entry) (at_slot p.0 (heap_after (record { thread = p.1; act = acts.Finish s true } ∷ h_swap))) ≡ Some None) (λ j. (finish_inj s slot ev j, f.number j))
+          entry_none : option_map (λ (o : Object). o.entry) (at_slot s (heap_after (record { thread = w.thread; act = acts.Finish s true } ∷ h_swap))) ≡ Some None
+          entry_none = subst (λ (p : ℕ). option_map (λ (o : Object). o.entry) (at_slot s (heap_after (record { thread = p; act = acts.Finish s true } ∷ h_swap))) ≡ Some None) f.number
               (ap (option_map (λ (o : Object). o.entry)) (slot_found w.shape (event same true act ∷ h_swap) owes.place s r.q (legal same true act) r.here slot_then) ∙ ap Some bare_then)
 
       -- by the counts that it found
@@ -469,74 +431,3 @@ module _ (w : Work) (t : Thread) (v : View) (s : ℕ) (a : CascadeAt) (e : Optio
 
       pub swaps : IsDown Unowned (Count s) seen new → Swapped (answer_by (found == seen))
       swaps down = dite (ℕ_discrete found seen) (λ x. subst (λ b. Swapped (answer_by b)) (sym (eq-eqb found seen x)) (hit x down)) (λ ne. subst (λ b. Swapped (answer_by b)) (sym (ne_eqb found seen ne)) (missed ne))
-
-  -- ---- it vacates the slot
-  module _ (owes : OwesOne v Vacating s) (is : v.working ≡ idle) where
-    abbrev Clear : Step
-    Clear = And (number (extent_of w.shape) (SlotBits (s / 64))) (but_bit_of s)
-
-    inside : s < w.shape.slots
-    inside = (each_at (IsWithin w.shape) (heap_of v).objects owes.place owes.object f.in_shape.within owes.here).0 s owes.slot
-
-    word_in : s / 64 < words_of w.shape.slots
-    word_in = let b = inside in omega arith
-
-    pub vacate_allowed : Admits w.shape v Clear intents.Vacate
-    vacate_allowed = (SlotBits (s / 64), refl, word_in, ap (λ (x : Working). x.owes) is, (s, owes.place, owes.object, refl, inside, refl, owes.here, owes.slot, owes.owes))
-
-    module _ (found : ℕ) (v' : View) (told : Told w.shape intents.Vacate Clear v found v') where
-      abbrev h_left : History
-      h_left = told.between ++ v.seen
-
-      abbrev left : Act
-      left = acts.Vacate s
-
-      abbrev event_left : Event
-      event_left = record { thread = v.number; act = left }
-
-      act_is : act_of w.shape v Clear intents.Vacate found ≡ Some left
-      act_is = ap (λ (u : Place). and_act u (but_bit_of s) intents.Vacate) (place_at-number (extent_of w.shape) (SlotBits (s / 64)) word_in) ∙ ap (λ n. Some (acts.Vacate n)) (thing_left_but s)
-
-      called_left : Called w.shape (left ∷ []) 1 v v'
-      called_left = told_by w.shape intents.Vacate Clear v found v' (Some left) act_is told
-
-      seen_is_left : v'.seen ≡ event_left ∷ h_left
-      seen_is_left = ap (λ (x : View). x.seen) told.after ∙ ap (λ b. event_list v.number b ++ h_left) act_is
-
-      number_is_left : v'.number ≡ v.number
-      number_is_left = ap (λ (x : View). x.number) told.after
-
-      legal_left : IsLegal w.shape (event_left ∷ h_left)
-      legal_left = subst (IsLegal w.shape) seen_is_left told.legal
-
-      m_left : OwedLater owes.place owes.object h_left
-      m_left = owed_stays w.shape v.number owes.place Vacating owes.object v.seen told.between legal_left.1 told.others owes.here owes.owes
-
-      bare_left : m_left.q.entry ≡ None
-      bare_left = none_stays w.shape v.number owes.place owes.object m_left.q v.seen told.between f.sized.caps_fit.unowned_fits.0 legal_left.1 told.others owes.here owes.owes (owes.bare refl) m_left.here
-
-      duties_left : (j : ℕ) → duty_of v'.number j (heap_of v') ≡ cond (passes_at (in_slot s) j (heap_after h_left)) (cond (is_some (entry_in (slice_get (heap_after h_left).objects j))) (Some Gone) None) (duty_of v.number j (heap_after h_left))
-      duties_left j = (λ k. duty_of (number_is_left k) j (heap_after (seen_is_left k))) ∙ own_duties w.shape h_left event_left j legal_left
-
-      none_left : (j : ℕ) → duty_of v'.number j (heap_of v') ≡ None
-      none_left j = dite (ℕ_discrete j owes.place)
-          (λ x. ap (λ k. duty_of v'.number k (heap_of v')) x ∙ (duties_left owes.place ∙ ((λ k. cond ((ap (passes (in_slot s)) m_left.here ∙ slot_is m_left.q s (m_left.slot ∙ owes.slot)) k) (cond (is_some (entry_in (m_left.here k))) (Some Gone) None) (duty_of v.number owes.place (heap_after h_left))) ∙ ap (λ n. cond (is_some n) (Some Gone) None) bare_left)))
-          (λ ne. duties_left j ∙ (ap (λ b. cond b (cond (is_some (entry_in (slice_get (heap_after h_left).objects j))) (Some Gone) None) (duty_of v.number j (heap_after h_left))) (not_in w.shape h_left s owes.place j m_left.q legal_left.1 m_left.here (m_left.slot ∙ owes.slot) ne)
-          ∙ ((others_leave w.shape v.number v.seen told.between legal_left.1 told.others).duties j ∙ owes.alone j ne)))
-
-      abbrev q : Thread
-      q = record (quiet t) { event = Some left }
-
-      pub vacates : a ≡ ats.Vacating (record { layout = extent_of w.shape; slot = s; at = once.Asked }) → Comes w v Clear intents.Vacate found v' h_left (dying w s a e) (next_op q)
-      vacates at =
-          let u : Thread = next_op q in
-          let walk = next_walks w.shape q f.is_for f.stepper.vars_fit in record {
-            takes_it = subst (λ b. takes_at (Some found) (dying w s b e)) (sym at) tt;
-            event = act_is ∙ sym walk.event;
-            holds = subst (λ (x : Option Act). WordsHold Judged w.shape (extent_of w.shape) (Some (Clear, intents.Vacate)) (Some found) w.thread x h_left) (sym walk.event) (nothing_shown w.shape (extent_of w.shape) Clear intents.Vacate found w.thread (Some left) h_left tt tt);
-            count = walk.count ∙ f.count;
-            owns = subst (λ n. Owns v' n (references u.vars u.hands u.doing)) (sym walk.hands) (owns_on w.shape 1 left v v' t.hands (references t.vars t.hands (dying w s a e)) (references u.vars u.hands u.doing) called_left (λ k. refl) refl f.owns (λ g. let x = walk.same g in omega arith));
-            no_claim = claims_on w.shape 1 left v v' called_left (λ m n. refl) f.no_claim;
-            asks = walk.asks;
-            under_way = fresh_under w.shape v' u.doing walk.fresh (ap (λ (x : View). x.working) told.after ∙ (ap (λ (u : Place). working_and (number (extent_of w.shape)) v.working u (but_bit_of s) intents.Vacate) (place_at-number (extent_of w.shape) (SlotBits (s / 64)) word_in) ∙ is)) none_left;
-          }

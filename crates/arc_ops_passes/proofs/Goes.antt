@@ -3,7 +3,6 @@ use Rattle.std.proofs.Common.{◌≡◌, ℕ, zero, ◌+◌, ◌&&◌, Bool, tru
 use Rattle.arc_model.specs.declared.event.Act.{Act}
 use Rattle.arc_model.specs.declared.event.Act.TheVariants as acts
 use Rattle.arc_model.specs.Shapes.{HeapShape}
-use Rattle.arc_model.specs.declared.shape.Kind.TheVariants.{Strong}
 use Rattle.arc_model.specs.Heaps.{Hand}
 use Rattle.arc_model.specs.Holders.{is_number, is_claimed_by}
 use Rattle.arc_model.specs.History.{History, heap_after, next_hand, is_of, share, IsLegal}
@@ -23,6 +22,10 @@ use Rattle.arc_rule.specs.declared.step.Step.TheVariants as steps
 use Rattle.arc_rule.specs.declared.step.Intent.{Intent}
 use Rattle.arc_rule.specs.declared.step.Intent.TheVariants as intents
 use Rattle.arc_model.proofs.Basics.{Some-inj}
+use Rattle.arc_rule.specs.declared.attempt.At.{At as AttemptAt}
+use Rattle.arc_rule.specs.declared.attempt.At.TheVariants as attempt
+use Rattle.arc_plan.specs.declared.slots.Once.{Once}
+use Rattle.arc_plan.specs.declared.slots.Once.TheVariants as once
 use Rattle.arc_plan.specs.declared.slots.Making.{Making as Search}
 use Rattle.arc_plan.specs.declared.slots.Making.TheVariants as search
 use Rattle.arc_programs.specs.Programs.{made_of, makes}
@@ -31,9 +34,13 @@ use Rattle.arc_ops.specs.declared.stepper.Doing.{Doing}
 use Rattle.arc_ops.specs.declared.stepper.Doing.TheVariants as doings
 use Rattle.arc_ops.specs.declared.stepper.Move.{Move}
 use Rattle.arc_ops.specs.declared.stepper.Move.TheVariants as moves
-use Rattle.arc_ops.specs.Thread.{Thread, IsStepper, IsUnderWay, IsInOperation, takes_at, takes, turned}
-use Rattle.arc_spelled.specs.StepperStands.{Work, IsServedWork, StepperUpTo, step_in}
-use Rattle.arc_spelled.specs.Shown.{Adds}
+use Rattle.arc_ops.specs.Thread.{Thread}
+use Rattle.arc_ops.specs.Turns.{turned}
+use Rattle.arc_ops.specs.Takes.{takes_at, takes}
+use Rattle.arc_ops.specs.Steppers.{IsStepper, IsUnderWay, IsInOperation}
+use Rattle.arc_spelled.specs.StepperStands.{Work, IsServedWork, AreOfKinds, StepperUpTo, step_in}
+use Rattle.arc_ops.specs.Plans.{list_of}
+use Rattle.arc_spelled.specs.Shown.{Adds, IsNamedFor, deinit, line, TakesLast, finish, drop}
 use Rattle.arc_spelled.specs.Spelled.{with_event_of, WordsHold}
 use Rattle.arc_spelled.proofs.StepperKeeps.{stepper_goes_on}
 use Rattle.arc_spelled.proofs.SteppersSpell.{added_notes_are_tied}
@@ -49,10 +56,10 @@ use Rattle.arc_view_laws.specs.Hands.{Moves}
 use Rattle.arc_view_laws.proofs.Growing.{acts_of, told_called}
 use Rattle.arc_view_laws.proofs.Moving.{moved, moved_none}
 use Rattle.arc_ops_passes.specs.References.{references, Owns}
-use Rattle.arc_ops_passes.specs.Drives.{Asks, MayGoUp, MayGoDown, search_works, OwesNothing, Searched, UnderWay, Drives}
+use Rattle.arc_ops_passes.specs.Drives.{Asks, AttemptAsks, OnceAsks, MayGoUp, MayGoDown, search_works, OwesNothing, Searched, UnderWay, Drives}
 use Rattle.arc_ops_passes.specs.Laws.{GoesOn}
 use Rattle.arc_ops_passes.proofs.Walks.{IsFor, IsFresh, IsFreshSearch}
-use Rattle.arc_ops_passes.proofs.Owned.{leads_on, owns_stay}
+use Rattle.arc_ops_passes.proofs.Owned.{leads_still, leads_on, owns_stay}
 
 -- the thread as it is while its turn is worked out
 abbrev pub quiet : Thread → Thread
@@ -69,6 +76,7 @@ pub record Facts (w : Work) (t : Thread) (v : View) (d : Doing) : Type 0 where
   pub in_shape : InShape w.shape v.seen
   pub number : v.number ≡ w.thread
   pub count : length t.vars ≡ w.count
+  pub kinds : AreOfKinds w.kinds t.vars
   pub next : next_hand v.number v.seen ≡ t.hands + 1
   pub made : news v.number v.seen ≡ t.made
   pub fits : IsUnderWay t.layout t.shape (length t.vars) d
@@ -83,7 +91,7 @@ pub record Facts (w : Work) (t : Thread) (v : View) (d : Doing) : Type 0 where
 
 -- what a step leaves: the history h was met, and u is what the stepper is then
 pub record Comes (w : Work) (v : View) (step : Step) (intent : Intent) (found : ℕ) (v' : View) (h : History) (d : Doing) (u : Thread) : Type 0 where
-  pub takes_it : takes_at (Some found) d
+  pub takes_it : takes_at w.shape (Some found) d
   pub event : act_of w.shape v step intent found ≡ u.event
   pub holds : WordsHold Judged w.shape (extent_of w.shape) (Some (step, intent)) (Some found) w.thread u.event h
   pub count : length u.vars ≡ w.count
@@ -153,6 +161,7 @@ facts w t v served stepper sized d = record {
   in_shape = d.in_shape;
   number = d.number;
   count = d.count;
+  kinds = d.stands.works.kinds;
   next = ap (λ p. next_hand p v.seen) d.number ∙ (hands_are Judged w.shape w.thread d.notes v.seen d.tied ∙ ap (λ n. n + 1) (sym d.stands.counts.hands_are));
   made = ap (λ p. news p v.seen) d.number ∙ (made_are Judged w.shape w.thread d.notes v.seen d.tied ∙ sym d.stands.counts.made_is);
   fits = stepper.under_way;
@@ -177,14 +186,15 @@ pub goes_on : (w : Work) (t : Thread) (v : View) (step : Step) (intent : Intent)
 goes_on w t v step intent found v' served d asked told c =
     let u : Thread = turned t (Some found) in
     let h = told.between ++ v.seen in
-    let g = stepper_goes_on w served t (Some found) d.notes d.stands c.takes_it in
+    let takes_it : takes t (Some found) = subst (λ (s : HeapShape). takes_at s (Some found) t.doing) (sym d.stands.works.shape_is) c.takes_it in
+    let g = stepper_goes_on w served t (Some found) d.notes d.stands takes_it in
     let others : share told.between w.thread ≡ [] = ap (share told.between) (sym d.number) ∙ told.others in
     let before : Ties Judged w.shape w.thread d.notes h = ties_others Judged w.shape w.thread d.notes v.seen told.between others d.tied in
     let adds : Adds (extent_of w.shape) (Some (step, intent)) (Some found) u.event d.notes g.after = subst (λ (m : Move). Adds (extent_of w.shape) (step_in m) (Some found) u.event d.notes g.after) asked g.adds in
     let tied : Ties Judged w.shape w.thread g.after (with_event_of w.thread u.event h) = added_notes_are_tied Judged w.shape (extent_of w.shape) (Some (step, intent)) (Some found) w.thread u.event h d.notes g.after adds c.holds before in
     let seen : v'.seen ≡ with_event_of w.thread u.event h =
     ap (λ (x : View). x.seen) told.after ∙ ((λ j. event_list (d.number j) (c.event j) ++ h) ∙ sym (event_is w.thread u.event h)) in record {
-      takes_it = c.takes_it;
+      takes_it = takes_it;
       drives = record {
         pass = ap (λ (x : View). x.role) told.after ∙ d.pass;
         number = ap (λ (x : View). x.number) told.after ∙ d.number;
@@ -202,13 +212,33 @@ goes_on w t v step intent found v' served d asked told c =
       event = sym c.event;
     }
 
--- ---- parts of what a step leaves
-
 move_inj : (a b : Step) (i j : Intent) → moves.Step a i ≡ moves.Step b j → (a ≡ b) × (i ≡ j)
 move_inj a b i j e = (cc, cc)
 
 pub asked_is : (m : Move) (a b : Step) (i j : Intent) → m ≡ moves.Step a i → m ≡ moves.Step b j → (a ≡ b) × (i ≡ j)
 asked_is m a b i j e f = move_inj a b i j (sym e ∙ f)
+
+-- ---- what holds of the step that a plan waits for holds of the one that was asked for
+
+pub as_asked : (m : Move) (C : Step × Intent → Type 0) (step waits : Step) (intent its : Intent) → m ≡ moves.Step waits its → m ≡ moves.Step step intent → C (waits, its) → C (step, intent)
+as_asked m C step waits intent its ask asked x = let e = asked_is m waits step its intent ask asked in subst C (λ j. (e.0 j, e.1 j)) x
+
+-- an attempt on the inline word of a slot
+pub attempt_asked : (shape : HeapShape) (m : Move) (s : ℕ) (its : Intent) (C : AttemptAt → Step × Intent → Type 0) (step : Step) (intent : Intent) → m ≡ moves.Step step intent → C attempt.Loading (steps.Load (number (extent_of shape) (Count s)), its)
+    → ((seen new : ℕ) → C (attempt.Exchanging seen new) (steps.Exchange (number (extent_of shape) (Count s)) seen new, its)) → (a : AttemptAt) → AttemptAsks shape m s its a → C a (step, intent)
+attempt_asked shape m s its C step intent asked loads exchanges attempt.Start ask = absurd ask
+attempt_asked shape m s its C step intent asked loads exchanges attempt.Loading ask = as_asked m (C attempt.Loading) step (steps.Load (number (extent_of shape) (Count s))) intent its ask asked loads
+attempt_asked shape m s its C step intent asked loads exchanges (attempt.Exchanging seen new) ask =
+    as_asked m (C (attempt.Exchanging seen new)) step (steps.Exchange (number (extent_of shape) (Count s)) seen new) intent its ask asked (exchanges seen new)
+attempt_asked shape m s its C step intent asked loads exchanges attempt.Ended ask = absurd ask
+
+-- a plan of one step
+pub once_asked : (m : Move) (only : Step) (its : Intent) (C : Once → Step × Intent → Type 0) (step : Step) (intent : Intent) → m ≡ moves.Step step intent → C once.Asked (only, its) → (a : Once) → OnceAsks m only its a → C a (step, intent)
+once_asked m only its C step intent asked makes once.Start ask = absurd ask
+once_asked m only its C step intent asked makes once.Asked ask = as_asked m (C once.Asked) step only intent its ask asked makes
+once_asked m only its C step intent asked makes once.Ended ask = absurd ask
+
+-- ---- parts of what a step leaves
 
 pub told_by : (shape : HeapShape) (intent : Intent) (st : Step) (v : View) (found : ℕ) (w : View) (a : Option Act) → act_of shape v st intent found ≡ a → Told shape intent st v found w → Called shape (acts_of a) 1 v w
 told_by shape intent st v found w a is t = subst (λ b. Called shape (acts_of b) 1 v w) is (told_called shape intent st v found w t)
@@ -225,9 +255,11 @@ fresh_under shape v (doings.Making to name plan) fresh works none = at plan.at f
     at (search.Counting s) f = absurd f
     at (search.Naming s) f = absurd f
     at search.Ended f = absurd f
-fresh_under shape v (doings.Copying to held plan) fresh works none = (record { working = works; none = none }, subst (MayGoUp shape held.place) (sym fresh) tt)
-fresh_under shape v (doings.Dropping held plan) fresh works none = (record { working = works; none = none }, subst (MayGoDown Strong held.place) (sym fresh) tt)
+fresh_under shape v (doings.Gaining gain to from plan) fresh works none = (record { working = works; none = none }, subst (MayGoUp shape (list_of gain from) from.place) (sym fresh) tt)
+fresh_under shape v (doings.Naming to held plan) fresh works none = absurd fresh
+fresh_under shape v (doings.Dropping held plan) fresh works none = (record { working = works; none = none }, subst (MayGoDown held.kind held.place) (sym fresh) tt)
 fresh_under shape v (doings.Dying c) fresh works none = absurd fresh
+fresh_under shape v (doings.Vacating slot plan) fresh works none = absurd fresh
 fresh_under shape v doings.Ended fresh works none = record { working = works; none = none }
 
 -- a step of no event leaves what the pass has
@@ -238,7 +270,7 @@ pub claims_still : (shape : HeapShape) (n : ℕ) (v w : View) → Called shape [
 claims_still shape n v w c none e has = none e (sym ((moved_none shape n v w c).claims e) ∙ has)
 
 pub owns_still : (shape : HeapShape) (k : ℕ) (v w : View) (n : ℕ) (L M : (Held → ℕ) → ℕ) → Called shape [] k v w → Owns v n L → ((f : Held → ℕ) → M f ≡ L f) → Owns w n M
-owns_still shape k v w n L M c o same = owns_stay v w n L M o same (λ h. leads_on shape [] k v w h c tt) (moved_none shape k v w c).hands
+owns_still shape k v w n L M c o same = owns_stay v w n L M o same (λ h. leads_still shape k v w h c) (moved_none shape k v w c).hands
 
 -- so does an event that changes no duty, and one that changes no claim
 pub owes_on : (shape : HeapShape) (n : ℕ) (a : Act) (v w : View) → Called shape (a ∷ []) n v w → ((i : ℕ) (h : History) → owed_next v.number a i (heap_after h) ≡ duty_of v.number i (heap_after h)) → OwesNothing v → OwesNothing w
@@ -251,25 +283,36 @@ claims_on shape n a v w c leaves none e has = let m = moved shape a n v w c in n
 pub owns_on : (shape : HeapShape) (k : ℕ) (a : Act) (v w : View) (n : ℕ) (L M : (Held → ℕ) → ℕ) → Called shape (a ∷ []) k v w → ((h : ℕ) → ends_hand h a ≡ false) → brings_hand a ≡ None → Owns v n L → ((f : Held → ℕ) → M f ≡ L f) → Owns w n M
 owns_on shape k a v w n L M c ends brings o same =
     let m = moved shape a k v w c in
-    owns_stay v w n L M o same (λ h. leads_on shape (a ∷ []) k v w h c (ends h.hand, tt))
+    owns_stay v w n L M o same (λ h. leads_on shape a k v w h c (ends h.hand))
     (λ h. m.hands h ∙ (λ j. cond (ends h j) None (cond (is_number (brings j) h) (brought (heap_after m.met) v.number a) (spot (Hand v.number h) (heap_of v)))))
 
 -- ---- what a word shows of the heap
 
--- the step is no deinit's load of a name
+-- the step is no load of a name
 abbrev pub ReadsNoName : Extent → Step → Intent → Type 0
 ReadsNoName l (steps.Load place) (intents.Deinit slot) = (s : ℕ) → place ≡ number l (Isa s) → ⊥
+ReadsNoName l (steps.Load place) intents.Look = ⊥
 ReadsNoName l _ _ = Unit {0}
 
-abbrev pub EndsNoDeinit : Option Act → Type 0
-EndsNoDeinit (Some (acts.Finish s last)) = ⊥
-EndsNoDeinit _ = Unit {0}
+-- the event takes the last of no list
+abbrev pub TakesNoLast : Option Act → Type 0
+TakesNoLast (Some (acts.Finish s true)) = ⊥
+TakesNoLast (Some (acts.Drop k true)) = ⊥
+TakesNoLast _ = Unit {0}
 
-pub nothing_shown : (shape : HeapShape) (l : Extent) (asked : Step) (intent : Intent) (last p : ℕ) (event : Option Act) (h : History) → ReadsNoName l asked intent → EndsNoDeinit event
+no_name : (l : Extent) (slot : ℕ) (intent : Intent) → IsNamedFor slot intent → ReadsNoName l (steps.Load (number l (Isa slot))) intent → ⊥
+no_name l slot intent deinit reads = reads slot refl
+no_name l slot intent line reads = reads
+
+no_last : (slot : ℕ) (act : Act) (intent : Intent) → TakesLast slot act intent → TakesNoLast (Some act) → ⊥
+no_last slot act intent finish none = none
+no_last slot act intent drop none = none
+
+pub nothing_shown : (shape : HeapShape) (l : Extent) (asked : Step) (intent : Intent) (last p : ℕ) (event : Option Act) (h : History) → ReadsNoName l asked intent → TakesNoLast event
     → WordsHold Judged shape l (Some (asked, intent)) (Some last) p event h
-nothing_shown shape l asked intent last p event h no_name no_end = record {
-  names = λ slot w a is. absurd (subst (λ (x : Step × Intent). ReadsNoName l x.0 x.1) (Some-inj a) no_name slot refl);
-  entries = λ slot w new c e a is counts. absurd (subst EndsNoDeinit e no_end);
+nothing_shown shape l asked intent last p event h no_name_read no_end = record {
+  names = λ slot w i a named is. absurd (no_name l slot i named (subst (λ (x : Step × Intent). ReadsNoName l x.0 x.1) (Some-inj a) no_name_read));
+  entries = λ slot w new act i c e a takes is counts. absurd (no_last slot act i takes (subst TakesNoLast e no_end));
 }
 
 pub count_no_name : (l : Extent) (s i : ℕ) → ReadsNoName l (steps.Load (number l (Count s))) (intents.Deinit i)
@@ -280,17 +323,25 @@ next_no_name l s i x e = omega arith
 
 -- ---- a step of no event after which the stepper goes on to this
 
-pub stays : (w : Work) (t : Thread) (v : View) (step : Step) (intent : Intent) (found : ℕ) (v' : View) (d : Doing) (u : Thread) (told : Told w.shape intent step v found v') → Facts w t v d → takes_at (Some found) d → act_of w.shape v step intent found ≡ None → u.event ≡ None
-    → ReadsNoName (extent_of w.shape) step intent → u.hands ≡ t.hands → length u.vars ≡ length t.vars → ((f : Held → ℕ) → references u.vars u.hands u.doing f ≡ references t.vars t.hands d f) → Asks w.shape u u.doing → UnderWay w.shape v' u.doing
-    → Comes w v step intent found v' (told.between ++ v.seen) d u
-stays w t v step intent found v' d u told f takes act event no_name hands count same asks under =
+-- the word that is read shows this
+pub stays_shown : (w : Work) (t : Thread) (v : View) (step : Step) (intent : Intent) (found : ℕ) (v' : View) (d : Doing) (u : Thread) (told : Told w.shape intent step v found v') → Facts w t v d → takes_at w.shape (Some found) d → act_of w.shape v step intent found ≡ None → u.event ≡ None
+    → WordsHold Judged w.shape (extent_of w.shape) (Some (step, intent)) (Some found) w.thread None (told.between ++ v.seen) → u.hands ≡ t.hands → length u.vars ≡ length t.vars → ((f : Held → ℕ) → references u.vars u.hands u.doing f ≡ references t.vars t.hands d f)
+    → Asks w.shape u u.doing → UnderWay w.shape v' u.doing → Comes w v step intent found v' (told.between ++ v.seen) d u
+stays_shown w t v step intent found v' d u told f takes act event holds hands count same asks under =
     let c = told_by w.shape intent step v found v' None act told in record {
       takes_it = takes;
       event = act ∙ sym event;
-      holds = nothing_shown w.shape (extent_of w.shape) step intent found w.thread u.event (told.between ++ v.seen) no_name (subst EndsNoDeinit (sym event) tt);
+      holds = subst (λ (x : Option Act). WordsHold Judged w.shape (extent_of w.shape) (Some (step, intent)) (Some found) w.thread x (told.between ++ v.seen)) (sym event) holds;
       count = count ∙ f.count;
       owns = subst (λ n. Owns v' n (references u.vars u.hands u.doing)) (sym hands) (owns_still w.shape 1 v v' t.hands (references t.vars t.hands d) (references u.vars u.hands u.doing) c f.owns same);
       no_claim = claims_still w.shape 1 v v' c f.no_claim;
       asks = asks;
       under_way = under;
     }
+
+-- it shows no name
+pub stays : (w : Work) (t : Thread) (v : View) (step : Step) (intent : Intent) (found : ℕ) (v' : View) (d : Doing) (u : Thread) (told : Told w.shape intent step v found v') → Facts w t v d → takes_at w.shape (Some found) d → act_of w.shape v step intent found ≡ None → u.event ≡ None
+    → ReadsNoName (extent_of w.shape) step intent → u.hands ≡ t.hands → length u.vars ≡ length t.vars → ((f : Held → ℕ) → references u.vars u.hands u.doing f ≡ references t.vars t.hands d f) → Asks w.shape u u.doing → UnderWay w.shape v' u.doing
+    → Comes w v step intent found v' (told.between ++ v.seen) d u
+stays w t v step intent found v' d u told f takes act event no_name_read =
+    stays_shown w t v step intent found v' d u told f takes act event (nothing_shown w.shape (extent_of w.shape) step intent found w.thread None (told.between ++ v.seen) no_name_read tt)

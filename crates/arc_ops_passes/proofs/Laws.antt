@@ -4,8 +4,6 @@ use Rattle.std.proofs.lemmas.List.{append-nil, length-replicate}
 use Rattle.std.specs.Prelude.{All}
 use Rattle.std.proofs.lemmas.List.Sums.{sum_by-cons}
 use Rattle.arc_model.specs.declared.event.Act.{Act}
-use Rattle.arc_model.specs.declared.event.ObjectName.{ObjectName}
-use Rattle.arc_model.specs.declared.event.Origin.TheVariants as origins
 use Rattle.arc_model.specs.Heaps.{Hand}
 use Rattle.arc_model.specs.Holders.{is_claimed_by}
 use Rattle.arc_model.specs.History.{History, heap_after, IsLegal}
@@ -18,20 +16,17 @@ use Rattle.arc_model.proofs.Basics.{None≢Some, true≢false}
 use Rattle.arc_model.proofs.Others.{others_leave, false-if}
 use Rattle.arc_model.proofs.SpellTies.{ties_others}
 use Rattle.arc_rule.specs.Places.{extent_of, number}
-use Rattle.arc_model.specs.Shapes.{class_at}
 use Rattle.arc_rule.specs.declared.layout.Place.TheVariants.{Count, Isa, Next, SlotBits}
 use Rattle.arc_rule.specs.declared.step.Step.{Step}
 use Rattle.arc_rule.specs.declared.step.Step.TheVariants.{Load, Exchange, Store, And}
 use Rattle.arc_rule.specs.declared.step.Intent.{Intent}
 use Rattle.arc_rule.specs.declared.step.Intent.TheVariants as intents
-use Rattle.arc_plan.specs.declared.attempt.At.{At as AttemptAt}
-use Rattle.arc_plan.specs.declared.attempt.At.TheVariants as attempt
-use Rattle.arc_plan.specs.declared.slots.Making.{Making as Search}
-use Rattle.arc_plan.specs.declared.slots.Making.TheVariants as search
+use Rattle.arc_rule.specs.declared.attempt.At.{At as AttemptAt}
+use Rattle.arc_rule.specs.declared.attempt.At.TheVariants as attempt
 use Rattle.arc_plan.specs.declared.slots.Once.{Once}
 use Rattle.arc_plan.specs.declared.slots.Once.TheVariants as once
 use Rattle.arc_plan.specs.Attempts.{Attempt}
-use Rattle.arc_plan.specs.Slots.{OneStep, looking, taking, counting, naming}
+use Rattle.arc_plan.specs.Slots.{OneStep}
 use Rattle.arc_rule.specs.Bits.{but_bit_of}
 use Rattle.arc_cells.specs.declared.cascade.At.{At as CascadeAt}
 use Rattle.arc_cells.specs.declared.cascade.At.TheVariants as ats
@@ -44,8 +39,12 @@ use Rattle.arc_ops.specs.declared.stepper.Move.TheVariants as moves
 use Rattle.arc_script.specs.declared.script.Op.{Op}
 use Rattle.arc_ops.specs.Programs.{program_of, vars_of, VarsFit}
 use Rattle.arc_ops.proofs.Made.{is_stepper}
-use Rattle.arc_ops.specs.Thread.{Thread, takes_at, turned_at, begun}
-use Rattle.arc_spelled.specs.StepperStands.{Work, StandsFor, step_in}
+use Rattle.arc_ops.specs.Thread.{Thread}
+use Rattle.arc_ops.specs.Begins.{begun}
+use Rattle.arc_ops.specs.Turns.{turned_at}
+use Rattle.arc_ops.specs.Takes.{takes_at}
+use Rattle.arc_spelled.specs.StepperStands.{Work, StandsFor, IsStep, step_in}
+use Rattle.arc_spelled.specs.StepperStands as spelled
 use Rattle.arc_spelled.specs.Shown.{Adds}
 use Rattle.arc_model.specs.Spelling.{Note}
 use Rattle.arc_spelled.specs.Spelled.{with_event_of, WordsHold}
@@ -58,13 +57,16 @@ use Rattle.arc_view.specs.Admission.{Admits}
 use Rattle.arc_view.specs.Steps.{Told}
 use Rattle.arc_view.specs.Passes.{HoldsNothing}
 use Rattle.arc_ops_passes.specs.References.{weigh, in_vars, references, is_ref, has_hand, Owns}
-use Rattle.arc_ops_passes.specs.Drives.{Asks, SearchAsks, AttemptAsks, CascadeAsks, VacateAsks, UnderWay, Drives}
+use Rattle.arc_ops_passes.specs.Drives.{Asks, UnderWay, Drives}
 use Rattle.arc_ops_passes.specs.Laws.{NewSteppersDrive, ScriptsNameVariables, PhasesAreDone, PhasesBegin, StepsAreAllowed, SteppersDriveOn, EndedSteppersHoldNothing, IsServedWord}
 use Rattle.arc_ops_passes.proofs.Walks.{begins_walks}
-use Rattle.arc_ops_passes.proofs.Goes.{quiet, Facts, Comes, facts, goes_on, asked_is, fresh_under}
+use Rattle.arc_ops_passes.proofs.Goes.{quiet, Facts, Comes, facts, goes_on, as_asked, fresh_under}
 use Rattle.arc_ops_passes.proofs.Owned.{owns_same}
 use Rattle.arc_ops_passes.proofs.Makes.{makes_allowed, makes_come}
-use Rattle.arc_ops_passes.proofs.Copies.{copies_allowed, copies_come}
+use Rattle.arc_ops_passes.proofs.Gains.{gains_allowed, gains_come}
+use Rattle.arc_ops_passes.proofs.Loads.{naming_allowed, naming_comes}
+use Rattle.arc_ops_passes.proofs.Vacates as vacates
+use Rattle.arc_ops_passes.proofs.Vacates.{vacating_allowed, vacating_comes}
 use Rattle.arc_ops_passes.proofs.Drops.{drops_allowed, drops_come}
 use Rattle.arc_ops_passes.proofs.Dies as dies
 use Rattle.arc_ops_passes.proofs.Dies.{dying}
@@ -72,7 +74,7 @@ use Rattle.arc_ops_passes.proofs.Dies.{dying}
 -- ---- an object dies: by where the cascade is
 
 may : (w : Work) (v : View) (m : Move) (step other : Step) (intent its : Intent) → m ≡ moves.Step other its → m ≡ moves.Step step intent → Admits w.shape v other its → Admits w.shape v step intent
-may w v m step other intent its ask asked x = let e = asked_is m other step its intent ask asked in subst (λ (p : Step × Intent). Admits w.shape v p.0 p.1) (λ j. (e.0 j, e.1 j)) x
+may w v m = as_asked m (λ p. Admits w.shape v p.0 p.1)
 
 dies_allowed : (w : Work) (t : Thread) (v : View) (c : CascadeState) (step : Step) (intent : Intent) → Facts w t v (doings.Dying c) → t.asked ≡ moves.Step step intent → Admits w.shape v step intent
 dies_allowed w t v c step intent f asked = at c.at (subst (λ (d : CascadeState). Facts w t v (doings.Dying d)) f.asks.0 f)
@@ -90,7 +92,7 @@ dies_allowed w t v c step intent f asked = at c.at (subst (λ (d : CascadeState)
 
     vacating : (n : Once) → Facts w t v (dying w c.slot (ats.Vacating (record { layout = extent_of w.shape; slot = c.slot; at = n })) c.event) → Admits w.shape v step intent
     vacating once.Start g = absurd g.asks.1.1
-    vacating once.Asked g = may w v t.asked step (And (number (extent_of w.shape) (SlotBits (c.slot / 64))) (but_bit_of c.slot)) intent intents.Vacate g.asks.1.1 asked (dies.vacate_allowed w t v c.slot (ats.Vacating (record { layout = extent_of w.shape; slot = c.slot; at = once.Asked })) c.event g g.under_way.duty g.under_way.working)
+    vacating once.Asked g = may w v t.asked step (And (number (extent_of w.shape) (SlotBits (c.slot / 64))) (but_bit_of c.slot)) intent intents.Vacate g.asks.1.1 asked (vacates.vacate_allowed w t v c.slot (dying w c.slot (ats.Vacating (record { layout = extent_of w.shape; slot = c.slot; at = once.Asked })) c.event) g (λ x. omega arith) g.under_way.duty g.under_way.working)
     vacating once.Ended g = absurd g.asks.1.1
 
     at : (a : CascadeAt) → Facts w t v (dying w c.slot a c.event) → Admits w.shape v step intent
@@ -107,7 +109,7 @@ abbrev DyingCase : Work → Thread → View → ℕ → View → ℕ → Option 
 DyingCase w t v found v' s e a x = IsServedWord w.shape x.0 x.1 found → (told : Told w.shape x.1 x.0 v found v') → Comes w v x.0 x.1 found v' (told.between ++ v.seen) (dying w s a e) (turned_at (Some found) (dying w s a e) (quiet t))
 
 come : (w : Work) (t : Thread) (v : View) (found : ℕ) (v' : View) (s : ℕ) (e : Option Act) (a : CascadeAt) (step other : Step) (intent its : Intent) → t.asked ≡ moves.Step other its → t.asked ≡ moves.Step step intent → DyingCase w t v found v' s e a (other, its) → DyingCase w t v found v' s e a (step, intent)
-come w t v found v' s e a step other intent its ask asked x = let q = asked_is t.asked other step its intent ask asked in subst (DyingCase w t v found v' s e a) (λ j. (q.0 j, q.1 j)) x
+come w t v found v' s e a = as_asked t.asked (DyingCase w t v found v' s e a)
 
 dies_come : (w : Work) (t : Thread) (v : View) (c : CascadeState) (step : Step) (intent : Intent) (found : ℕ) (v' : View) → Facts w t v (doings.Dying c) → t.asked ≡ moves.Step step intent → IsServedWord w.shape step intent found
     → (told : Told w.shape intent step v found v') → Comes w v step intent found v' (told.between ++ v.seen) (doings.Dying c) (turned_at (Some found) (doings.Dying c) (quiet t))
@@ -129,7 +131,7 @@ dies_come w t v c step intent found v' f asked =
     vacating : (n : Once) → Facts w t v (dying w c.slot (ats.Vacating (record { layout = extent_of w.shape; slot = c.slot; at = n })) c.event) → Case (ats.Vacating (record { layout = extent_of w.shape; slot = c.slot; at = n }))
     vacating once.Start g = absurd g.asks.1.1
     vacating once.Asked g = let a = ats.Vacating (record { layout = extent_of w.shape; slot = c.slot; at = once.Asked }) in
-        come w t v found v' c.slot c.event a step (And (number (extent_of w.shape) (SlotBits (c.slot / 64))) (but_bit_of c.slot)) intent intents.Vacate g.asks.1.1 asked (λ served told. dies.vacates w t v c.slot a c.event g g.under_way.duty g.under_way.working found v' told refl)
+        come w t v found v' c.slot c.event a step (And (number (extent_of w.shape) (SlotBits (c.slot / 64))) (but_bit_of c.slot)) intent intents.Vacate g.asks.1.1 asked (λ served told. vacates.vacates w t v c.slot (dying w c.slot a c.event) g (λ x. omega arith) g.under_way.duty g.under_way.working found v' told tt)
     vacating once.Ended g = absurd g.asks.1.1
 
     at : (a : CascadeAt) → Facts w t v (dying w c.slot a c.event) → Case a
@@ -156,9 +158,11 @@ steps_are_allowed w t v step intent served stepper sized d asked = at t.doing (f
     at : (e : Doing) → Facts w t v e → Admits w.shape v step intent
     at doings.Ready f = no_step t.asked step intent f.asks asked
     at (doings.Making to name plan) f = makes_allowed w t v to name plan step intent f asked
-    at (doings.Copying to held plan) f = copies_allowed w t v to held plan step intent f asked
+    at (doings.Gaining gain to from plan) f = gains_allowed w t v gain to from plan step intent f asked
+    at (doings.Naming to held plan) f = naming_allowed w t v to held plan step intent f asked
     at (doings.Dropping held plan) f = drops_allowed w t v held plan step intent f asked
     at (doings.Dying c) f = dies_allowed w t v c step intent f asked
+    at (doings.Vacating s plan) f = vacating_allowed w t v s plan step intent f asked
     at doings.Ended f = no_end_step t.asked step intent f.asks.0 asked
 
 pub steppers_drive_on : SteppersDriveOn
@@ -168,9 +172,11 @@ steppers_drive_on w t v step intent found v' served stepper sized d asked told w
     at : (e : Doing) → Facts w t v e → IsServedWord w.shape step intent found → Comes w v step intent found v' (told.between ++ v.seen) e (turned_at (Some found) e (quiet t))
     at doings.Ready f word = no_step t.asked step intent f.asks asked
     at (doings.Making to name plan) f word = makes_come w t v to name plan step intent found v' f asked told
-    at (doings.Copying to held plan) f word = copies_come w t v to held plan step intent found v' f asked word told
+    at (doings.Gaining gain to from plan) f word = gains_come w t v gain to from plan step intent found v' f asked word told
+    at (doings.Naming to held plan) f word = naming_comes w t v to held plan step intent found v' f asked told
     at (doings.Dropping held plan) f word = drops_come w t v held plan step intent found v' f asked word told
     at (doings.Dying c) f word = dies_come w t v c step intent found v' f asked word told
+    at (doings.Vacating s plan) f word = vacating_comes w t v s plan step intent found v' f asked told
     at doings.Ended f word = no_end_step t.asked step intent f.asks.0 asked
 
 -- ---- the beginning
@@ -213,50 +219,18 @@ scripts_name_variables script p came valid served within =
 pub phases_are_done : PhasesAreDone
 phases_are_done script p came any t v served d asked = record { notes = d.notes; tied = d.tied; done = ready_steppers_have_done script p came any t d.notes served d.stands asked }
 
--- it asks for something else than the next phase
-not_phase : {X : Type 0} (m : Move) (step : Step) (intent : Intent) → m ≡ moves.PhaseEnd → m ≡ moves.Step step intent → X
-not_phase m step intent e asked = absurd (cc)
-
 pub phases_begin : PhasesBegin
-phases_begin w t v served fits d asked = at t.doing d.asks d.owns d.under_way (λ takes. let g = stepper_goes_on w served t None d.notes d.stands takes in (g.after, g.adds, g.stands))
+phases_begin w t v served fits d asked = at t.doing d.stands.asks d.owns d.under_way (λ takes. let g = stepper_goes_on w served t None d.notes d.stands takes in (g.after, g.adds, g.stands))
   where
     Went : Doing → Type 0
-    Went e = takes_at None e → (after : List Note) × Adds (extent_of w.shape) (step_in t.asked) None (turned_at None e (quiet t)).event d.notes after × StandsFor w (turned_at None e (quiet t)) after
+    Went e = takes_at t.shape None e → (after : List Note) × Adds (extent_of w.shape) (step_in t.asked) None (turned_at None e (quiet t)).event d.notes after × StandsFor w (turned_at None e (quiet t)) after
 
     Begins : Doing → Type 0
-    Begins e = takes_at None e × Drives w (turned_at None e (quiet t)) v × ((turned_at None e (quiet t)).event ≡ None)
+    Begins e = takes_at t.shape None e × Drives w (turned_at None e (quiet t)) v × ((turned_at None e (quiet t)).event ≡ None)
 
-    step_not : (e : Doing) → t.asked ≡ moves.PhaseEnd → (step : Step) (intent : Intent) → t.asked ≡ moves.Step step intent → Begins e
-    step_not e phase step intent ask = not_phase t.asked step intent phase ask
-
-    trying : (e : Doing) (s : ℕ) (intent : Intent) (a : AttemptAt) → AttemptAsks w.shape t.asked s intent a → Begins e
-    trying e s intent attempt.Start x = absurd x
-    trying e s intent attempt.Loading x = step_not e asked (Load (number (extent_of w.shape) (Count s))) intent x
-    trying e s intent (attempt.Exchanging seen new) x = step_not e asked (Exchange (number (extent_of w.shape) (Count s)) seen new) intent x
-    trying e s intent attempt.Ended x = absurd x
-
-    searching : (e : Doing) (name : ObjectName) (a : Search) → SearchAsks w.shape t.asked name a → Begins e
-    searching e name search.Start x = absurd x
-    searching e name (search.Looking k) x = step_not e asked (looking (extent_of w.shape) k) (intents.New name.class) x
-    searching e name (search.Taking s seen) x = step_not e asked (taking (extent_of w.shape) s) (intents.New name.class) x
-    searching e name (search.Counting s) x = step_not e asked (counting (extent_of w.shape) (class_at w.shape name.class).immortal s) (intents.New name.class) x
-    searching e name (search.Naming s) x = step_not e asked (naming (extent_of w.shape) name s) (intents.New name.class) x
-    searching e name search.Ended x = absurd x
-
-    clearing : (e : Doing) (s : ℕ) (n : Once) → VacateAsks w.shape t.asked s n → Begins e
-    clearing e s once.Start x = absurd x
-    clearing e s once.Asked x = step_not e asked (And (number (extent_of w.shape) (SlotBits (s / 64))) (but_bit_of s)) intents.Vacate x
-    clearing e s once.Ended x = absurd x
-
-    cascading : (e : Doing) (s : ℕ) (a : CascadeAt) → CascadeAsks w.shape t.asked s a → Begins e
-    cascading e s ats.Start x = absurd x
-    cascading e s ats.Entering x = step_not e asked (Store (number (extent_of w.shape) (Next s)) 0) (intents.Deinit s) x
-    cascading e s ats.Naming x = step_not e asked (Load (number (extent_of w.shape) (Isa s))) (intents.Deinit s) x
-    cascading e s (ats.Named name) x = absurd x
-    cascading e s ats.Leaving x = step_not e asked (Load (number (extent_of w.shape) (Next s))) (intents.Deinit s) x
-    cascading e s (ats.Finishing p) x = trying e s (intents.Deinit s) p.at x.1
-    cascading e s (ats.Vacating p) x = clearing e s p.at x.1
-    cascading e s ats.Ended x = absurd x
+    -- it asks for no step
+    no : (e : Doing) → IsStep t.asked → Begins e
+    no e step = absurd (subst IsStep asked step)
 
     vars_fit : All (VarsFit (length t.vars)) t.program
     vars_fit = subst (λ (x : ℕ × List Op). All (VarsFit x.0) x.1) (λ j. (sym d.count j, sym d.stands.works.program_is j)) fits
@@ -264,12 +238,12 @@ phases_begin w t v served fits d asked = at t.doing d.asks d.owns d.under_way (�
     end_not : t.asked ≡ moves.Ended → ⊥
     end_not x = cc
 
-    at : (e : Doing) → Asks w.shape t e → Owns v t.hands (references t.vars t.hands e) → UnderWay w.shape v e → Went e → Begins e
+    at : (e : Doing) → spelled.Asks e t.asked → Owns v t.hands (references t.vars t.hands e) → UnderWay w.shape v e → Went e → Begins e
     at doings.Ready asks owns under went =
         let g = went refl in
         let u : Thread = begun (quiet t) in
         let walk = begins_walks w.shape (quiet t) (d.stands.works.layout_is, d.stands.works.shape_is) vars_fit in
-        let holds : WordsHold Judged w.shape (extent_of w.shape) (step_in t.asked) None w.thread u.event v.seen = record { names = λ slot x a l. absurd (None≢Some x l); entries = λ slot x n c e a l. absurd (None≢Some x l) } in
+        let holds : WordsHold Judged w.shape (extent_of w.shape) (step_in t.asked) None w.thread u.event v.seen = record { names = λ slot x i a why l. absurd (None≢Some x l); entries = λ slot x n act i c e a takes l. absurd (None≢Some x l) } in
         let tied = added_notes_are_tied Judged w.shape (extent_of w.shape) (step_in t.asked) None w.thread u.event v.seen d.notes g.0 g.1 holds d.tied in (
           refl,
           record {
@@ -288,57 +262,33 @@ phases_begin w t v served fits d asked = at t.doing d.asks d.owns d.under_way (�
           },
           walk.event,
         )
-    at (doings.Making to name plan) asks owns under went = searching (doings.Making to name plan) name plan.at asks.1
-    at (doings.Copying to held plan) asks owns under went = trying (doings.Copying to held plan) held.place (intents.Copy (origins.Hand held.hand)) plan.at asks.1
-    at (doings.Dropping held plan) asks owns under went = trying (doings.Dropping held plan) held.place (intents.Drop held.hand) plan.at asks.1
-    at (doings.Dying c) asks owns under went = cascading (doings.Dying c) c.slot c.at asks.1
-    at doings.Ended asks owns under went = absurd (end_not asks.0)
-
-not_ended : {X : Type 0} (m : Move) (step : Step) (intent : Intent) → m ≡ moves.Ended → m ≡ moves.Step step intent → X
-not_ended m step intent e asked = absurd (cc)
+    at (doings.Making to name plan) asks owns under went = no (doings.Making to name plan) asks
+    at (doings.Gaining gain to from plan) asks owns under went = no (doings.Gaining gain to from plan) asks
+    at (doings.Naming to held plan) asks owns under went = no (doings.Naming to held plan) asks
+    at (doings.Dropping held plan) asks owns under went = no (doings.Dropping held plan) asks
+    at (doings.Dying c) asks owns under went = no (doings.Dying c) asks
+    at (doings.Vacating s plan) asks owns under went = no (doings.Vacating s plan) asks
+    at doings.Ended asks owns under went = absurd (end_not asks)
 
 pub ended_steppers_hold_nothing : EndedSteppersHoldNothing
-ended_steppers_hold_nothing w t v d ended = at t.doing d.asks d.owns d.under_way
+ended_steppers_hold_nothing w t v d ended = at t.doing d.stands.asks d.asks d.owns d.under_way
   where
-    searching : (name : ObjectName) (a : Search) → SearchAsks w.shape t.asked name a → ⊥
-    searching name search.Start x = x
-    searching name (search.Looking k) x = not_ended t.asked (looking (extent_of w.shape) k) (intents.New name.class) ended x
-    searching name (search.Taking s seen) x = not_ended t.asked (taking (extent_of w.shape) s) (intents.New name.class) ended x
-    searching name (search.Counting s) x = not_ended t.asked (counting (extent_of w.shape) (class_at w.shape name.class).immortal s) (intents.New name.class) ended x
-    searching name (search.Naming s) x = not_ended t.asked (naming (extent_of w.shape) name s) (intents.New name.class) ended x
-    searching name search.Ended x = x
-
-    trying : (s : ℕ) (intent : Intent) (a : AttemptAt) → AttemptAsks w.shape t.asked s intent a → ⊥
-    trying s intent attempt.Start x = x
-    trying s intent attempt.Loading x = not_ended t.asked (Load (number (extent_of w.shape) (Count s))) intent ended x
-    trying s intent (attempt.Exchanging seen new) x = not_ended t.asked (Exchange (number (extent_of w.shape) (Count s)) seen new) intent ended x
-    trying s intent attempt.Ended x = x
-
-    once_at : (s : ℕ) (n : Once) → VacateAsks w.shape t.asked s n → ⊥
-    once_at s once.Start x = x
-    once_at s once.Asked x = not_ended t.asked (And (number (extent_of w.shape) (SlotBits (s / 64))) (but_bit_of s)) intents.Vacate ended x
-    once_at s once.Ended x = x
-
-    cascading : (s : ℕ) (a : CascadeAt) → CascadeAsks w.shape t.asked s a → ⊥
-    cascading s ats.Start x = x
-    cascading s ats.Entering x = not_ended t.asked (Store (number (extent_of w.shape) (Next s)) 0) (intents.Deinit s) ended x
-    cascading s ats.Naming x = not_ended t.asked (Load (number (extent_of w.shape) (Isa s))) (intents.Deinit s) ended x
-    cascading s (ats.Named name) x = x
-    cascading s ats.Leaving x = not_ended t.asked (Load (number (extent_of w.shape) (Next s))) (intents.Deinit s) ended x
-    cascading s (ats.Finishing p) x = trying s (intents.Deinit s) p.at x.1
-    cascading s (ats.Vacating p) x = once_at s p.at x.1
-    cascading s ats.Ended x = x
+    -- it asks for no step
+    no : IsStep t.asked → HoldsNothing v
+    no step = absurd (subst IsStep ended step)
 
     phase : t.asked ≡ moves.PhaseEnd → ⊥
     phase x = cc
 
-    at : (e : Doing) → Asks w.shape t e → Owns v t.hands (references t.vars t.hands e) → UnderWay w.shape v e → HoldsNothing v
-    at doings.Ready asks owns under = absurd (phase asks)
-    at (doings.Making to name plan) asks owns under = absurd (searching name plan.at asks.1)
-    at (doings.Copying to held plan) asks owns under = absurd (trying held.place (intents.Copy (origins.Hand held.hand)) plan.at asks.1)
-    at (doings.Dropping held plan) asks owns under = absurd (trying held.place (intents.Drop held.hand) plan.at asks.1)
-    at (doings.Dying c) asks owns under = absurd (cascading c.slot c.at asks.1)
-    at doings.Ended asks owns under = record {
+    at : (e : Doing) → spelled.Asks e t.asked → Asks w.shape t e → Owns v t.hands (references t.vars t.hands e) → UnderWay w.shape v e → HoldsNothing v
+    at doings.Ready step asks owns under = absurd (phase step)
+    at (doings.Making to name plan) step asks owns under = no step
+    at (doings.Gaining gain to from plan) step asks owns under = no step
+    at (doings.Naming to held plan) step asks owns under = no step
+    at (doings.Dropping held plan) step asks owns under = no step
+    at (doings.Dying c) step asks owns under = no step
+    at (doings.Vacating s plan) step asks owns under = no step
+    at doings.Ended step asks owns under = record {
       quiet = record {
         hands = λ k. owns.only k (let z = asks.1 (has_hand k) in omega arith);
         duties = under.none;

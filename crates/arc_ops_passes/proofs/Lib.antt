@@ -3,7 +3,10 @@ pub mod Owned
 pub mod Goes
 pub mod Makes
 pub mod Counts
-pub mod Copies
+pub mod Names
+pub mod Gains
+pub mod Loads
+pub mod Vacates
 pub mod Drops
 pub mod Owed
 pub mod Dies

@@ -1,5 +1,5 @@
 -- A stepper that makes an object.
-use Rattle.std.proofs.Common.{◌≡◌, ◌≢◌, inl, inr, ℕ, suc, ◌+◌, ◌-◌, ◌*◌, ◌/◌, ◌<◌, ◌≤◌, ◌==◌, ◌&&◌, nat_lt, Bool, true, false, cond, not, List, [], ◌∷◌, ◌++◌, length, Option, Some, None, refl, sym, ap, ◌∙◌, subst, arith, eq-eqb, ne_eqb, add-one}
+use Rattle.std.proofs.Common.{◌≡◌, ◌≢◌, inl, inr, ℕ, suc, ◌+◌, ◌/◌, ◌<◌, ◌≤◌, ◌==◌, ◌&&◌, nat_lt, Bool, true, false, cond, not, List, [], ◌∷◌, ◌++◌, length, Option, Some, None, refl, sym, ap, ◌∙◌, subst, arith, eq-eqb, ne_eqb, add-one}
 use Rattle.std.specs.Prelude.{slice_get, bit_and}
 use Rattle.std.proofs.lemmas.Bool.{lt-ltb, le-ltb}
 use Rattle.std.proofs.lemmas.List.Elements.{All-get_or}
@@ -24,7 +24,7 @@ use Rattle.arc_model.proofs.Own.{own_gains}
 use Rattle.arc_rule.specs.Places.{extent_of, number, place_at}
 use Rattle.arc_rule.specs.Extents.{Extent}
 use Rattle.arc_rule.specs.Isa.{isa_word_of}
-use Rattle.arc_rule.specs.Bits.{ShowsBits, words_of, bit_of, full_word, is_set, thing_of}
+use Rattle.arc_rule.specs.Bits.{ShowsBits, words_of, bit_of, full_word, is_set}
 use Rattle.arc_rule.proofs.Bits.{clear_at, set_in_full, thing_of_bit}
 use Rattle.arc_spelled.specs.Spelled.{WordsHold}
 use Rattle.arc_model.specs.SpellingTies.Causes.{Judged}
@@ -48,7 +48,13 @@ use Rattle.arc_ops.specs.declared.stepper.Doing.{Doing}
 use Rattle.arc_ops.specs.declared.stepper.Doing.TheVariants as doings
 use Rattle.arc_ops.specs.declared.stepper.Move.TheVariants as moves
 use Rattle.arc_ops.specs.Programs.{ClassFits}
-use Rattle.arc_ops.specs.Thread.{Thread, IsStepper, turned_at, made_on, make_begun_as, put, replaced, next_op}
+use Rattle.arc_ops.specs.Thread.{Thread, put}
+use Rattle.arc_ops.specs.Plans.{make_begun_as}
+use Rattle.arc_ops.specs.Begins.{next_op}
+use Rattle.arc_ops.specs.Drops.{replaced}
+use Rattle.arc_ops.specs.Makes.{strong_to, made_on}
+use Rattle.arc_ops.specs.Turns.{turned_at}
+use Rattle.arc_ops.specs.Steppers.{IsStepper}
 use Rattle.arc_spelled.specs.StepperStands.{Work, IsMaking}
 use Rattle.arc_view.specs.declared.view.Mark.{Mark}
 use Rattle.arc_view.specs.declared.view.Working.{Working}
@@ -64,15 +70,13 @@ use Rattle.arc_view.proofs.Lists.{share_more}
 use Rattle.arc_view.proofs.Classes.{made_named, news_named}
 use Rattle.arc_view.proofs.Strongs.{slot_found}
 use Rattle.arc_view.proofs.Held.{held_stays, strong≢weak}
-use Rattle.arc_view.specs.declared.view.Naming.{Naming}
 use Rattle.arc_view_laws.proofs.Counted.{counted_same}
 use Rattle.arc_view_laws.proofs.Moving.{moved}
 use Rattle.arc_ops_passes.specs.References.{in_vars, references, Leads, Owns}
 use Rattle.arc_ops_passes.specs.Drives.{SearchAsks, IsMade}
 use Rattle.arc_ops_passes.proofs.Walks.{Walks, make_walks, next_walks, replaced_walks}
 use Rattle.arc_ops_passes.proofs.Owned.{leads_on, owns_more, ref-itself}
-use Rattle.arc_ops_passes.proofs.Owed.{slot_is}
-use Rattle.arc_ops_passes.proofs.Goes.{quiet, Facts, Comes, asked_is, told_by, fresh_under, owes_still, owes_on, claims_on, owns_on, nothing_shown, stays}
+use Rattle.arc_ops_passes.proofs.Goes.{quiet, Facts, Comes, as_asked, told_by, fresh_under, owes_still, owes_on, claims_on, owns_on, nothing_shown, stays}
 
 lt_true : (a b : ℕ) → a < b → nat_lt a b ≡ true
 lt_true a b lt = lt-ltb a b lt
@@ -321,8 +325,9 @@ module _ (w : Work) (t : Thread) (v : View) (to : ℕ) (name : ObjectName) where
         here : At (heap_of v') (length (heap_after h_taken).objects) o
         here = ap (λ k. slice_get (heap_after k).objects (length (heap_after h_taken).objects)) seen_is ∙ end-here (heap_after h_taken).objects
 
-        leads : Leads v' (record { hand = t.hands + 1; place = s })
+        leads : Leads v' (strong_to (t.hands + 1) s)
         leads = (
+          tt,
           length (heap_after h_taken).objects,
           o,
           (λ j. spot (Hand (number_is j) (t.hands + 1)) (heap_after (seen_is j))) ∙ own_gains w.shape h_taken (record { thread = v.number; act = look }) (t.hands + 1) legal refl,
@@ -347,7 +352,7 @@ module _ (w : Work) (t : Thread) (v : View) (to : ℕ) (name : ObjectName) where
           event = hit_act_is hit;
           holds = nothing_shown w.shape (extent_of w.shape) (taking (extent_of w.shape) s) new found w.thread took.event h_taken tt tt;
           count = f.count;
-          owns = owns_more v v' t.hands (references t.vars t.hands d_taking) (references took.vars took.hands took.doing) (record { hand = t.hands + 1; place = s }) f.owns refl (λ g. omega arith) leads (λ x. leads_on w.shape (look ∷ []) 1 v v' x called (refl, tt)) spots;
+          owns = owns_more v v' t.hands (references t.vars t.hands d_taking) (references took.vars took.hands took.doing) (strong_to (t.hands + 1) s) f.owns refl (λ g. omega arith) leads (λ x. leads_on w.shape look 1 v v' x called refl) spots;
           no_claim = claims_on w.shape 1 look v v' called (λ m e. refl) f.no_claim;
           asks = (refl, refl);
           under_way = (
@@ -416,17 +421,17 @@ module _ (w : Work) (t : Thread) (v : View) (to : ℕ) (name : ObjectName) where
       legal_then = subst (IsLegal w.shape) seen_same told.legal
 
       -- its only reference keeps it
-      leads_there : Leads v (record { hand = t.hands; place = s })
-      leads_there = f.owns.leads (record { hand = t.hands; place = s }) (let one = ref-itself (record { hand = t.hands; place = s }) in omega arith)
+      leads_there : Leads v (strong_to t.hands s)
+      leads_there = f.owns.leads (strong_to t.hands s) (let one = ref-itself (strong_to t.hands s) in omega arith)
 
       still_made : IsMade v' name s
       still_made =
           let r = leads_there in
-          let k = held_stays w.shape v.number t.hands r.0 Strong r.1 v.seen told.between legal_then told.others r.2 r.3 in
-          let same : r.1 ≡ is_made.0 = Some-inj (sym (slot_found w.shape v.seen r.0 s r.1 f.legal r.3 r.4) ∙ is_made.1) in
-          let name_is : name_of k.q ≡ name_of r.1 = (λ j. record { class = k.class j; thread = (k.id j).thread; number = (k.id j).number }) in (
+          let k = held_stays w.shape v.number t.hands r.1 Strong r.2 v.seen told.between legal_then told.others r.3 r.4 in
+          let same : r.2 ≡ is_made.0 = Some-inj (sym (slot_found w.shape v.seen r.1 s r.2 f.legal r.4 r.5) ∙ is_made.1) in
+          let name_is : name_of k.q ≡ name_of r.2 = (λ j. record { class = k.class j; thread = (k.id j).thread; number = (k.id j).number }) in (
             k.q,
-            ap (λ x. at_slot s (heap_after x)) seen_same ∙ slot_found w.shape h_counted r.0 s k.q legal_then k.here (k.slot strong≢weak ∙ r.4),
+            ap (λ x. at_slot s (heap_after x)) seen_same ∙ slot_found w.shape h_counted r.1 s k.q legal_then k.here (k.slot strong≢weak ∙ r.5),
             name_is ∙ (ap name_of same ∙ is_made.2),
           )
 
@@ -456,7 +461,7 @@ module _ (w : Work) (t : Thread) (v : View) (to : ℕ) (name : ObjectName) where
       named_thread = put (answers.New name) (quiet t)
 
       abbrev done : Thread
-      done = replaced to (record { hand = t.hands; place = s }) named_thread
+      done = replaced to (Some (strong_to t.hands s)) named_thread
 
       name_act : act_of w.shape v (naming (extent_of w.shape) name s) new found ≡ None
       name_act = ap (λ (q : Place). stored_act v q new) (place_at-number (extent_of w.shape) (Isa s) in_slot)
@@ -464,7 +469,7 @@ module _ (w : Work) (t : Thread) (v : View) (to : ℕ) (name : ObjectName) where
       pub name_comes : Comes w v (naming (extent_of w.shape) name s) new found v' (told.between ++ v.seen) (making w to name (search.Naming s)) done
       name_comes =
           let c = told_by w.shape new (naming (extent_of w.shape) name s) v found v' None name_act told in
-          let m = replaced_walks w.shape named_thread to (record { hand = t.hands; place = s }) f.is_for f.stepper.vars_fit f.fits.0 in
+          let m = replaced_walks w.shape named_thread to (Some (strong_to t.hands s)) f.is_for f.stepper.vars_fit f.fits.0 in
           let works : v'.working ≡ record v.working { owes = None } =
           ap (λ (x : View). x.working) told.after ∙ ap (λ (q : Place). working_stored (number (extent_of w.shape)) v.working q (isa_word_of name) new) (place_at-number (extent_of w.shape) (Isa s) in_slot) in
           stays w t v (naming (extent_of w.shape) name s) new found v' (making w to name (search.Naming s)) done told f (λ e. cc) name_act m.event tt m.hands m.count m.same m.asks
@@ -476,7 +481,7 @@ pub makes_allowed : (w : Work) (t : Thread) (v : View) (to : ℕ) (name : Object
 makes_allowed w t v to name plan step intent f asked = at plan.at f.asks.1 (subst (λ (p : Creation). Facts w t v (doings.Making to name p)) f.asks.0 f)
   where
     is : (x : Step) → t.asked ≡ moves.Step x (intents.New name.class) → Admits w.shape v x (intents.New name.class) → Admits w.shape v step intent
-    is x ask allowed = let e = asked_is t.asked x step (intents.New name.class) intent ask asked in subst (λ (y : Step × Intent). Admits w.shape v y.0 y.1) (λ j. (e.0 j, e.1 j)) allowed
+    is x ask = as_asked t.asked (λ y. Admits w.shape v y.0 y.1) step x intent (intents.New name.class) ask asked
 
     at : (a : Search) → SearchAsks w.shape t.asked name a → Facts w t v (making w to name a) → Admits w.shape v step intent
     at search.Start ask g = absurd ask
@@ -496,7 +501,7 @@ makes_come w t v to name plan step intent found v' f asked =
     Case a x = (told : Told w.shape x.1 x.0 v found v') → Comes w v x.0 x.1 found v' (told.between ++ v.seen) (making w to name a) (turned_at (Some found) (making w to name a) (quiet t))
 
     is : (a : Search) (x : Step) → t.asked ≡ moves.Step x (intents.New name.class) → Case a (x, intents.New name.class) → Case a (step, intent)
-    is a x ask c = let e = asked_is t.asked x step (intents.New name.class) intent ask asked in subst (Case a) (λ j. (e.0 j, e.1 j)) c
+    is a x ask = as_asked t.asked (Case a) step x intent (intents.New name.class) ask asked
 
     at : (a : Search) → SearchAsks w.shape t.asked name a → Facts w t v (making w to name a) → Case a (step, intent)
     at search.Start ask g = absurd ask

@@ -1,36 +1,70 @@
 -- The references of a stepper stay its pass's hands.
-use Rattle.std.proofs.Common.{◌≡◌, ◌≢◌, ℕ, zero, suc, ◌+◌, ◌≤◌, ◌==◌, ◌&&◌, Bool, true, false, List, [], ◌∷◌, Option, Some, None, refl, sym, ap, ◌∙◌, subst, arith, eq-eqb}
+use Rattle.std.proofs.Common.{◌≡◌, ◌≢◌, ℕ, zero, suc, ◌+◌, ◌≤◌, ◌==◌, ◌&&◌, Bool, true, false, List, [], ◌∷◌, ◌++◌, Option, Some, None, refl, sym, ap, ◌∙◌, subst, arith, eq-eqb, append_assoc}
+use Rattle.std.specs.Prelude.{is_some}
 use Rattle.std.proofs.lemmas.Bool.{eqb-true}
 use Rattle.std.proofs.lemmas.List.Sums.{sum_by-cons}
 use mathlib.Core.Logic.{dite}
 use native.Mathlib.Decide.{ℕ_discrete}
 use Rattle.arc_model.specs.declared.event.Act.{Act}
-use Rattle.arc_model.specs.declared.shape.Kind.TheVariants.{Strong}
+use Rattle.arc_model.specs.declared.event.Event.{Event}
+use Rattle.arc_model.specs.declared.shape.Kind.{Kind}
+use Rattle.arc_model.specs.declared.shape.Kind.TheVariants.{Strong, Unowned, Weak}
 use Rattle.arc_model.specs.Shapes.{HeapShape}
-use Rattle.arc_model.specs.Heaps.{Hand, Object}
+use Rattle.arc_model.specs.Heaps.{Hand, Object, Heap}
+use Rattle.arc_model.specs.Cells.{same_kind}
+use Rattle.arc_model.specs.History.{History, heap_after, share, IsLegal}
 use Rattle.arc_model.specs.Lookup.{spot}
 use Rattle.arc_model.specs.Own.{ends_hand}
 use Rattle.arc_ops.specs.declared.stepper.Held.{Held}
 use Rattle.arc_view.specs.declared.view.View.{View}
-use Rattle.arc_view.specs.Views.{Each}
-use Rattle.arc_view.specs.Holding.{At, HasHand, heap_of}
+use Rattle.arc_view.specs.Holding.{At, heap_of}
 use Rattle.arc_view.specs.Calls.{Called}
-use Rattle.arc_view_laws.proofs.Kept.{stands}
+use Rattle.arc_view.proofs.Held.{hand_listed, listed_busy, stays_after, held_stays}
+use Rattle.arc_view_laws.proofs.Moving.{called_follows, cut, legal_tail}
+use Rattle.arc_model.proofs.Basics.{true≢false}
+use Rattle.arc_model.proofs.Others.{others_leave, own_leave}
+use Rattle.arc_side.specs.Inline.{IsCountedInline}
 use Rattle.arc_ops_passes.specs.References.{weigh, in_vars, one_if, is_ref, has_hand, Leads, Owns}
 
+-- ---- kinds
+
+pub not_weak : (kind : Kind) → IsCountedInline kind → kind ≢ Weak
+not_weak Strong counted e = cc
+not_weak Unowned counted e = cc
+not_weak Weak counted e = counted
+
+kind-itself : (k : Kind) → same_kind k k ≡ true
+kind-itself Strong = refl
+kind-itself Unowned = refl
+kind-itself Weak = refl
+
+kind-is : (k j : Kind) → same_kind k j ≡ true → k ≡ j
+kind-is Strong Strong e = refl
+kind-is Strong Unowned e = absurd (true≢false (sym e))
+kind-is Strong Weak e = absurd (true≢false (sym e))
+kind-is Unowned Strong e = absurd (true≢false (sym e))
+kind-is Unowned Unowned e = refl
+kind-is Unowned Weak e = absurd (true≢false (sym e))
+kind-is Weak Strong e = absurd (true≢false (sym e))
+kind-is Weak Unowned e = absurd (true≢false (sym e))
+kind-is Weak Weak e = refl
+
+-- ---- references are counted
+
 pub ref-itself : (h : Held) → is_ref h h ≡ 1
-ref-itself h = (λ j. one_if (eq-eqb h.hand h.hand refl j && eq-eqb h.place h.place refl j))
+ref-itself h = (λ j. one_if (eq-eqb h.hand h.hand refl j && kind-itself h.kind j && eq-eqb h.place h.place refl j))
 
 pub hand-itself : (h : Held) → has_hand h.hand h ≡ 1
 hand-itself h = ap one_if (eq-eqb h.hand h.hand refl)
 
 ref-hand : (h x : Held) → is_ref h x ≤ has_hand h.hand x
-ref-hand h x = go (x.hand == h.hand) (x.place == h.place)
+ref-hand h x = go (x.hand == h.hand) (same_kind x.kind h.kind) (x.place == h.place)
   where
-    go : (a b : Bool) → one_if (a && b) ≤ one_if a
-    go true true = omega arith
-    go true false = omega arith
-    go false b = omega arith
+    go : (a b c : Bool) → one_if (a && b && c) ≤ one_if a
+    go true true true = omega arith
+    go true true false = omega arith
+    go true false c = omega arith
+    go false b c = omega arith
 
 vars-mono : (f g : Held → ℕ) → ((x : Held) → f x ≤ g x) → (vars : List (Option Held)) → in_vars vars f ≤ in_vars vars g
 vars-mono f g le [] = omega arith
@@ -39,15 +73,13 @@ vars-mono f g le (Some x ∷ vars) = let a = sum_by-cons (weigh f) (Some x) vars
 
 -- a reference that counts is the same one
 ref-is : (v : View) (h x : Held) → 1 ≤ is_ref h x → Leads v x → Leads v h
-ref-is v h x one leads = go (x.hand == h.hand) refl (x.place == h.place) refl one
+ref-is v h x one leads = go (x.hand == h.hand) refl (same_kind x.kind h.kind) refl (x.place == h.place) refl one
   where
-    At2 : ℕ × ℕ → Type 0
-    At2 p = (i : ℕ) × (o : Object) × HasHand v p.0 Strong i × At (heap_of v) i o × (o.slot ≡ Some p.1)
-
-    go : (a : Bool) → (x.hand == h.hand) ≡ a → (b : Bool) → (x.place == h.place) ≡ b → 1 ≤ one_if (a && b) → Leads v h
-    go true ea true eb le = subst At2 (λ j. (eqb-true x.hand h.hand ea j, eqb-true x.place h.place eb j)) leads
-    go true ea false eb le = absurd (omega arith)
-    go false ea b eb le = absurd (omega arith)
+    go : (a : Bool) → (x.hand == h.hand) ≡ a → (b : Bool) → same_kind x.kind h.kind ≡ b → (c : Bool) → (x.place == h.place) ≡ c → 1 ≤ one_if (a && b && c) → Leads v h
+    go true ea true eb true ec le = subst (Leads v) (λ j. record { hand = eqb-true x.hand h.hand ea j; kind = kind-is x.kind h.kind eb j; place = eqb-true x.place h.place ec j }) leads
+    go true ea true eb false ec le = absurd (omega arith)
+    go true ea false eb c ec le = absurd (omega arith)
+    go false ea b eb c ec le = absurd (omega arith)
 
 no-hand : (k : ℕ) (x : Held) → has_hand k x ≡ 0 → x.hand ≢ k
 no-hand k x none e = let one : has_hand k x ≡ 1 = ap one_if (eq-eqb x.hand k e) in absurd (omega arith)
@@ -59,9 +91,46 @@ other-hand k x ne = go (x.hand == k) refl
     go true e = absurd (ne (eqb-true x.hand k e))
     go false e = refl
 
--- a reference stays where the pass doesn't give it up
-pub leads_on : (shape : HeapShape) (xs : List Act) (n : ℕ) (v w : View) (held : Held) → Called shape xs n v w → Each (λ (a : Act). ends_hand held.hand a ≡ false) xs → Leads v held → Leads w held
-leads_on shape xs n v w held c each (i, o, hand, here, slot) = let s = stands shape xs n v w held.hand c each held.place o.class (i, o, hand, here, slot, refl) in (s.0, s.1, s.2, s.3, s.4)
+-- ---- a reference stays where the pass doesn't give it up
+
+-- it leads to an object in its slot
+abbrev Stands : ℕ → Held → Heap → Type 0
+Stands p held heap = (i : ℕ) × (o : Object) × (spot (Hand p held.hand) heap ≡ Some (record { place = i; kind = held.kind })) × At heap i o × (o.slot ≡ Some held.place)
+
+others_stand : (shape : HeapShape) (p : ℕ) (held : Held) (before after : History) → held.kind ≢ Weak → IsLegal shape (after ++ before) → share after p ≡ [] → Stands p held (heap_after before) → Stands p held (heap_after (after ++ before))
+others_stand shape p held before after ne legal none (i, o, hand, here, slot) =
+    let q = held_stays shape p held.hand i held.kind o before after legal none hand here in
+    (i, q.q, (others_leave shape p before after legal none).hands held.hand ∙ hand, q.here, q.slot ne ∙ slot)
+
+own_stands : (shape : HeapShape) (held : Held) (e : Event) (h : History) → held.kind ≢ Weak → IsLegal shape (e ∷ h) → ends_hand held.hand e.act ≡ false → Stands e.thread held (heap_after h) → Stands e.thread held (heap_after (e ∷ h))
+own_stands shape held e h ne legal ends (i, o, hand, here, slot) =
+    let q = stays_after shape e h legal i o here in
+    let busy = listed_busy held.kind (Hand e.thread held.hand) o (hand_listed shape h e.thread held.hand i held.kind o legal.1 hand here) ne in
+    (i, q.q, own_leave shape h e held.hand legal (ap is_some hand) ends ∙ hand, q.here, q.slot busy ∙ slot)
+
+leads_by : (v : View) (held : Held) → IsCountedInline held.kind → Stands v.number held (heap_of v) → Leads v held
+leads_by v held counted (i, o, hand, here, slot) = (counted, i, o, hand, here, slot)
+
+pub leads_still : (shape : HeapShape) (n : ℕ) (v w : View) (held : Held) → Called shape [] n v w → Leads v held → Leads w held
+leads_still shape n v w held c (counted, i, o, hand, here, slot) =
+    let f = called_follows shape [] n v w c in
+    let later = others_stand shape v.number held v.seen f.rest (not_weak held.kind counted) f.legal f.mine (i, o, hand, here, slot) in
+    leads_by w held counted (subst (λ (x : ℕ × History). Stands x.0 held (heap_after x.1)) (λ j. (sym f.number j, sym f.is j)) later)
+
+pub leads_on : (shape : HeapShape) (a : Act) (n : ℕ) (v w : View) (held : Held) → Called shape (a ∷ []) n v w → ends_hand held.hand a ≡ false → Leads v held → Leads w held
+leads_on shape a n v w held c ends (counted, i, o, hand, here, slot) =
+    let p = v.number in
+    let ne = not_weak held.kind counted in
+    let e : Event = record { thread = p; act = a } in
+    let f = called_follows shape (a ∷ []) n v w c in
+    let at = cut p a f.rest f.mine in
+    let met = at.earlier ++ v.seen in
+    let is : f.rest ++ v.seen ≡ at.later ++ e ∷ met = ap (λ l. l ++ v.seen) at.is ∙ append_assoc at.later (e ∷ at.earlier) v.seen in
+    let legal : IsLegal shape (at.later ++ e ∷ met) = subst (IsLegal shape) is f.legal in
+    let then : IsLegal shape (e ∷ met) = legal_tail shape at.later (e ∷ met) legal in
+    let own = own_stands shape held e met ne then ends (others_stand shape p held v.seen at.earlier ne then.1 at.before (i, o, hand, here, slot)) in
+    let later = others_stand shape p held (e ∷ met) at.later ne legal at.after own in
+    leads_by w held counted (subst (λ (x : ℕ × History). Stands x.0 held (heap_after x.1)) (λ j. (sym f.number j, sym (f.is ∙ is) j)) later)
 
 -- the references are the same
 pub owns_stay : (v w : View) (n : ℕ) (L M : (Held → ℕ) → ℕ) → Owns v n L → ((f : Held → ℕ) → M f ≡ L f) → ((h : Held) → Leads v h → Leads w h)

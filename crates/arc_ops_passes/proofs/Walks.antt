@@ -14,13 +14,12 @@ use Rattle.arc_model.specs.Shapes.{HeapShape, class_at}
 use Rattle.arc_model.specs.declared.event.ObjectName.{ObjectName}
 use Rattle.arc_model.specs.declared.answer.Answer.{Answer}
 use Rattle.arc_model.specs.declared.answer.Answer.TheVariants as answers
-use Rattle.arc_model.specs.declared.event.Origin.TheVariants.{Hand}
 use Rattle.arc_rule.specs.Extents.{Extent}
 use Rattle.arc_rule.specs.Places.{extent_of, number}
 use Rattle.arc_rule.specs.declared.layout.Place.TheVariants.{Count}
 use Rattle.arc_rule.specs.declared.step.Step.TheVariants.{Load}
 use Rattle.arc_rule.specs.declared.step.Intent.TheVariants as intents
-use Rattle.arc_plan.specs.declared.attempt.At.TheVariants as attempt
+use Rattle.arc_rule.specs.declared.attempt.At.TheVariants as attempt
 use Rattle.arc_plan.specs.declared.slots.Making.{Making as Search}
 use Rattle.arc_plan.specs.declared.slots.Making.TheVariants as search
 use Rattle.arc_plan.specs.Slots.{looking}
@@ -31,7 +30,12 @@ use Rattle.arc_ops.specs.declared.stepper.Doing.{Doing}
 use Rattle.arc_ops.specs.declared.stepper.Doing.TheVariants as doings
 use Rattle.arc_ops.specs.declared.stepper.Move.TheVariants as moves
 use Rattle.arc_ops.specs.Programs.{VarsFit}
-use Rattle.arc_ops.specs.Thread.{Thread, value, is_held, set_var, put, skipped, moved, phase_end, phase_over, block_goes_on, at_place, begun, begun_at, begun_op, begun_nil, begun_copy, begun_move, begun_drop, copy_begun, drop_begun, make_begun_as, scope_at, scope_begun, scope_drop, next_op, replaced, replaced_old}
+use Rattle.arc_ops.specs.Thread.{Thread, value, is_held, set_var, put}
+use Rattle.arc_ops.specs.declared.gain.Gain.{Gain}
+use Rattle.arc_ops.specs.declared.gain.Gain.TheVariants as gains
+use Rattle.arc_ops.specs.Plans.{list_of, intent_of, gain_begun, drop_begun, make_begun_as}
+use Rattle.arc_ops.specs.Begins.{skipped, moved, phase_end, phase_over, block_goes_on, at_place, begun, begun_at, begun_op, begun_nil, begun_gain, begun_move, begun_drop, scope_at, scope_begun, scope_drop, next_op}
+use Rattle.arc_ops.specs.Drops.{replaced, replaced_old}
 use Rattle.arc_ops_passes.specs.References.{weigh, in_vars, references}
 use Rattle.arc_ops_passes.specs.Drives.{Asks}
 
@@ -80,9 +84,11 @@ IsFreshSearch _ = ⊥
 abbrev pub IsFresh : Doing → Type 0
 IsFresh doings.Ready = ⊤
 IsFresh (doings.Making to name plan) = IsFreshSearch plan.at
-IsFresh (doings.Copying to held plan) = plan.at ≡ attempt.Loading
+IsFresh (doings.Gaining gain to from plan) = plan.at ≡ attempt.Loading
+IsFresh (doings.Naming to held plan) = ⊥
 IsFresh (doings.Dropping held plan) = plan.at ≡ attempt.Loading
 IsFresh (doings.Dying c) = ⊥
+IsFresh (doings.Vacating slot plan) = ⊥
 IsFresh doings.Ended = ⊤
 
 -- a stepper for this heap
@@ -109,7 +115,7 @@ drop_walks shape held t u most (layout, is) hands event count same = record {
   event = event;
   count = count;
   same = same;
-  asks = (ap (λ (l : Extent). record { layout = l; slot = held.place; at = attempt.Loading }) layout, ap (λ (l : Extent). moves.Step (Load (number l (Count held.place))) (intents.Drop held.hand)) layout);
+  asks = (ap (λ (l : Extent). record { layout = l; slot = held.place; list = held.kind; entry = None; at = attempt.Loading }) layout, ap (λ (l : Extent). moves.Step (Load (number l (Count held.place))) (intents.Drop held.hand)) layout);
   fresh = refl;
 }
 
@@ -120,15 +126,16 @@ dropped shape t u v held own is hands event vars = drop_walks shape held t (set_
     let here : weigh f (value t.vars v) ≡ f held = ap (weigh f) is in
     rw vars (omega arith))
 
-pub copy_walks : (shape : HeapShape) (to : ℕ) (held : Held) (t u : Thread) (most : (Held → ℕ) → ℕ) → IsFor shape u → u.hands ≡ t.hands → u.event ≡ t.event → length u.vars ≡ length t.vars → ((f : Held → ℕ) → in_vars u.vars f ≡ most f) → Walks shape t (copy_begun to held u) most
-copy_walks shape to held t u most (layout, is) hands event count same = record {
+pub gain_walks : (shape : HeapShape) (gain : Gain) (to : ℕ) (from : Held) (t u : Thread) (most : (Held → ℕ) → ℕ) → IsFor shape u → u.hands ≡ t.hands → u.event ≡ t.event → length u.vars ≡ length t.vars → ((f : Held → ℕ) → in_vars u.vars f ≡ most f)
+    → Walks shape t (gain_begun gain to from u) most
+gain_walks shape gain to from t u most (layout, is) hands event count same = record {
   hands = hands;
   event = event;
   count = count;
   same = λ f. let e = same f in omega arith;
   asks = (
-    (λ j. record { layout = layout j; slot = held.place; cap = (is j).caps.strong; at = attempt.Loading }),
-    ap (λ (l : Extent). moves.Step (Load (number l (Count held.place))) (intents.Copy (Hand held.hand))) layout,
+    (λ j. record { layout = layout j; slot = from.place; list = list_of gain from; caps = (is j).caps; entry = None; at = attempt.Loading }),
+    ap (λ (l : Extent). moves.Step (Load (number l (Count from.place))) (intent_of gain from)) layout,
   );
   fresh = refl;
 }
@@ -177,9 +184,9 @@ op_walks shape o t rest own fits after = at o fits
     clearing to (Some old) e = dropped shape t (put answers.Nil (record t { first = true })) to old own e refl refl refl
     clearing to None e = skips answers.Nil
 
-    copying : (to : ℕ) (from old : Option Held) → value t.vars to ≡ old → Walks shape t (begun_copy to from old t rest) (in_vars t.vars)
-    copying to (Some held) old e = copy_walks shape to held t (record t { first = true }) (in_vars t.vars) own refl refl refl (λ f. refl)
-    copying to None old e = clearing to old e
+    gaining : (gain : Gain) (to : ℕ) (from old : Option Held) → value t.vars to ≡ old → Walks shape t (begun_gain gain to from old t rest) (in_vars t.vars)
+    gaining gain to (Some held) old e = gain_walks shape gain to held t (record t { first = true }) (in_vars t.vars) own refl refl refl (λ f. refl)
+    gaining gain to None old e = clearing to old e
 
     moving : (to from : ℕ) (held old : Option Held) → to < length t.vars → value t.vars from ≡ held → value t.vars to ≡ old → Walks shape t (begun_move to from held old t rest) (in_vars t.vars)
     moving to from (Some held) (Some old) within is e = drop_walks shape old t (moved to from held (put answers.Ok (record t { first = true }))) (in_vars t.vars) own refl refl (moved-count t.vars to from (Some held))
@@ -194,12 +201,12 @@ op_walks shape o t rest own fits after = at o fits
 
     at : (o : Op) → VarsFit (length t.vars) o → Walks shape t (begun_op o t rest) (in_vars t.vars)
     at (op.New to class) fit = make_walks shape to (record { class = class; thread = t.thread; number = t.made + 1 }) t (record t { first = true }) (in_vars t.vars) own refl refl refl (λ f. refl)
-    at (op.Copy to from) fit = copying to (value t.vars from) (value t.vars to) refl
+    at (op.Copy to from) fit = gaining gains.Copy to (value t.vars from) (value t.vars to) refl
     at (op.Move to from) fit = moving to from (value t.vars from) (value t.vars to) fit.0 refl refl
     at (op.Drop v) fit = dropping v (value t.vars v) refl
-    at (op.Unown to of) fit = skips answers.Nil
+    at (op.Unown to of) fit = gaining gains.Unown to (value t.vars of) (value t.vars to) refl
     at (op.Weak to of) fit = skips answers.Nil
-    at (op.Load to of) fit = skips answers.Nil
+    at (op.Load to of) fit = gaining gains.Load to (value t.vars of) (value t.vars to) refl
     at (op.Get to cell) fit = skips answers.Nil
     at (op.Set cell from) fit = skips answers.Nil
     at (op.IfNil v past) fit = after (at_place (block_goes_on t.vars t.index (op.IfNil v past)) t) own refl refl refl (λ f. refl)
@@ -249,29 +256,29 @@ next_walks shape t own fits =
     let m = begins_walks shape (record t { doing = doings.Ended; index = cond (ltb t.index (length t.program)) (t.index + 1) t.index }) own fits in
     record { hands = m.hands; event = m.event; count = m.count; same = m.same; asks = m.asks; fresh = m.fresh }
 
--- a variable gets a new reference, and what it had is dropped
-pub replaced_walks : (shape : HeapShape) (t : Thread) (to : ℕ) (new : Held) → IsFor shape t → Fit t.vars t.program → to < length t.vars → Walks shape t (replaced to new t) (λ f. in_vars t.vars f + f new)
+-- a variable gets a new reference or becomes nil, and what it had is dropped
+pub replaced_walks : (shape : HeapShape) (t : Thread) (to : ℕ) (new : Option Held) → IsFor shape t → Fit t.vars t.program → to < length t.vars → Walks shape t (replaced to new t) (λ f. in_vars t.vars f + weigh f new)
 replaced_walks shape t to new own fits within = go (value t.vars to) refl
   where
-    go : (o : Option Held) → value t.vars to ≡ o → Walks shape t (replaced_old o (set_var to (Some new) t)) (λ f. in_vars t.vars f + f new)
+    go : (o : Option Held) → value t.vars to ≡ o → Walks shape t (replaced_old o (set_var to new t)) (λ f. in_vars t.vars f + weigh f new)
     go None e =
-        let l = length-set t.vars to (Some new) in
-        let m = next_walks shape (set_var to (Some new) t) own (subst (λ n. All (VarsFit n) t.program) (sym l) fits) in
+        let l = length-set t.vars to new in
+        let m = next_walks shape (set_var to new t) own (subst (λ n. All (VarsFit n) t.program) (sym l) fits) in
         record {
           hands = m.hands;
           event = m.event;
           count = m.count ∙ l;
           same = λ f.
               let k = m.same f in
-              let s = vars-set f t.vars to (Some new) within in
+              let s = vars-set f t.vars to new within in
               let here : weigh f (value t.vars to) ≡ 0 = ap (weigh f) e in
               omega arith;
           asks = m.asks;
           fresh = m.fresh;
         }
-    go (Some old) e = drop_walks shape old t (set_var to (Some new) t) (λ f. in_vars t.vars f + f new) own refl refl (length-set t.vars to (Some new))
+    go (Some old) e = drop_walks shape old t (set_var to new t) (λ f. in_vars t.vars f + weigh f new) own refl refl (length-set t.vars to new)
         (λ f.
-        let s = vars-set f t.vars to (Some new) within in
+        let s = vars-set f t.vars to new within in
         let here : weigh f (value t.vars to) ≡ f old = ap (weigh f) e in
         omega arith)
 

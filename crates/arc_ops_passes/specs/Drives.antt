@@ -1,9 +1,8 @@
 -- A stepper drives a pass: what it is doing fits what the pass has, by what the pass has seen.
 use Rattle.std.specs.Prelude.{ℕ, true, false, ◌≡◌, ◌≢◌, List, [], ◌∷◌, ◌/◌, length, Some, None, ⊤}
 use Rattle.arc_model.specs.declared.event.ObjectName.{ObjectName}
-use Rattle.arc_model.specs.declared.event.Origin.TheVariants.{Hand}
 use Rattle.arc_model.specs.declared.shape.Kind.{Kind}
-use Rattle.arc_model.specs.declared.shape.Kind.TheVariants.{Strong, Unowned}
+use Rattle.arc_model.specs.declared.shape.Kind.TheVariants.{Unowned}
 use Rattle.arc_model.specs.Shapes.{HeapShape, class_at}
 use Rattle.arc_model.specs.Heaps.{Duty, Deinit, Vacating, Object}
 use Rattle.arc_model.specs.Holders.{at_slot}
@@ -15,11 +14,12 @@ use Rattle.arc_model.specs.SpellingTies.Causes.{Judged}
 use Rattle.arc_rule.specs.Places.{extent_of, number}
 use Rattle.arc_rule.specs.Bits.{but_bit_of}
 use Rattle.arc_rule.specs.declared.layout.Place.TheVariants.{Count, Isa, Next, SlotBits}
+use Rattle.arc_rule.specs.declared.step.Step.{Step}
 use Rattle.arc_rule.specs.declared.step.Step.TheVariants.{Load, Exchange, Store, And}
 use Rattle.arc_rule.specs.declared.step.Intent.{Intent}
 use Rattle.arc_rule.specs.declared.step.Intent.TheVariants as intents
-use Rattle.arc_plan.specs.declared.attempt.At.{At as AttemptAt}
-use Rattle.arc_plan.specs.declared.attempt.At.TheVariants.{Loading, Exchanging}
+use Rattle.arc_rule.specs.declared.attempt.At.{At as AttemptAt}
+use Rattle.arc_rule.specs.declared.attempt.At.TheVariants.{Loading, Exchanging}
 use Rattle.arc_plan.specs.declared.slots.Making.{Making as Search}
 use Rattle.arc_plan.specs.declared.slots.Making.TheVariants.{Looking, Taking, Counting, Naming}
 use Rattle.arc_plan.specs.declared.slots.Once.{Once}
@@ -30,10 +30,11 @@ use Rattle.arc_cells.specs.declared.cascade.At.TheVariants as at
 use Rattle.arc_cells.specs.Cascades.{CascadeState}
 use Rattle.arc_ops.specs.declared.stepper.Held.{Held}
 use Rattle.arc_ops.specs.declared.stepper.Doing.{Doing}
-use Rattle.arc_ops.specs.declared.stepper.Doing.TheVariants.{Ready, Making, Copying, Dropping, Dying, Ended}
+use Rattle.arc_ops.specs.declared.stepper.Doing.TheVariants as doings
 use Rattle.arc_ops.specs.declared.stepper.Move.{Move}
 use Rattle.arc_ops.specs.declared.stepper.Move.TheVariants as moves
 use Rattle.arc_ops.specs.Thread.{Thread}
+use Rattle.arc_ops.specs.Plans.{list_of, intent_of}
 use Rattle.arc_spelled.specs.StepperStands.{Work, StandsFor}
 use Rattle.arc_view.specs.declared.view.Role.TheVariants.{Pass}
 use Rattle.arc_view.specs.declared.view.Working.{Working}
@@ -60,9 +61,18 @@ AttemptAsks shape asked s intent Loading = asked ≡ moves.Step (Load (number (e
 AttemptAsks shape asked s intent (Exchanging seen new) = asked ≡ moves.Step (Exchange (number (extent_of shape) (Count s)) seen new) intent
 AttemptAsks shape asked s intent _ = ⊥
 
+-- a plan of this one step
+abbrev pub OnceAsks : Move → Step → Intent → Once → Type 0
+OnceAsks asked step intent Asked = asked ≡ moves.Step step intent
+OnceAsks asked step intent _ = ⊥
+
+-- the And that clears the bit of a slot
 abbrev pub VacateAsks : HeapShape → Move → ℕ → Once → Type 0
-VacateAsks shape asked s Asked = asked ≡ moves.Step (And (number (extent_of shape) (SlotBits (s / 64))) (but_bit_of s)) intents.Vacate
-VacateAsks shape asked s _ = ⊥
+VacateAsks shape asked s at = OnceAsks asked (And (number (extent_of shape) (SlotBits (s / 64))) (but_bit_of s)) intents.Vacate at
+
+-- the load of the isa word of a slot
+abbrev pub NameAsks : HeapShape → Move → ℕ → Once → Type 0
+NameAsks shape asked s at = OnceAsks asked (Load (number (extent_of shape) (Isa s))) intents.Look at
 
 abbrev pub CascadeAsks : HeapShape → Move → ℕ → CascadeAt → Type 0
 CascadeAsks shape asked s at.Entering = asked ≡ moves.Step (Store (number (extent_of shape) (Next s)) 0) (intents.Deinit s)
@@ -73,14 +83,18 @@ CascadeAsks shape asked s (at.Vacating p) = (p ≡ record { layout = extent_of s
 CascadeAsks shape asked s _ = ⊥
 
 abbrev pub Asks : HeapShape → Thread → Doing → Type 0
-Asks shape t Ready = t.asked ≡ moves.PhaseEnd
-Asks shape t (Making to name plan) =
+Asks shape t doings.Ready = t.asked ≡ moves.PhaseEnd
+Asks shape t (doings.Making to name plan) =
     (plan ≡ record { layout = extent_of shape; name = name; immortal = (class_at shape name.class).immortal; at = plan.at }) × SearchAsks shape t.asked name plan.at
-Asks shape t (Copying to held plan) =
-    (plan ≡ record { layout = extent_of shape; slot = held.place; cap = shape.caps.strong; at = plan.at }) × AttemptAsks shape t.asked held.place (intents.Copy (Hand held.hand)) plan.at
-Asks shape t (Dropping held plan) = (plan ≡ record { layout = extent_of shape; slot = held.place; at = plan.at }) × AttemptAsks shape t.asked held.place (intents.Drop held.hand) plan.at
-Asks shape t (Dying c) = (c ≡ record { layout = extent_of shape; shape = shape; slot = c.slot; at = c.at; event = c.event }) × CascadeAsks shape t.asked c.slot c.at
-Asks shape t Ended = (t.asked ≡ moves.Ended) × ((f : Held → ℕ) → in_vars t.vars f ≡ 0)
+Asks shape t (doings.Gaining gain to from plan) =
+    (plan ≡ record { layout = extent_of shape; slot = from.place; list = list_of gain from; caps = shape.caps; entry = None; at = plan.at })
+    × AttemptAsks shape t.asked from.place (intent_of gain from) plan.at
+Asks shape t (doings.Naming to held plan) = (plan ≡ record { layout = extent_of shape; slot = held.place; at = plan.at }) × NameAsks shape t.asked held.place plan.at
+Asks shape t (doings.Dropping held plan) =
+    (plan ≡ record { layout = extent_of shape; slot = held.place; list = held.kind; entry = None; at = plan.at }) × AttemptAsks shape t.asked held.place (intents.Drop held.hand) plan.at
+Asks shape t (doings.Dying c) = (c ≡ record { layout = extent_of shape; shape = shape; slot = c.slot; at = c.at; event = c.event }) × CascadeAsks shape t.asked c.slot c.at
+Asks shape t (doings.Vacating slot plan) = (plan ≡ record { layout = extent_of shape; slot = slot; at = plan.at }) × VacateAsks shape t.asked slot plan.at
+Asks shape t doings.Ended = (t.asked ≡ moves.Ended) × ((f : Held → ℕ) → in_vars t.vars f ≡ 0)
 
 -- ---- what the pass has under way meanwhile
 
@@ -96,9 +110,9 @@ Searched shape v name (Naming s) = IsMade v name s
 Searched shape v name _ = ⊤
 
 -- the word that an attempt has read allows its exchange
-abbrev pub MayGoUp : HeapShape → ℕ → AttemptAt → Type 0
-MayGoUp shape s (Exchanging seen new) = IsUp shape Strong (Count s) seen new
-MayGoUp shape s _ = ⊤
+abbrev pub MayGoUp : HeapShape → Kind → ℕ → AttemptAt → Type 0
+MayGoUp shape list s (Exchanging seen new) = IsUp shape list (Count s) seen new
+MayGoUp shape list s _ = ⊤
 
 abbrev pub MayGoDown : Kind → ℕ → AttemptAt → Type 0
 MayGoDown kind s (Exchanging seen new) = IsDown kind (Count s) seen new
@@ -149,10 +163,11 @@ pub record IsFree (v : View) : Type 0 where
   pub none : OwesNothing v
 
 abbrev pub UnderWay : HeapShape → View → Doing → Type 0
-UnderWay shape v (Making to name plan) = (v.working ≡ search_works plan.at) × OwesNothing v × Searched shape v name plan.at
-UnderWay shape v (Copying to held plan) = IsFree v × MayGoUp shape held.place plan.at
-UnderWay shape v (Dropping held plan) = IsFree v × MayGoDown Strong held.place plan.at
-UnderWay shape v (Dying c) = IsDying shape v c
+UnderWay shape v (doings.Making to name plan) = (v.working ≡ search_works plan.at) × OwesNothing v × Searched shape v name plan.at
+UnderWay shape v (doings.Gaining gain to from plan) = IsFree v × MayGoUp shape (list_of gain from) from.place plan.at
+UnderWay shape v (doings.Dropping held plan) = IsFree v × MayGoDown held.kind held.place plan.at
+UnderWay shape v (doings.Dying c) = IsDying shape v c
+UnderWay shape v (doings.Vacating slot plan) = (v.working ≡ idle) × OwesOne v Vacating slot
 UnderWay shape v _ = IsFree v
 
 -- The stepper, at work on these operations, drives the pass.

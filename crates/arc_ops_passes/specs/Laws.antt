@@ -1,9 +1,11 @@
 -- The laws of a stepper that drives a pass.
-use Rattle.std.specs.Prelude.{ℕ, ◌≡◌, ◌≤◌, List, [], length, All, Some, None, ⊤}
+use Rattle.std.specs.Prelude.{ℕ, ◌≡◌, ◌<◌, ◌≤◌, List, [], length, All, Option, Some, None, ⊤}
 use Rattle.arc_model.specs.History.{History, share, IsLegal}
 use Rattle.arc_rule.specs.Places.{extent_of, number}
 use Rattle.arc_rule.specs.declared.layout.Place.TheVariants.{Count}
 use Rattle.arc_rule.specs.declared.step.Step.{Step}
+use Rattle.arc_bits.specs.declared.packing.Word.{Word}
+use Rattle.arc_bits.specs.declared.packing.Word.TheVariants.{Counts, Immortal}
 use Rattle.arc_bits.specs.Words.{unpacked}
 use Rattle.arc_rule.specs.declared.step.Step.TheVariants.{Load}
 use Rattle.arc_rule.specs.declared.step.Intent.{Intent}
@@ -15,7 +17,10 @@ use Rattle.arc_ops.specs.Served.{IsServed}
 use Rattle.arc_ops.specs.Programs.{VarsFit, phases_of, program_of, ops_in_first, vars_of}
 use Rattle.arc_cells.specs.Cascades.{IsInline}
 use Rattle.arc_ops.specs.declared.stepper.Move.TheVariants as moves
-use Rattle.arc_ops.specs.Thread.{Thread, IsStepper, IsUpWord, stepper_of, takes, turned}
+use Rattle.arc_ops.specs.Thread.{Thread, stepper_of}
+use Rattle.arc_ops.specs.Turns.{turned}
+use Rattle.arc_ops.specs.Takes.{takes}
+use Rattle.arc_ops.specs.Steppers.{IsStepper}
 use Rattle.arc_spelled.specs.StepperStands.{Work, IsServedWork, variables}
 use Rattle.arc_spelled.specs.Spelled.{work_of}
 use Rattle.arc_view.specs.declared.view.Role.TheVariants.{Pass}
@@ -28,7 +33,7 @@ use Rattle.arc_view.specs.Steps.{Told}
 use Rattle.arc_view.specs.Passes.{HoldsNothing}
 use Rattle.arc_view.specs.Calls.{Called, Took}
 use Rattle.arc_ops.specs.declared.stepper.Doing.TheVariants.{Ready}
-use Rattle.arc_model.specs.Shapes.{HeapShape}
+use Rattle.arc_model.specs.Shapes.{CapNumbers, HeapShape}
 use Rattle.arc_model.specs.Spelling.{Note}
 use Rattle.arc_model.specs.SpellingTies.{Ties}
 use Rattle.arc_model.specs.SpellingTies.Causes.{Judged}
@@ -74,10 +79,17 @@ abbrev pub StepsAreAllowed : Type 0
 StepsAreAllowed = (w : Work) (t : Thread) (v : View) (step : Step) (intent : Intent) → IsServedWork w → IsStepper t → IsSized w.shape → Drives w t v → t.asked ≡ moves.Step step intent →
     Admits w.shape v step intent
 
--- So far a count that is read lies in the inline word, and is that of a live object and below its cap, or says that the object is immortal, where a
--- reference is to be copied.
+-- counts below both caps, or the word of an immortal object
+abbrev pub IsBelowCaps : CapNumbers → Option Word → Type 0
+IsBelowCaps caps (Some (Counts c)) = (c.strong_extra < caps.strong) × (c.unowned < caps.unowned)
+IsBelowCaps caps (Some Immortal) = ⊤
+IsBelowCaps caps _ = ⊥
+
+-- So far a count that is read lies in the inline word, and is below both caps, or says that the object is immortal, where a reference is to be gained.
 abbrev pub IsServedWord : HeapShape → Step → Intent → ℕ → Type 0
-IsServedWord shape (Load place) (intents.Copy from) found = IsUpWord shape.caps.strong (unpacked found)
+IsServedWord shape (Load place) (intents.Copy from) found = IsBelowCaps shape.caps (unpacked found)
+IsServedWord shape (Load place) (intents.UnownedOf of) found = IsBelowCaps shape.caps (unpacked found)
+IsServedWord shape (Load place) (intents.Load of) found = IsBelowCaps shape.caps (unpacked found)
 IsServedWord shape (Load place) (intents.Drop hand) found = IsInline (unpacked found)
 IsServedWord shape (Load place) (intents.Deinit slot) found = place ≡ number (extent_of shape) (Count slot) → IsInline (unpacked found)
 IsServedWord shape step intent found = ⊤

@@ -1,7 +1,7 @@
 //! A thread's stepper drives its pass of a shared heap: one relation between the two, and the laws of the steps that it asks for. No function
 //! does anything.
 //!
-//! Each reference of the stepper is a strong hand of the pass, and the pass has no other; what is under way in its plan is what the pass has
+//! Each reference of the stepper is a hand of the pass, of its kind, and the pass has no other; what is under way in its plan is what the pass has
 //! under way; and its notes are the acts of the pass. So each step that it asks for is one that the rule allows, what the step finds it may be
 //! given, and the act that it tells is the one that the pass made. What runs scripts over the shared heap, and what replays them over plain words,
 //! rest on these laws.

@@ -1,5 +1,5 @@
 -- What stays of a pass and its tokens from call to call.
-use Rattle.std.proofs.Common.{◌≡◌, ◌≢◌, ℕ, ◌<◌, true, false, true≢false, List, [], Option, Some, None, refl, sym, ap, ◌∙◌, subst, ◌∷◌, length, arith}
+use Rattle.std.proofs.Common.{◌≡◌, ◌≢◌, ℕ, ◌<◌, true, false, true≢false, List, [], Option, Some, None, refl, sym, ap, ◌∙◌, subst, ◌∷◌, ◌++◌, length, append_assoc, ◌⊎◌, inl, inr, arith}
 use Rattle.std.specs.Prelude.{slice_get, slice_index_or}
 use Rattle.arc_model.specs.declared.event.Act.{Act}
 use Rattle.arc_model.specs.declared.event.Act.TheVariants as acts
@@ -9,7 +9,10 @@ use Rattle.arc_view.specs.declared.view.Working.{Working}
 use Rattle.arc_view.specs.Views.{idle}
 use Rattle.arc_model.specs.declared.shape.Kind.TheVariants.{Strong}
 use Rattle.arc_view.specs.declared.view.View.{View}
+use Rattle.arc_rule.specs.declared.step.Changed.{Changed}
 use Rattle.arc_table.specs.Calls.{works_after, IsFree, IsCall}
+use Rattle.arc_table.specs.Causes.{ReadTwice, Loaded, ChangedCount, inline, in_entry, LostSlot}
+use Rattle.arc_table.specs.Runs.{Walked}
 use Rattle.arc_table.specs.Possessions.{StillHas}
 use Rattle.arc_table.proofs.Keeping.{keeps_strong, keeps_strong_but, keeps_deinit}
 use Rattle.arc_table.proofs.Spared.{up_spares, release_spares, finish_spares}
@@ -31,7 +34,7 @@ use Rattle.arc_table.specs.Tokens.{hand_of, IsHeld, IsUp, up_act, IsReleased, re
 use Rattle.arc_view_laws.specs.Having.{KeepsStrong, KeepsStrongBut}
 use Rattle.arc_table.specs.Ends.{HasNoField, finish_act}
 use Rattle.arc_table.proofs.HeldTokens.{copy_apart}
-use Rattle.arc_pairs.specs.Ready.{IsReady, IsPlain, HasImmortal, IsOfClass, IsOurs, IsOurDying, IsSamePass}
+use Rattle.arc_pairs.specs.Ready.{IsReady, IsPlain, HasImmortal, IsOfClass, IsOurs, IsOurDying, IsSamePass, FoundAtCap}
 
 pub held : (heap : Heap) (pass : Pass) (t : Token) → IsOurs heap pass t → IsHeld (shape_of heap) (view_of pass) t
 held heap pass t ours = (ours.0, (0, ours.1))
@@ -132,3 +135,39 @@ pub not_last : (heap : Heap) (v w : Pass) (t : Token) (d : Dying) → HasImmorta
 not_last heap v w t d immortal of r =
     let is = (second_class (shape_of heap).classes (record { fields = []; immortal = true }) (record { fields = []; immortal = false }) immortal).1 in
     true≢false (sym (ap (λ (c : ObjectClass). c.immortal) is) ∙ r.2 1 of.1)
+
+-- steps that were made are steps since, call after call
+pub walked_self : (v : View) → Walked v v
+walked_self v = record { marks = []; trail = refl }
+
+pub walked_on : (u v w : View) → Walked u v → Walked v w → Walked u w
+walked_on u v w a b = record { marks = b.marks ++ a.marks; trail = b.trail ∙ (ap (λ l. b.marks ++ l) a.trail ∙ sym (append_assoc b.marks a.marks u.trail)) }
+
+pub lost_walked : (shape : HeapShape) (c : Changed) (v w : View) → LostSlot shape c v w → Walked v w
+lost_walked shape c v w l = record { marks = l.second ∷ l.first ∷ l.before; trail = l.trail }
+
+read_walked : (place : ℕ) (c : Changed) (v w : View) → ReadTwice place c v w → Walked v w
+read_walked place c v w r = record { marks = r.second ∷ r.first ∷ r.before; trail = r.trail }
+
+pub changed_walked : (shape : HeapShape) (k s : ℕ) (c : Changed) (v w : View) → ChangedCount shape k s c v w → Walked v w
+changed_walked shape k s c v w (inline r) = read_walked _ c v w r
+changed_walked shape k s c v w (in_entry e has r) = read_walked _ c v w r
+
+-- a load that a later call made
+loaded_on : (place word : ℕ) (u v w : View) → Walked u v → Loaded place word v w → Loaded place word u w
+loaded_on place word u v w a l = record {
+  mark = l.mark;
+  before = l.before ++ a.marks;
+  trail = l.trail ∙ ap (λ x. l.mark ∷ x) (ap (λ x. l.before ++ x) a.trail ∙ sym (append_assoc l.before a.marks u.trail));
+  loads = l.loads;
+  found = l.found;
+}
+
+-- a count that a later call found at its greatest
+pub found_on : (heap : Heap) (t : Token) (u v w : View) → Walked u v → FoundAtCap heap v w t → FoundAtCap heap u w t
+found_on heap t u v w a (inl l) = inl (record { word = l.word; counts = l.counts; loaded = loaded_on _ l.word u v w a l.loaded; packs = l.packs; live = l.live; at_cap = l.at_cap })
+found_on heap t u v w a (inr l) = inr (record { entry = l.entry; has = l.has; loaded = loaded_on _ _ u v w a l.loaded })
+
+pub capped : (heap : Heap) (t : Token) (u v w : View) (r : Up Token) → Walked u v → IsUp (shape_of heap) t v w r → (r ≡ ups.AtCap) ⊎ (r ≡ ups.CountFull) → FoundAtCap heap u w t
+capped heap t u v w r a up (inl is) = found_on heap t u v w a (inl (subst (IsUp (shape_of heap) t v w) is up))
+capped heap t u v w r a up (inr is) = found_on heap t u v w a (inr (subst (IsUp (shape_of heap) t v w) is up))

@@ -1,6 +1,8 @@
 -- What a thread has between two calls.
-use Rattle.std.specs.Prelude.{ℕ, ◌≡◌, ◌≢◌, ◌<◌, ◌≤◌, true, false, [], Some, slice_get, ⊤}
+use Rattle.std.specs.Prelude.{ℕ, ◌≡◌, ◌≢◌, ◌<◌, ◌≤◌, ◌+◌, ◌⊎◌, true, false, [], Some, slice_get, ⊤}
 use Rattle.arc_model.specs.History.{IsLegal}
+use Rattle.arc_model.specs.declared.event.Act.TheVariants as acts
+use Rattle.arc_rule.specs.Bits.{words_of}
 use Rattle.arc_view.specs.declared.view.View.{View}
 use Rattle.arc_view.specs.Views.{idle}
 use Rattle.arc_table.specs.declared.heap.Heap.{Heap}
@@ -13,6 +15,9 @@ use Rattle.arc_table.specs.Seats.{heap_id, shape_of, pass_id, view_of}
 use Rattle.arc_table.specs.Tokens.{hand_of}
 use Rattle.arc_view_laws.specs.Having.{IsStrongOf, IsDyingOf}
 use Rattle.arc_table.specs.Cells.{HoldsStrong, IsNamed}
+use Rattle.arc_table.specs.Calls.{GoesOn}
+use Rattle.arc_table.specs.Causes.{FoundTaken, LoadedAtCap, LoadedFull}
+use Rattle.arc_table.specs.Runs.{Walked}
 
 -- the pass is one of the heap's, nothing is under way, and what it has seen is legal
 abbrev pub IsReady : Heap → Pass → Type 0
@@ -63,3 +68,11 @@ AreForOurs heap n = (g : ℕ) → g < n → IsForOurs heap g
 -- a pass of the heap for one of this many threads, which its number says, from 1 on
 abbrev pub IsWorker : Heap → ℕ → Pass → Type 0
 IsWorker heap n pass = IsReady heap pass × (1 ≤ (view_of pass).number) × ((view_of pass).number ≤ n)
+
+-- Between the two views the pass's last call was one that made `full` alone: it loaded each bit word of the slots, and found each slot taken.
+abbrev pub FoundFull : Heap → View → View → Type 0
+FoundFull heap u w = (v : View) × Walked u v × GoesOn (shape_of heap) (Some acts.Full) (words_of (shape_of heap).slots + 3) v w × FoundTaken (shape_of heap) v w
+
+-- The last step between the two views was a load of a count of the reference's object, which stood at its greatest.
+abbrev pub FoundAtCap : Heap → View → View → Token → Type 0
+FoundAtCap heap v w t = LoadedAtCap (shape_of heap) t.slot v w ⊎ LoadedFull (shape_of heap) (hand_of t) v w

@@ -1,10 +1,10 @@
 //! Objects made and ended, references more and fewer. A call that answers `Again` is made again: other threads make calls in between, so no bound says how often.
-ghost use Rattle.std.specs.Prelude.{◌≡◌, ◌≢◌, ◌<◌, length, IfSome};
+ghost use Rattle.std.specs.Prelude.{◌≡◌, ◌≢◌, ◌<◌, length, None, IfSome};
 ghost use Rattle.arc_view.specs.Rule.{news};
 ghost use Rattle.arc_table.specs.Seats.{shape_of, view_of};
 ghost use Rattle.arc_table.specs.Tokens.{hand_of};
 ghost use Rattle.arc_view_laws.specs.Having.{KeepsStrong, KeepsStrongBut};
-ghost use Rattle.arc_pairs.specs.Ready.{IsReady, IsPlain, IsOfClass, IsOurs, IsOurDying, IsSamePass};
+ghost use Rattle.arc_pairs.specs.Ready.{IsReady, IsPlain, IsOfClass, IsOurs, IsOurDying, IsSamePass, FoundFull, FoundAtCap};
 
 use arc_table::{Dying, Finish, Heap, Made, Pass, Release, Strong, Up};
 use std::sync::Wait;
@@ -16,6 +16,7 @@ pub fn created_of<R: Wait>(rt: &R, heap: &Heap, pass: &mut Pass, class: u32) -> 
     requires room { news (view_of pass.old).number (view_of pass.old).seen < 100000 }
     ensures ready { IsReady heap.now pass.new }
     ensures made { IfSome result (λ t. IsOfClass class heap.now pass.new t) }
+    ensures full { result ≡ None → FoundFull heap.now (view_of pass.old) (view_of pass.new) }
     ensures same { IsSamePass (view_of pass.old) (view_of pass.new) }
 {
     for _ in rt.forever() {
@@ -35,6 +36,7 @@ pub fn created<R: Wait>(rt: &R, heap: &Heap, pass: &mut Pass) -> Option<Strong>
     requires room { news (view_of pass.old).number (view_of pass.old).seen < 100000 }
     ensures ready { IsReady heap.now pass.new }
     ensures made { IfSome result (λ t. IsOurs heap.now pass.new t) }
+    ensures full { result ≡ None → FoundFull heap.now (view_of pass.old) (view_of pass.new) }
 {
     created_of(rt, heap, pass, 0)
 }
@@ -47,6 +49,26 @@ pub fn copied<R: Wait>(rt: &R, heap: &Heap, pass: &mut Pass, of: &Strong) -> Opt
     ensures ready { IsReady heap.now pass.new }
     ensures copy { IfSome result (λ t. IsOurs heap.now pass.new t) }
     ensures other { IfSome result (λ t. hand_of t ≢ hand_of of.now) }
+    ensures full { result ≡ None → FoundAtCap heap.now (view_of pass.old) (view_of pass.new) of.now }
+    ensures kept { KeepsStrong (view_of pass.old) (view_of pass.new) }
+{
+    match heap.retain(pass, of) {
+        Up::Ok(more) => Some(more),
+        Up::AtCap | Up::CountFull => None,
+        Up::Again(_) => copied_again(rt, heap, pass, of),
+    }
+}
+
+/// The same, call after call, where the first one was answered `Again`. It stands apart so that the first call has no loop about it.
+#[cold]
+#[inline(never)]
+fn copied_again<R: Wait>(rt: &R, heap: &Heap, pass: &mut Pass, of: &Strong) -> Option<Strong>
+    requires ready { IsReady heap.now pass.old }
+    requires held { IsOurs heap.now pass.old of.now }
+    ensures ready { IsReady heap.now pass.new }
+    ensures copy { IfSome result (λ t. IsOurs heap.now pass.new t) }
+    ensures other { IfSome result (λ t. hand_of t ≢ hand_of of.now) }
+    ensures full { result ≡ None → FoundAtCap heap.now (view_of pass.old) (view_of pass.new) of.now }
     ensures kept { KeepsStrong (view_of pass.old) (view_of pass.new) }
 {
     for _ in rt.forever() {
@@ -62,6 +84,23 @@ pub fn copied<R: Wait>(rt: &R, heap: &Heap, pass: &mut Pass, of: &Strong) -> Opt
 /// One reference fewer. The duty to end the object, where it was the last one.
 #[inline(always)]
 pub fn given_up<R: Wait>(rt: &R, heap: &Heap, pass: &mut Pass, held: Strong) -> Option<Dying>
+    requires ready { IsReady heap.now pass.old }
+    requires held { IsOurs heap.now pass.old held }
+    ensures ready { IsReady heap.now pass.new }
+    ensures dying { IfSome result (λ d. IsOurDying heap.now pass.new d) }
+    ensures kept { KeepsStrongBut (hand_of held) (view_of pass.old) (view_of pass.new) }
+{
+    match heap.release(pass, held) {
+        Release::More => None,
+        Release::Last(dying) => Some(dying),
+        Release::Again(back, _) => given_up_again(rt, heap, pass, back),
+    }
+}
+
+/// The same, call after call, where the first one was answered `Again`.
+#[cold]
+#[inline(never)]
+fn given_up_again<R: Wait>(rt: &R, heap: &Heap, pass: &mut Pass, held: Strong) -> Option<Dying>
     requires ready { IsReady heap.now pass.old }
     requires held { IsOurs heap.now pass.old held }
     ensures ready { IsReady heap.now pass.new }

@@ -11,8 +11,8 @@ use Rattle.arc_rule.specs.declared.layout.Place.TheVariants.{SlotBits}
 use Rattle.arc_rule.specs.Steps.{found_by, made_by}
 use Rattle.arc_rule.specs.declared.step.Step.{Step}
 use Rattle.arc_rule.specs.declared.step.Intent.{Intent}
-use Rattle.arc_plan.specs.declared.attempt.At.{At as AttemptAt}
-use Rattle.arc_plan.specs.declared.attempt.At.TheVariants as attempt
+use Rattle.arc_rule.specs.declared.attempt.At.{At as AttemptAt}
+use Rattle.arc_rule.specs.declared.attempt.At.TheVariants as attempt
 use Rattle.arc_plan.specs.declared.slots.Making.{Making as Search}
 use Rattle.arc_plan.specs.declared.slots.Making.TheVariants as search
 use Rattle.arc_cells.specs.declared.cascade.At.{At}
@@ -27,11 +27,13 @@ use Rattle.arc_ops.specs.declared.stepper.Doing.{Doing}
 use Rattle.arc_ops.specs.declared.stepper.Doing.TheVariants as doings
 use Rattle.arc_ops.specs.declared.stepper.Move.{Move}
 use Rattle.arc_ops.specs.declared.stepper.Move.TheVariants as moves
-use Rattle.arc_ops.specs.Thread.{Thread, IsStepper, IsUnderWay as IsAtWork, stepper_of, turned}
+use Rattle.arc_ops.specs.Thread.{Thread, stepper_of}
+use Rattle.arc_ops.specs.Turns.{turned}
+use Rattle.arc_ops.specs.Steppers.{IsStepper, IsUnderWay as IsAtWork}
 use Rattle.arc_replays.specs.Stages.{Reached, MayStep, is_step, is_phase_end, awaits_phase, stepped}
 use Rattle.arc_replays.specs.Stages.Reached.{by_number, last_step}
 use Rattle.arc_plain.specs.Crews.{Progress, IsUnderWay, MayGoOn, ThreadFinished, thread_at, has_made}
-use Rattle.arc_plain.specs.Left.{held_unit, count_at, search_left, attempt_left, cascade_left, doing_left, left}
+use Rattle.arc_plain.specs.Left.{held_unit, count_at, search_left, attempt_left, count_left, cascade_left, doing_left, left}
 use Rattle.arc_replays.proofs.Laws.{threads_are_at_work}
 use Rattle.arc_plain.proofs.Lists.{set_apart}
 use Rattle.arc_plain.proofs.Walks.{IsPhase, unit_few}
@@ -54,6 +56,17 @@ attempt_few w (attempt.Exchanging seen new) = go (eqb w seen)
     go true = omega arith
     go false = omega arith
 attempt_few w attempt.Ended = omega arith
+
+counted_few : (entry : Option ℕ) (w : ℕ) (a : AttemptAt) → count_left entry w a ≤ 4
+counted_few (Some e) w a = omega arith
+counted_few None w attempt.Start = omega arith
+counted_few None w attempt.Loading = omega arith
+counted_few None w (attempt.Exchanging seen new) = go (eqb w seen)
+  where
+    go : (b : Bool) → cond b 1 4 ≤ 4
+    go true = omega arith
+    go false = omega arith
+counted_few None w attempt.Ended = omega arith
 
 search_few : (words : List ℕ) (l : Extent) (a : Search) → search_left words l a ≤ words_of l.slots + 16
 search_few words l search.Start = omega arith
@@ -81,9 +94,11 @@ doing_few : (words : List ℕ) (t : Thread) (d : Doing) → t.layout.slots ≤ 4
 doing_few words t doings.Ready slots program vars under = omega arith
 doing_few words t (doings.Making to name plan) slots program vars under =
     let h = held_few t.vars in let k = search_few words plan.layout plan.at in let same : plan.layout.slots ≡ t.layout.slots = ap (λ (l : Extent). l.slots) under.1 in omega arith
-doing_few words t (doings.Copying to held plan) slots program vars under = let h = held_few t.vars in let k = attempt_few (count_at words plan.layout plan.slot) plan.at in omega arith
-doing_few words t (doings.Dropping held plan) slots program vars under = let h = held_few t.vars in let k = attempt_few (count_at words plan.layout plan.slot) plan.at in omega arith
+doing_few words t (doings.Gaining gain to from plan) slots program vars under = let h = held_few t.vars in let k = counted_few plan.entry (count_at words plan.layout plan.slot) plan.at in omega arith
+doing_few words t (doings.Naming to held plan) slots program vars under = let h = held_few t.vars in omega arith
+doing_few words t (doings.Dropping held plan) slots program vars under = let h = held_few t.vars in let k = counted_few plan.entry (count_at words plan.layout plan.slot) plan.at in omega arith
 doing_few words t (doings.Dying c) slots program vars under = let h = held_few t.vars in let k = cascade_few words c.at in omega arith
+doing_few words t (doings.Vacating slot plan) slots program vars under = let h = held_few t.vars in omega arith
 doing_few words t doings.Ended slots program vars under = omega arith
 
 declared_few : (classes : _) (globals : _) (ts : List ThreadDecl) (i : ℕ) → AllByRecursion (IsThread classes globals) ts → count_of_vars (slice_get ts i) ≤ 256

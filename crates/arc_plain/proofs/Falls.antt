@@ -5,11 +5,13 @@ use Rattle.std.proofs.lemmas.Option.{slice_get_within}
 use Rattle.arc_bits.specs.declared.packing.Word.{Word}
 use Rattle.arc_bits.specs.declared.packing.Word.TheVariants as word
 use Rattle.arc_bits.specs.Words.{packed, unpacked}
-use Rattle.arc_bits.specs.Moves.{strong_more}
-use Rattle.arc_model.specs.Shapes.{HeapShape, class_at}
+use Rattle.arc_bits.specs.Moves.{strong_more, strong_less, unowned_more, unowned_less}
+use Rattle.arc_model.specs.Shapes.{CapNumbers, HeapShape, class_at}
+use Rattle.arc_model.specs.declared.shape.Kind.{Kind}
+use Rattle.arc_model.specs.declared.shape.Kind.TheVariants as kinds
 use Rattle.arc_model.specs.declared.event.Act.{Act}
 use Rattle.arc_model.specs.declared.event.Act.TheVariants as acts
-use Rattle.arc_model.specs.declared.event.Origin.TheVariants.{Hand}
+use Rattle.arc_model.specs.declared.event.Got.TheVariants as gots
 use Rattle.arc_model.specs.declared.event.ObjectName.{ObjectName}
 use Rattle.arc_model.specs.declared.answer.Answer.TheVariants as answers
 use Rattle.arc_rule.specs.Extents.{Extent}
@@ -22,24 +24,32 @@ use Rattle.arc_rule.specs.declared.step.Intent.{Intent}
 use Rattle.arc_rule.specs.declared.step.Intent.TheVariants as intents
 use Rattle.arc_rule.specs.declared.plan.Next.{Next as NextStep}
 use Rattle.arc_rule.specs.declared.plan.Next.TheVariants as nexts
-use Rattle.arc_plan.specs.declared.attempt.At.{At as AttemptAt}
-use Rattle.arc_plan.specs.declared.attempt.At.TheVariants as attempt
-use Rattle.arc_plan.specs.declared.attempt.Choice.{Choice}
-use Rattle.arc_plan.specs.declared.attempt.Choice.TheVariants.{Tell, Write}
+use Rattle.arc_rule.specs.declared.attempt.At.{At as AttemptAt}
+use Rattle.arc_rule.specs.declared.attempt.At.TheVariants as attempt
+use Rattle.arc_rule.specs.declared.attempt.Choice.{Choice}
+use Rattle.arc_rule.specs.declared.attempt.Choice.TheVariants.{Tell, Write}
 use Rattle.arc_plan.specs.declared.slots.Making.{Making as Search}
 use Rattle.arc_plan.specs.declared.slots.Making.TheVariants as search
 use Rattle.arc_plan.specs.declared.slots.NewObjectAnswer.TheVariants.{NoSlot, Again}
 use Rattle.arc_plan.specs.declared.slots.Once.{Once}
 use Rattle.arc_plan.specs.declared.slots.Once.TheVariants as once
-use Rattle.arc_plan.specs.declared.strong.StrongUpAnswer.{StrongUpAnswer}
-use Rattle.arc_plan.specs.declared.strong.StrongUpAnswer.TheVariants as ups
-use Rattle.arc_plan.specs.declared.strong.StrongDownAnswer.{StrongDownAnswer}
+use Rattle.arc_plan.specs.declared.strong.StrongUpAnswer.TheVariants as strong_ups
+use Rattle.arc_plan.specs.declared.strong.StrongDownAnswer.TheVariants as strong_downs
+use Rattle.arc_plan.specs.declared.unowned.UnownedUpAnswer.TheVariants as unowned_ups
 use Rattle.arc_plan.specs.declared.unowned.UnownedDownAnswer.{UnownedDownAnswer}
-use Rattle.arc_plan.specs.declared.strong.StrongDownAnswer.TheVariants as downs
 use Rattle.arc_plan.specs.declared.unowned.UnownedDownAnswer.TheVariants as less
-use Rattle.arc_plan.specs.Attempts.{Attempt, CappedAttempt, exchanging, chosen}
+use Rattle.arc_plan.specs.Attempts.{Attempt}
+use Rattle.arc_rule.specs.Attempts.{exchanging, chosen, told_as, turned_by, answer_by}
+use Rattle.arc_rule.specs.Isa.{isa_name_of}
 use Rattle.arc_plan.specs.Strong.{strong_up_row, strong_down_row, strong_down_end}
-use Rattle.arc_plan.specs.Unowned.{unowned_down_row, unowned_down_end}
+use Rattle.arc_plan.specs.Unowned.{unowned_up_row, unowned_down_row, unowned_down_end}
+use Rattle.arc_side.specs.declared.up.UpAnswer.{UpAnswer}
+use Rattle.arc_side.specs.declared.up.UpAnswer.TheVariants as ups
+use Rattle.arc_side.specs.declared.down.DownAnswer.{DownAnswer}
+use Rattle.arc_side.specs.declared.down.DownAnswer.TheVariants as downs
+use Rattle.arc_side.specs.Inline.{entry_named}
+use Rattle.arc_side.specs.Ups.{Rise, of_strong_up, of_unowned_up, up_in, up_moved, up_place}
+use Rattle.arc_side.specs.Downs.{Fall, of_strong_down, of_unowned_down, down_end_at, down_in, down_moved, down_place}
 use Rattle.arc_plan.specs.Slots.{Creation, free_slot, looked, looked_answer, looking, taking, counting}
 use Rattle.arc_plan.proofs.Bits.{free_is_clear}
 use Rattle.arc_rule.specs.Bits.{words_of, bit_of}
@@ -57,8 +67,17 @@ use Rattle.arc_ops.specs.declared.stepper.Doing.{Doing}
 use Rattle.arc_ops.specs.declared.stepper.Doing.TheVariants as doings
 use Rattle.arc_ops.specs.declared.stepper.Move.{Move}
 use Rattle.arc_ops.specs.declared.stepper.Move.TheVariants as moves
-use Rattle.arc_ops.specs.Thread.{Thread, IsStepper, IsUnderWay, IsMakingIn, IsInOperation, turned, turned_at, put, begun, next_op, made_on, copied_on, dropped_on, dying_on}
-use Rattle.arc_ops_passes.specs.Drives.{Asks, SearchAsks, AttemptAsks, VacateAsks, CascadeAsks}
+use Rattle.arc_ops.specs.declared.gain.Gain.{Gain}
+use Rattle.arc_ops.specs.declared.gain.Gain.TheVariants as gains
+use Rattle.arc_ops.specs.Thread.{Thread, put}
+use Rattle.arc_ops.specs.Plans.{list_of, intent_of}
+use Rattle.arc_ops.specs.Gains.{gained, came_by, has_gained, found_dead, gained_on}
+use Rattle.arc_ops.specs.Begins.{begun, next_op}
+use Rattle.arc_ops.specs.Drops.{dropped_on, dying_on}
+use Rattle.arc_ops.specs.Makes.{strong_to, made_on}
+use Rattle.arc_ops.specs.Turns.{turned, turned_at}
+use Rattle.arc_ops.specs.Steppers.{IsStepper, IsUnderWay, IsMakingIn, IsInOperation}
+use Rattle.arc_ops_passes.specs.Drives.{Asks, SearchAsks, AttemptAsks, VacateAsks, NameAsks, CascadeAsks}
 use Rattle.arc_plain.specs.Left.{units, busy_units, count_at, doing_left, left}
 use Rattle.arc_plain.proofs.Walks.{IsPhase, IsForth, Fits, Comes, Same, after_same, begins, next_comes, replaced_comes}
 
@@ -146,98 +165,219 @@ counted_on t words after l to name immortal s found = record { layout = refl; ph
 named : (t : Thread) (words after : List ℕ) (l : Extent) (to : ℕ) (name : ObjectName) (immortal : Bool) (slot found : ℕ) → Fits t → t.index < length t.program →
     Goes t words after (making_at l to name immortal (search.Naming slot)) (turned_at (Some found) (making_at l to name immortal (search.Naming slot)) (quiet t))
 named t words after l to name immortal slot found fits here =
-    goes_to t (put (answers.New name) (quiet t)) _ words after _ (4200 * busy_units t + 8) (record { layout = refl; phases = refl; program = refl; count = refl; phase = refl })
-    (replaced_comes (put (answers.New name) (quiet t)) to (record { hand = t.hands; place = slot }) fits here) (omega arith)
+    goes_to t (put (answers.New name) (quiet t)) _ words after _ (4200 * busy_units t + 9) (record { layout = refl; phases = refl; program = refl; count = refl; phase = refl })
+    (replaced_comes (put (answers.New name) (quiet t)) to (Some (strong_to t.hands slot)) fits here) (omega arith)
 
--- ---- a reference is copied
+-- ---- a reference is gained
 
-abbrev up_plan : Extent → ℕ → ℕ → AttemptAt → CappedAttempt
-up_plan l s cap at = record { layout = l; slot = s; cap = cap; at = at }
+abbrev up_plan : Extent → ℕ → Kind → CapNumbers → AttemptAt → Rise
+up_plan l s list caps at = record { layout = l; slot = s; list = list; caps = caps; entry = None; at = at }
 
--- by what the row says of the word that was read
-abbrev up_by : Thread → Extent → (cap to : ℕ) → Held → ℕ → Choice StrongUpAnswer → Thread
-up_by t l cap to held w r = copied_on to held (up_plan l held.place cap (exchanging w r)) (chosen (number l (Count held.place)) w r) (quiet t)
+abbrev gaining_at : Extent → Kind → CapNumbers → Gain → ℕ → Held → AttemptAt → Doing
+gaining_at l list caps gain to from x = doings.Gaining gain to from (up_plan l from.place list caps x)
 
 -- the reference has come
-abbrev up_got : Thread → Held → Thread
-up_got t held = put answers.Ok (record (quiet t) { hands = t.hands + 1; event = Some (acts.Copy (Hand held.hand) (t.hands + 1)) })
+got : (t : Thread) (words after : List ℕ) (gain : Gain) (to : ℕ) (from : Held) (d : Doing) → Fits t → t.index < length t.program → 4200 * busy_units t + 10 < doing_left words t d →
+    Goes t words after d (has_gained gain to (gained gain from (quiet t)) (came_by gain from (quiet t)))
+got t words after gains.Load to from d fits here more = record { layout = refl; phases = refl; program = refl; count = refl; phase = refl; fewer = more }
+got t words after gains.Copy to from d fits here more =
+    goes_to t (put answers.Ok (came_by gains.Copy from (quiet t))) _ words after d (4200 * busy_units t + 9) (record { layout = refl; phases = refl; program = refl; count = refl; phase = refl })
+    (replaced_comes (put answers.Ok (came_by gains.Copy from (quiet t))) to (Some (gained gains.Copy from (quiet t))) fits here) (omega (arith, more))
+got t words after gains.Unown to from d fits here more =
+    goes_to t (put answers.Ok (came_by gains.Unown from (quiet t))) _ words after d (4200 * busy_units t + 9) (record { layout = refl; phases = refl; program = refl; count = refl; phase = refl })
+    (replaced_comes (put answers.Ok (came_by gains.Unown from (quiet t))) to (Some (gained gains.Unown from (quiet t))) fits here) (omega (arith, more))
 
-up_read : (t : Thread) (words : List ℕ) (l : Extent) (cap to : ℕ) (held : Held) (step : Step) (intent : Intent) → Fits t → t.index < length t.program → t.asked ≡ moves.Step step intent →
-    Goes t words words (doings.Copying to held (up_plan l held.place cap attempt.Loading)) (turned_at (Some (count_at words l held.place)) (doings.Copying to held (up_plan l held.place cap attempt.Loading)) (quiet t))
-up_read t words l cap to held step intent fits here asked = go (unpacked (count_at words l held.place))
+-- the object's deinit has begun
+dead : (t : Thread) (words after : List ℕ) (to : ℕ) (from : Held) (d : Doing) → Fits t → t.index < length t.program → 4200 * busy_units t + 9 < doing_left words t d → Goes t words after d (found_dead to from (quiet t))
+dead t words after to from d fits here more =
+    goes_to t (put answers.Dead (record (quiet t) { event = Some (acts.Load from.hand gots.Dead) })) _ words after d (4200 * busy_units t + 9) (record { layout = refl; phases = refl; program = refl; count = refl; phase = refl })
+    (replaced_comes (put answers.Dead (record (quiet t) { event = Some (acts.Load from.hand gots.Dead) })) to None fits here) more
+
+-- by the entry to which it goes on, and by what the row says of the word that was read
+abbrev up_by : Thread → Extent → Kind → CapNumbers → Gain → ℕ → Held → ℕ → Option ℕ → Choice UpAnswer → Thread
+up_by t l list caps gain to from w e r =
+    gained_on gain to from (turned_by up_moved (up_plan l from.place list caps attempt.Loading) (up_in (up_plan l from.place list caps attempt.Loading) e) (exchanging w r))
+    (answer_by up_place (up_in (up_plan l from.place list caps attempt.Loading) e) (chosen (number l (Count from.place)) w r)) (quiet t)
+
+up_read : (t : Thread) (words : List ℕ) (l : Extent) (list : Kind) (caps : CapNumbers) (gain : Gain) (to : ℕ) (from : Held) (step : Step) (intent : Intent) → Fits t → t.index < length t.program → t.asked ≡ moves.Step step intent →
+    Goes t words words (gaining_at l list caps gain to from attempt.Loading) (turned_at (Some (count_at words l from.place)) (gaining_at l list caps gain to from attempt.Loading) (quiet t))
+up_read t words l list caps gain to from step intent fits here asked = go list
   where
-    told : Goes t words words (doings.Copying to held (up_plan l held.place cap attempt.Loading)) (quiet t)
-    told = record { layout = refl; phases = refl; program = refl; count = refl; phase = stays t.asked step intent t.phase asked; fewer = omega arith }
+    w : ℕ
+    w = count_at words l from.place
 
-    on : (dead full : Bool) (new : ℕ) → Goes t words words (doings.Copying to held (up_plan l held.place cap attempt.Loading)) (up_by t l cap to held (count_at words l held.place) (cond dead (Tell ups.Dead) (cond full (Tell ups.AtCap) (Write new))))
-    on true full new = told
-    on false true new = told
-    on false false new = record { layout = refl; phases = refl; program = refl; count = refl; phase = refl; fewer = rw (eqb_same (count_at words l held.place)) (omega arith) }
+    Read : Kind → Option ℕ → Choice UpAnswer → Type 0
+    Read k e r = Goes t words words (gaining_at l k caps gain to from attempt.Loading) (up_by t l k caps gain to from w e r)
 
-    go : (o : Option Word) → Goes t words words (doings.Copying to held (up_plan l held.place cap attempt.Loading)) (up_by t l cap to held (count_at words l held.place) (strong_up_row cap o))
-    go None = told
-    go (Some word.Free) = told
-    go (Some (word.Slow e)) = told
-    go (Some word.Immortal) = goes_to t (up_got t held) _ words words _ (4200 * busy_units t + 8) (record { layout = refl; phases = refl; program = refl; count = refl; phase = refl }) (replaced_comes (up_got t held) to (record { hand = t.hands + 1; place = held.place }) fits here) (omega arith)
-    go (Some (word.Counts c)) = on c.deiniting (eqb c.strong_extra cap) (packed (word.Counts (strong_more c)))
+    told : (k : Kind) → Goes t words words (gaining_at l k caps gain to from attempt.Loading) (quiet t)
+    told k = record { layout = refl; phases = refl; program = refl; count = refl; phase = stays t.asked step intent t.phase asked; fewer = omega arith }
 
-up_made : (t : Thread) (words after : List ℕ) (l : Extent) (cap to : ℕ) (held : Held) (seen new : ℕ) → Fits t → t.index < length t.program →
-    Goes t words after (doings.Copying to held (up_plan l held.place cap (attempt.Exchanging seen new))) (turned_at (Some (count_at words l held.place)) (doings.Copying to held (up_plan l held.place cap (attempt.Exchanging seen new))) (quiet t))
-up_made t words after l cap to held seen new fits here = go (eqb (count_at words l held.place) seen) refl
+    slow : (k : Kind) (e : ℕ) (r : Choice UpAnswer) → Read k (Some e) r
+    slow k e r = record { layout = refl; phases = refl; program = refl; count = refl; phase = refl; fewer = omega arith }
+
+    none : (k : Kind) → Read k None (Tell ups.Dead)
+    none k = dead t words words to from (gaining_at l k caps gain to from attempt.Loading) fits here (omega arith)
+
+    all : (k : Kind) → Read k None (Tell ups.Up)
+    all k = got t words words gain to from (gaining_at l k caps gain to from attempt.Loading) fits here (omega arith)
+
+    writes : (k : Kind) (new : ℕ) → Read k None (Write new)
+    writes k new = record { layout = refl; phases = refl; program = refl; count = refl; phase = refl; fewer = rw (eqb_same w) (omega arith) }
+
+    on : (dying full : Bool) (new : ℕ) → Read kinds.Strong None (told_as of_strong_up (cond dying (Tell strong_ups.Dead) (cond full (Tell strong_ups.AtCap) (Write new))))
+    on true full new = none kinds.Strong
+    on false true new = told kinds.Strong
+    on false false new = writes kinds.Strong new
+
+    off : (full : Bool) (new : ℕ) → Read kinds.Unowned None (told_as of_unowned_up (cond full (Tell unowned_ups.AtCap) (Write new)))
+    off true new = told kinds.Unowned
+    off false new = writes kinds.Unowned new
+
+    strongly : (o : Option Word) → Read kinds.Strong (entry_named o) (told_as of_strong_up (strong_up_row caps.strong o))
+    strongly None = none kinds.Strong
+    strongly (Some word.Free) = none kinds.Strong
+    strongly (Some (word.Slow e)) = slow kinds.Strong e (Tell ups.Up)
+    strongly (Some word.Immortal) = all kinds.Strong
+    strongly (Some (word.Counts c)) = on c.deiniting (eqb c.strong_extra caps.strong) (packed (word.Counts (strong_more c)))
+
+    unownedly : (o : Option Word) → Read kinds.Unowned (entry_named o) (told_as of_unowned_up (unowned_up_row caps.unowned o))
+    unownedly None = told kinds.Unowned
+    unownedly (Some word.Free) = told kinds.Unowned
+    unownedly (Some (word.Slow e)) = slow kinds.Unowned e (Tell ups.Up)
+    unownedly (Some word.Immortal) = all kinds.Unowned
+    unownedly (Some (word.Counts c)) = off (eqb c.unowned caps.unowned) (packed (word.Counts (unowned_more c)))
+
+    weakly : (o : Option Word) → Read kinds.Weak (entry_named o) (Tell ups.Dead)
+    weakly None = none kinds.Weak
+    weakly (Some word.Free) = none kinds.Weak
+    weakly (Some (word.Slow e)) = slow kinds.Weak e (Tell ups.Dead)
+    weakly (Some word.Immortal) = none kinds.Weak
+    weakly (Some (word.Counts c)) = none kinds.Weak
+
+    go : (k : Kind) → Goes t words words (gaining_at l k caps gain to from attempt.Loading) (turned_at (Some w) (gaining_at l k caps gain to from attempt.Loading) (quiet t))
+    go kinds.Strong = strongly (unpacked w)
+    go kinds.Unowned = unownedly (unpacked w)
+    go kinds.Weak = weakly (unpacked w)
+
+up_made : (t : Thread) (words after : List ℕ) (l : Extent) (list : Kind) (caps : CapNumbers) (gain : Gain) (to : ℕ) (from : Held) (seen new : ℕ) → Fits t → t.index < length t.program →
+    Goes t words after (gaining_at l list caps gain to from (attempt.Exchanging seen new)) (turned_at (Some (count_at words l from.place)) (gaining_at l list caps gain to from (attempt.Exchanging seen new)) (quiet t))
+up_made t words after l list caps gain to from seen new fits here = go (eqb (count_at words l from.place) seen) refl
   where
-    go : (b : Bool) → eqb (count_at words l held.place) seen ≡ b → Goes t words after (doings.Copying to held (up_plan l held.place cap (attempt.Exchanging seen new)))
-        (copied_on to held (up_plan l held.place cap attempt.Ended) (nexts.Done (cond b ups.Up (ups.Again (record { seen = seen; found = count_at words l held.place })))) (quiet t))
-    go true e = goes_to t (up_got t held) _ words after _ (4200 * busy_units t + 8) (record { layout = refl; phases = refl; program = refl; count = refl; phase = refl }) (replaced_comes (up_got t held) to (record { hand = t.hands + 1; place = held.place }) fits here) (rw e (omega arith))
+    go : (b : Bool) → eqb (count_at words l from.place) seen ≡ b → Goes t words after (gaining_at l list caps gain to from (attempt.Exchanging seen new))
+        (gained_on gain to from (up_plan l from.place list caps attempt.Ended) (nexts.Done (cond b ups.Up (ups.Again (record { seen = seen; found = count_at words l from.place })))) (quiet t))
+    go true e = got t words after gain to from (gaining_at l list caps gain to from (attempt.Exchanging seen new)) fits here (rw e (omega arith))
     go false e = record { layout = refl; phases = refl; program = refl; count = refl; phase = refl; fewer = rw e (omega arith) }
+
+-- a load has read the name
+name_read : (t : Thread) (words after : List ℕ) (l : Extent) (to : ℕ) (held : Held) (found : ℕ) → Fits t → t.index < length t.program →
+    Goes t words after (doings.Naming to held (record { layout = l; slot = held.place; at = once.Asked })) (turned_at (Some found) (doings.Naming to held (record { layout = l; slot = held.place; at = once.Asked })) (quiet t))
+name_read t words after l to held found fits here =
+    goes_to t (put (answers.Got (isa_name_of found)) (quiet t)) _ words after _ (4200 * busy_units t + 9) (record { layout = refl; phases = refl; program = refl; count = refl; phase = refl })
+    (replaced_comes (put (answers.Got (isa_name_of found)) (quiet t)) to (Some held) fits here) (omega arith)
 
 -- ---- a reference is given up
 
-abbrev down_plan : Extent → ℕ → AttemptAt → Attempt
-down_plan l s at = record { layout = l; slot = s; at = at }
+abbrev down_plan : Extent → ℕ → Kind → AttemptAt → Fall
+down_plan l s list at = record { layout = l; slot = s; list = list; entry = None; at = at }
 
-abbrev down_by : Thread → Extent → Held → ℕ → Choice StrongDownAnswer → Thread
-down_by t l held w r = dropped_on held (down_plan l held.place (exchanging w r)) (chosen (number l (Count held.place)) w r) (quiet t)
+abbrev dropping_at : Extent → (hand : ℕ) → Kind → (slot : ℕ) → AttemptAt → Doing
+dropping_at l hand kind slot x = doings.Dropping (record { hand = hand; kind = kind; place = slot }) (down_plan l slot kind x)
 
-abbrev down_told : Thread → Extent → Held → StrongDownAnswer → Thread
-down_told t l held a = dropped_on held (down_plan l held.place attempt.Ended) (nexts.Done a) (quiet t)
+-- the drop, or what it brought about, is over
+over : (t : Thread) (words after : List ℕ) (event : Option Act) (d : Doing) → Fits t → 4200 * busy_units t < doing_left words t d → Goes t words after d (next_op (record (quiet t) { event = event }))
+over t words after event d fits lt =
+    goes_to t (record (quiet t) { event = event }) (next_op (record (quiet t) { event = event })) words after d (4200 * busy_units t) (record { layout = refl; phases = refl; program = refl; count = refl; phase = refl })
+    (next_comes (record (quiet t) { event = event }) fits) lt
 
-down_read : (t : Thread) (words : List ℕ) (l : Extent) (held : Held) (step : Step) (intent : Intent) → Fits t → t.asked ≡ moves.Step step intent →
-    Goes t words words (doings.Dropping held (down_plan l held.place attempt.Loading)) (turned_at (Some (count_at words l held.place)) (doings.Dropping held (down_plan l held.place attempt.Loading)) (quiet t))
-down_read t words l held step intent fits asked = go (unpacked (count_at words l held.place))
+abbrev down_by : Thread → Extent → (hand : ℕ) → Kind → (slot : ℕ) → ℕ → Option ℕ → Choice DownAnswer → Thread
+down_by t l hand kind slot w e r =
+    dropped_on (record { hand = hand; kind = kind; place = slot }) (turned_by down_moved (down_plan l slot kind attempt.Loading) (down_in (down_plan l slot kind attempt.Loading) e) (exchanging w r))
+    (answer_by down_place (down_in (down_plan l slot kind attempt.Loading) e) (chosen (number l (Count slot)) w r)) (quiet t)
+
+down_read : (t : Thread) (words : List ℕ) (l : Extent) (hand : ℕ) (kind : Kind) (slot : ℕ) → Fits t →
+    Goes t words words (dropping_at l hand kind slot attempt.Loading) (turned_at (Some (count_at words l slot)) (dropping_at l hand kind slot attempt.Loading) (quiet t))
+down_read t words l hand kind slot fits = go kind
   where
-    more : Goes t words words (doings.Dropping held (down_plan l held.place attempt.Loading)) (next_op (record (quiet t) { event = Some (acts.Drop held.hand false) }))
-    more = goes_to t (record (quiet t) { event = Some (acts.Drop held.hand false) }) _ words words _ (4200 * busy_units t) (record { layout = refl; phases = refl; program = refl; count = refl; phase = refl })
-        (next_comes (record (quiet t) { event = Some (acts.Drop held.hand false) }) fits) (omega arith)
+    w : ℕ
+    w = count_at words l slot
 
-    go : (o : Option Word) → Goes t words words (doings.Dropping held (down_plan l held.place attempt.Loading)) (down_by t l held (count_at words l held.place) (strong_down_row o))
-    go None = more
-    go (Some word.Free) = more
-    go (Some word.Immortal) = more
-    go (Some (word.Slow e)) = record { layout = refl; phases = refl; program = refl; count = refl; phase = stays t.asked step intent t.phase asked; fewer = omega arith }
-    go (Some (word.Counts c)) = record { layout = refl; phases = refl; program = refl; count = refl; phase = refl; fewer = rw (eqb_same (count_at words l held.place)) (omega arith) }
+    Read : Kind → Option ℕ → Choice DownAnswer → Type 0
+    Read k e r = Goes t words words (dropping_at l hand k slot attempt.Loading) (down_by t l hand k slot w e r)
 
-down_made : (t : Thread) (words after : List ℕ) (l : Extent) (held : Held) (seen new : ℕ) → Fits t →
-    Goes t words after (doings.Dropping held (down_plan l held.place (attempt.Exchanging seen new))) (turned_at (Some (count_at words l held.place)) (doings.Dropping held (down_plan l held.place (attempt.Exchanging seen new))) (quiet t))
-down_made t words after l held seen new fits = go (eqb (count_at words l held.place) seen) refl
+    more : (k : Kind) → Read k None (Tell (downs.More None))
+    more k = over t words words _ _ fits (omega arith)
+
+    slow : (k : Kind) (e : ℕ) (r : Choice DownAnswer) → Read k (Some e) r
+    slow k e r = record { layout = refl; phases = refl; program = refl; count = refl; phase = refl; fewer = omega arith }
+
+    writes : (k : Kind) (new : ℕ) → Read k None (Write new)
+    writes k new = record { layout = refl; phases = refl; program = refl; count = refl; phase = refl; fewer = rw (eqb_same w) (omega arith) }
+
+    strongly : (o : Option Word) → Read kinds.Strong (entry_named o) (told_as of_strong_down (strong_down_row o))
+    strongly None = more kinds.Strong
+    strongly (Some word.Free) = more kinds.Strong
+    strongly (Some word.Immortal) = more kinds.Strong
+    strongly (Some (word.Slow e)) = slow kinds.Strong e (Tell (downs.More None))
+    strongly (Some (word.Counts c)) = writes kinds.Strong (packed (word.Counts (strong_less c)))
+
+    unownedly : (o : Option Word) → Read kinds.Unowned (entry_named o) (told_as of_unowned_down (unowned_down_row o))
+    unownedly None = more kinds.Unowned
+    unownedly (Some word.Free) = more kinds.Unowned
+    unownedly (Some word.Immortal) = more kinds.Unowned
+    unownedly (Some (word.Slow e)) = slow kinds.Unowned e (Tell (downs.More None))
+    unownedly (Some (word.Counts c)) = writes kinds.Unowned (packed (word.Counts (unowned_less c)))
+
+    weakly : (o : Option Word) → Read kinds.Weak (entry_named o) (Tell (downs.More None))
+    weakly None = more kinds.Weak
+    weakly (Some word.Free) = more kinds.Weak
+    weakly (Some word.Immortal) = more kinds.Weak
+    weakly (Some (word.Slow e)) = slow kinds.Weak e (Tell (downs.More None))
+    weakly (Some (word.Counts c)) = more kinds.Weak
+
+    go : (k : Kind) → Goes t words words (dropping_at l hand k slot attempt.Loading) (turned_at (Some w) (dropping_at l hand k slot attempt.Loading) (quiet t))
+    go kinds.Strong = strongly (unpacked w)
+    go kinds.Unowned = unownedly (unpacked w)
+    go kinds.Weak = weakly (unpacked w)
+
+down_made : (t : Thread) (words after : List ℕ) (l : Extent) (hand : ℕ) (kind : Kind) (slot seen new : ℕ) (step : Step) (intent : Intent) → Fits t → t.asked ≡ moves.Step step intent →
+    Goes t words after (dropping_at l hand kind slot (attempt.Exchanging seen new)) (turned_at (Some (count_at words l slot)) (dropping_at l hand kind slot (attempt.Exchanging seen new)) (quiet t))
+down_made t words after l hand kind slot seen new step intent fits asked = go (eqb (count_at words l slot) seen) refl
   where
-    more : eqb (count_at words l held.place) seen ≡ true → Goes t words after (doings.Dropping held (down_plan l held.place (attempt.Exchanging seen new))) (next_op (record (quiet t) { event = Some (acts.Drop held.hand false) }))
-    more e = goes_to t (record (quiet t) { event = Some (acts.Drop held.hand false) }) _ words after _ (4200 * busy_units t) (record { layout = refl; phases = refl; program = refl; count = refl; phase = refl })
-        (next_comes (record (quiet t) { event = Some (acts.Drop held.hand false) }) fits) (rw e (omega arith))
+    Made : Kind → DownAnswer → Type 0
+    Made k a = Goes t words after (dropping_at l hand k slot (attempt.Exchanging seen new)) (dropped_on (record { hand = hand; kind = k; place = slot }) (down_plan l slot k attempt.Ended) (nexts.Done a) (quiet t))
 
-    counted : (b : Bool) → eqb (count_at words l held.place) seen ≡ true → Goes t words after (doings.Dropping held (down_plan l held.place (attempt.Exchanging seen new))) (down_told t l held (cond b downs.Last downs.More))
-    counted true e = record { layout = refl; phases = refl; program = refl; count = refl; phase = refl; fewer = rw e (omega arith) }
-    counted false e = more e
+    more : (k : Kind) → eqb (count_at words l slot) seen ≡ true → Made k (downs.More None)
+    more k e = over t words after _ _ fits (rw e (omega arith))
 
-    hit : (o : Option Word) → eqb (count_at words l held.place) seen ≡ true → Goes t words after (doings.Dropping held (down_plan l held.place (attempt.Exchanging seen new))) (down_told t l held (strong_down_end o))
-    hit None e = more e
-    hit (Some word.Free) e = more e
-    hit (Some word.Immortal) e = more e
-    hit (Some (word.Slow x)) e = more e
-    hit (Some (word.Counts c)) e = counted (eqb c.strong_extra 0) e
+    dies_last : (b : Bool) → eqb (count_at words l slot) seen ≡ true → Made kinds.Strong (of_strong_down (cond b strong_downs.Last strong_downs.More))
+    dies_last true e = record { layout = refl; phases = refl; program = refl; count = refl; phase = refl; fewer = rw e (omega arith) }
+    dies_last false e = more kinds.Strong e
 
-    go : (b : Bool) → eqb (count_at words l held.place) seen ≡ b → Goes t words after (doings.Dropping held (down_plan l held.place (attempt.Exchanging seen new)))
-        (down_told t l held (cond b (strong_down_end (unpacked seen)) (downs.Again (record { seen = seen; found = count_at words l held.place }))))
-    go true e = hit (unpacked seen) e
+    ends_last : (b : Bool) → eqb (count_at words l slot) seen ≡ true → Made kinds.Unowned (of_unowned_down (cond b less.Last less.More))
+    ends_last true e = record { layout = refl; phases = refl; program = refl; count = refl; phase = refl; fewer = rw e (omega arith) }
+    ends_last false e = more kinds.Unowned e
+
+    strongly : (o : Option Word) → eqb (count_at words l slot) seen ≡ true → Made kinds.Strong (of_strong_down (strong_down_end o))
+    strongly None e = more kinds.Strong e
+    strongly (Some word.Free) e = more kinds.Strong e
+    strongly (Some word.Immortal) e = more kinds.Strong e
+    strongly (Some (word.Slow x)) e = more kinds.Strong e
+    strongly (Some (word.Counts c)) e = dies_last (eqb c.strong_extra 0) e
+
+    unownedly : (o : Option Word) → eqb (count_at words l slot) seen ≡ true → Made kinds.Unowned (of_unowned_down (unowned_down_end o))
+    unownedly None e = more kinds.Unowned e
+    unownedly (Some word.Free) e = more kinds.Unowned e
+    unownedly (Some word.Immortal) e = more kinds.Unowned e
+    unownedly (Some (word.Slow x)) e = more kinds.Unowned e
+    unownedly (Some (word.Counts c)) e = ends_last (eqb c.unowned 1) e
+
+    hit : (k : Kind) → eqb (count_at words l slot) seen ≡ true → Made k (down_end_at None k seen)
+    hit kinds.Strong e = strongly (unpacked seen) e
+    hit kinds.Unowned e = unownedly (unpacked seen) e
+    hit kinds.Weak e = more kinds.Weak e
+
+    go : (b : Bool) → eqb (count_at words l slot) seen ≡ b → Made kind (cond b (down_end_at None kind seen) (downs.Again (record { seen = seen; found = count_at words l slot })))
+    go true e = hit kind e
     go false e = record { layout = refl; phases = refl; program = refl; count = refl; phase = refl; fewer = rw e (omega arith) }
 
 -- ---- an object dies
@@ -245,23 +385,20 @@ down_made t words after l held seen new fits = go (eqb (count_at words l held.pl
 abbrev dying_state : Extent → HeapShape → ℕ → Option Act → At → CascadeState
 dying_state l shape s event at = record { layout = l; shape = shape; slot = s; at = at; event = event }
 
--- the deinit is over
-over : (t : Thread) (words after : List ℕ) (event : Option Act) (d : Doing) → Fits t → 4200 * busy_units t < doing_left words t d → Goes t words after d (next_op (record (quiet t) { event = event }))
-over t words after event d fits lt =
-    goes_to t (record (quiet t) { event = event }) (next_op (record (quiet t) { event = event })) words after d (4200 * busy_units t) (record { layout = refl; phases = refl; program = refl; count = refl; phase = refl })
-    (next_comes (record (quiet t) { event = event }) fits) lt
+abbrev finish_plan : Extent → ℕ → AttemptAt → Attempt
+finish_plan l s at = record { layout = l; slot = s; at = at }
 
 -- a cascade at its end goes on, by what its attempt says
 abbrev dying_by : Thread → Extent → HeapShape → ℕ → Option Act → (before after : AttemptAt) → NextStep UnownedDownAnswer → Thread
 dying_by t l shape s event before after next =
-    dying_on (finish_turned (dying_state l shape s None at.Ended) (down_plan l s after) next) (finish_says (dying_state l shape s event (at.Finishing (down_plan l s before))) next)
-    (record (quiet t) { event = (finish_turned (dying_state l shape s None at.Ended) (down_plan l s after) next).event })
+    dying_on (finish_turned (dying_state l shape s None at.Ended) (finish_plan l s after) next) (finish_says (dying_state l shape s event (at.Finishing (finish_plan l s before))) next)
+    (record (quiet t) { event = (finish_turned (dying_state l shape s None at.Ended) (finish_plan l s after) next).event })
 
 finish_read : (t : Thread) (words : List ℕ) (l : Extent) (shape : HeapShape) (s : ℕ) (event : Option Act) → Fits t →
-    Goes t words words (doings.Dying (dying_state l shape s event (at.Finishing (down_plan l s attempt.Loading)))) (turned_at (Some (count_at words l s)) (doings.Dying (dying_state l shape s event (at.Finishing (down_plan l s attempt.Loading)))) (quiet t))
+    Goes t words words (doings.Dying (dying_state l shape s event (at.Finishing (finish_plan l s attempt.Loading)))) (turned_at (Some (count_at words l s)) (doings.Dying (dying_state l shape s event (at.Finishing (finish_plan l s attempt.Loading)))) (quiet t))
 finish_read t words l shape s event fits = go (unpacked (count_at words l s))
   where
-    go : (o : Option Word) → Goes t words words (doings.Dying (dying_state l shape s event (at.Finishing (down_plan l s attempt.Loading)))) (dying_by t l shape s event attempt.Loading (exchanging (count_at words l s) (unowned_down_row o)) (chosen (number l (Count s)) (count_at words l s) (unowned_down_row o)))
+    go : (o : Option Word) → Goes t words words (doings.Dying (dying_state l shape s event (at.Finishing (finish_plan l s attempt.Loading)))) (dying_by t l shape s event attempt.Loading (exchanging (count_at words l s) (unowned_down_row o)) (chosen (number l (Count s)) (count_at words l s) (unowned_down_row o)))
     go None = over t words words _ _ fits (omega arith)
     go (Some word.Free) = over t words words _ _ fits (omega arith)
     go (Some word.Immortal) = over t words words _ _ fits (omega arith)
@@ -270,11 +407,11 @@ finish_read t words l shape s event fits = go (unpacked (count_at words l s))
 
 abbrev Gone : Thread → (words after : List ℕ) → Extent → HeapShape → ℕ → Option Act → (seen new : ℕ) → UnownedDownAnswer → Type 0
 Gone t words after l shape s event seen new a =
-    Goes t words after (doings.Dying (dying_state l shape s event (at.Finishing (down_plan l s (attempt.Exchanging seen new))))) (dying_by t l shape s event (attempt.Exchanging seen new) attempt.Ended (nexts.Done a))
+    Goes t words after (doings.Dying (dying_state l shape s event (at.Finishing (finish_plan l s (attempt.Exchanging seen new))))) (dying_by t l shape s event (attempt.Exchanging seen new) attempt.Ended (nexts.Done a))
 
 finish_made : (t : Thread) (words after : List ℕ) (l : Extent) (shape : HeapShape) (s : ℕ) (event : Option Act) (seen new : ℕ) → Fits t →
-    Goes t words after (doings.Dying (dying_state l shape s event (at.Finishing (down_plan l s (attempt.Exchanging seen new)))))
-    (turned_at (Some (count_at words l s)) (doings.Dying (dying_state l shape s event (at.Finishing (down_plan l s (attempt.Exchanging seen new))))) (quiet t))
+    Goes t words after (doings.Dying (dying_state l shape s event (at.Finishing (finish_plan l s (attempt.Exchanging seen new)))))
+    (turned_at (Some (count_at words l s)) (doings.Dying (dying_state l shape s event (at.Finishing (finish_plan l s (attempt.Exchanging seen new))))) (quiet t))
 finish_made t words after l shape s event seen new fits = go (eqb (count_at words l s) seen) refl
   where
     counted : (b : Bool) → eqb (count_at words l s) seen ≡ true → Gone t words after l shape s event seen new (cond b less.Last less.More)
@@ -318,27 +455,32 @@ falls_at shape t words step intent d fits asked a u o = go d a u o
     making to name immortal (search.Naming s) h same inside here = named t words (made_by step words) (extent_of shape) to name immortal s (found_by step words) fits here
     making to name immortal search.Ended h same inside here = absurd h
 
-    copying : (to : ℕ) (held : Held) (x : AttemptAt) → AttemptAsks shape t.asked held.place (intents.Copy (Hand held.hand)) x → t.index < length t.program → Falls t words step (doings.Copying to held (up_plan (extent_of shape) held.place shape.caps.strong x))
-    copying to held attempt.Start h here = absurd h
-    copying to held attempt.Loading h here =
-        let is = asked_is t.asked step (Load (number (extent_of shape) (Count held.place))) intent (intents.Copy (Hand held.hand)) asked h in
-        rw is (up_read t words (extent_of shape) shape.caps.strong to held step intent fits here asked)
-    copying to held (attempt.Exchanging seen new) h here =
-        let is = asked_is t.asked step (Exchange (number (extent_of shape) (Count held.place)) seen new) intent (intents.Copy (Hand held.hand)) asked h in
-        rw is (up_made t words (made_by (Exchange (number (extent_of shape) (Count held.place)) seen new) words) (extent_of shape) shape.caps.strong to held seen new fits here)
-    copying to held attempt.Ended h here = absurd h
+    gaining : (gain : Gain) (to : ℕ) (from : Held) (list : Kind) (x : AttemptAt) → AttemptAsks shape t.asked from.place (intent_of gain from) x → t.index < length t.program → Falls t words step (gaining_at (extent_of shape) list shape.caps gain to from x)
+    gaining gain to from list attempt.Start h here = absurd h
+    gaining gain to from list attempt.Loading h here =
+        let is = asked_is t.asked step (Load (number (extent_of shape) (Count from.place))) intent (intent_of gain from) asked h in
+        rw is (up_read t words (extent_of shape) list shape.caps gain to from step intent fits here asked)
+    gaining gain to from list (attempt.Exchanging seen new) h here =
+        let is = asked_is t.asked step (Exchange (number (extent_of shape) (Count from.place)) seen new) intent (intent_of gain from) asked h in
+        rw is (up_made t words (made_by (Exchange (number (extent_of shape) (Count from.place)) seen new) words) (extent_of shape) list shape.caps gain to from seen new fits here)
+    gaining gain to from list attempt.Ended h here = absurd h
 
-    dropping : (held : Held) (x : AttemptAt) → AttemptAsks shape t.asked held.place (intents.Drop held.hand) x → Falls t words step (doings.Dropping held (down_plan (extent_of shape) held.place x))
-    dropping held attempt.Start h = absurd h
-    dropping held attempt.Loading h =
-        let is = asked_is t.asked step (Load (number (extent_of shape) (Count held.place))) intent (intents.Drop held.hand) asked h in
-        rw is (down_read t words (extent_of shape) held step intent fits asked)
-    dropping held (attempt.Exchanging seen new) h =
-        let is = asked_is t.asked step (Exchange (number (extent_of shape) (Count held.place)) seen new) intent (intents.Drop held.hand) asked h in
-        rw is (down_made t words (made_by (Exchange (number (extent_of shape) (Count held.place)) seen new) words) (extent_of shape) held seen new fits)
-    dropping held attempt.Ended h = absurd h
+    naming : (to : ℕ) (held : Held) (x : Once) → NameAsks shape t.asked held.place x → t.index < length t.program → Falls t words step (doings.Naming to held (record { layout = extent_of shape; slot = held.place; at = x }))
+    naming to held once.Start h here = absurd h
+    naming to held once.Asked h here = name_read t words (made_by step words) (extent_of shape) to held (found_by step words) fits here
+    naming to held once.Ended h here = absurd h
 
-    finishing : (s : ℕ) (event : Option Act) (x : AttemptAt) → AttemptAsks shape t.asked s (intents.Deinit s) x → Falls t words step (doings.Dying (dying_state (extent_of shape) shape s event (at.Finishing (down_plan (extent_of shape) s x))))
+    dropping : (hand : ℕ) (kind : Kind) (slot : ℕ) (x : AttemptAt) → AttemptAsks shape t.asked slot (intents.Drop hand) x → Falls t words step (dropping_at (extent_of shape) hand kind slot x)
+    dropping hand kind slot attempt.Start h = absurd h
+    dropping hand kind slot attempt.Loading h =
+        let is = asked_is t.asked step (Load (number (extent_of shape) (Count slot))) intent (intents.Drop hand) asked h in
+        rw is (down_read t words (extent_of shape) hand kind slot fits)
+    dropping hand kind slot (attempt.Exchanging seen new) h =
+        let is = asked_is t.asked step (Exchange (number (extent_of shape) (Count slot)) seen new) intent (intents.Drop hand) asked h in
+        rw is (down_made t words (made_by (Exchange (number (extent_of shape) (Count slot)) seen new) words) (extent_of shape) hand kind slot seen new step intent fits asked)
+    dropping hand kind slot attempt.Ended h = absurd h
+
+    finishing : (s : ℕ) (event : Option Act) (x : AttemptAt) → AttemptAsks shape t.asked s (intents.Deinit s) x → Falls t words step (doings.Dying (dying_state (extent_of shape) shape s event (at.Finishing (finish_plan (extent_of shape) s x))))
     finishing s event attempt.Start h = absurd h
     finishing s event attempt.Loading h =
         let is = asked_is t.asked step (Load (number (extent_of shape) (Count s))) intent (intents.Deinit s) asked h in
@@ -352,6 +494,11 @@ falls_at shape t words step intent d fits asked a u o = go d a u o
     vacating s event once.Start h = absurd h
     vacating s event once.Asked h = over t words (made_by step words) _ _ fits (omega arith)
     vacating s event once.Ended h = absurd h
+
+    ending : (s : ℕ) (x : Once) → VacateAsks shape t.asked s x → Falls t words step (doings.Vacating s (record { layout = extent_of shape; slot = s; at = x }))
+    ending s once.Start h = absurd h
+    ending s once.Asked h = over t words (made_by step words) _ _ fits (omega arith)
+    ending s once.Ended h = absurd h
 
     dying : (s : ℕ) (event : Option Act) (x : At) → CascadeAsks shape t.asked s x → Falls t words step (doings.Dying (dying_state (extent_of shape) shape s event x))
     dying s event at.Start h = absurd h
@@ -368,9 +515,11 @@ falls_at shape t words step intent d fits asked a u o = go d a u o
     go (doings.Making to name plan) a u o =
         let same : extent_of shape ≡ t.layout = sym (ap (λ (p : Creation). p.layout) a.0) ∙ u.1 in
         rw (a.0) (making to name (class_at shape name.class).immortal plan.at a.1 same u.3 o.0)
-    go (doings.Copying to held plan) a u o = rw (a.0) (copying to held plan.at a.1 o.0)
-    go (doings.Dropping held plan) a u o = rw (a.0) (dropping held plan.at a.1)
+    go (doings.Gaining gain to from plan) a u o = rw (a.0) (gaining gain to from (list_of gain from) plan.at a.1 o.0)
+    go (doings.Naming to held plan) a u o = rw (a.0) (naming to held plan.at a.1 o)
+    go (doings.Dropping held plan) a u o = rw (a.0) (dropping held.hand held.kind held.place plan.at a.1)
     go (doings.Dying c) a u o = rw (a.0) (dying c.slot c.event c.at a.1)
+    go (doings.Vacating slot plan) a u o = rw (a.0) (ending slot plan.at a.1)
     go doings.Ended a u o = absurd (let k : t.asked ≡ moves.Ended = a.0 in cc)
 
 -- ---- what a stepper fits
@@ -428,6 +577,11 @@ ready shape t d a asked = go d a
     vacating s once.Asked h = stepping _ _ h
     vacating s once.Ended h = h
 
+    naming : (s : ℕ) (x : Once) → NameAsks shape t.asked s x → ⊥
+    naming s once.Start h = h
+    naming s once.Asked h = stepping _ _ h
+    naming s once.Ended h = h
+
     dying : (s : ℕ) (x : At) → CascadeAsks shape t.asked s x → ⊥
     dying s at.Start h = h
     dying s at.Entering h = stepping _ _ h
@@ -441,9 +595,11 @@ ready shape t d a asked = go d a
     go : (d : Doing) → Asks shape t d → d ≡ doings.Ready
     go doings.Ready a = refl
     go (doings.Making to name plan) a = absurd (making name plan.at a.1)
-    go (doings.Copying to held plan) a = absurd (attempting held.place _ plan.at a.1)
+    go (doings.Gaining gain to from plan) a = absurd (attempting from.place _ plan.at a.1)
+    go (doings.Naming to held plan) a = absurd (naming held.place plan.at a.1)
     go (doings.Dropping held plan) a = absurd (attempting held.place _ plan.at a.1)
     go (doings.Dying c) a = absurd (dying c.slot c.at a.1)
+    go (doings.Vacating slot plan) a = absurd (vacating slot plan.at a.1)
     go doings.Ended a = absurd (let h : t.asked ≡ moves.Ended = a.0 in cc)
 
 -- A thread that waits for its next phase begins it.

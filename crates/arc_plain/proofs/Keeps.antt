@@ -22,7 +22,8 @@ use Rattle.arc_ops.specs.Programs.{phases_in, phases_of, program_of, vars_of}
 use Rattle.arc_ops.proofs.Made.{blocks_fit}
 use Rattle.arc_ops.specs.declared.stepper.Move.{Move}
 use Rattle.arc_ops.specs.declared.stepper.Move.TheVariants as moves
-use Rattle.arc_ops.specs.Thread.{Thread, stepper_of, turned}
+use Rattle.arc_ops.specs.Thread.{Thread, stepper_of}
+use Rattle.arc_ops.specs.Turns.{turned}
 use Rattle.arc_replays.specs.Stages.{Stage, Reached, MayStep, is_step, is_phase_end, awaits_phase, begun_thread, begun_threads, new_threads}
 use Rattle.arc_replays.specs.Stages.Reached.{new, begins, makes, passes, by_number, last, last_step}
 use Rattle.arc_replays.proofs.Laws.{threads_are_at_work}

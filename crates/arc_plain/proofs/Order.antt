@@ -10,7 +10,10 @@ use Rattle.arc_script.specs.Valid.{IsScript}
 use Rattle.arc_script.specs.declared.script.Op.{Op}
 use Rattle.arc_ops.specs.Served.{IsServed}
 use Rattle.arc_ops.specs.declared.stepper.Move.TheVariants as moves
-use Rattle.arc_ops.specs.Thread.{Thread, IsStepper, stepper_of, takes, turned}
+use Rattle.arc_ops.specs.Thread.{Thread, stepper_of}
+use Rattle.arc_ops.specs.Turns.{turned}
+use Rattle.arc_ops.specs.Takes.{takes}
+use Rattle.arc_ops.specs.Steppers.{IsStepper}
 use Rattle.arc_replays.specs.Stages.{Stage, Reached, IsSome, IsNone, IsNoneBelow, has_step, is_phase_end, awaits_phase, begun_thread, begun_threads, first_stage, new_threads}
 use Rattle.arc_replays.specs.Stages.Reached.{new, begins, last}
 use Rattle.arc_plain.specs.Crews.{Progress, IsUnderWay, IsInPhases, AreFollowed, MayGoOn, ThreadFinished, PlacesFollowed, PhaseFinished, PhasesDone, IsDone, thread_at, thread_begun, phase_begun}

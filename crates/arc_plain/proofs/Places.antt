@@ -8,7 +8,9 @@ use Rattle.arc_rule.specs.declared.step.Step.{Step}
 use Rattle.arc_rule.specs.declared.step.Intent.{Intent}
 use Rattle.arc_ops.specs.declared.stepper.Move.{Move}
 use Rattle.arc_ops.specs.declared.stepper.Move.TheVariants as moves
-use Rattle.arc_ops.specs.Thread.{Thread, IsStepper, stepper_of, turned}
+use Rattle.arc_ops.specs.Thread.{Thread, stepper_of}
+use Rattle.arc_ops.specs.Turns.{turned}
+use Rattle.arc_ops.specs.Steppers.{IsStepper}
 use Rattle.arc_replays.specs.Laws.{MayBeMade}
 use Rattle.arc_replays.specs.Stages.{MayStep, IsSome, has_step, is_step, is_phase_end, awaits_phase}
 use Rattle.arc_replays.specs.Stages.Reached.{makes, passes}

@@ -9,7 +9,8 @@ use Rattle.arc_script.specs.Valid.{IsScript}
 use Rattle.arc_ops.specs.Served.{IsServed}
 use Rattle.arc_ops.specs.declared.stepper.Move.{Move}
 use Rattle.arc_ops.specs.declared.stepper.Move.TheVariants as moves
-use Rattle.arc_ops.specs.Thread.{Thread, IsStepper, stepper_of}
+use Rattle.arc_ops.specs.Thread.{Thread, stepper_of}
+use Rattle.arc_ops.specs.Steppers.{IsStepper}
 use Rattle.arc_replays.specs.Stages.{new_threads}
 use Rattle.arc_plain.specs.Crews.{IsCrew, step_count, steps_asked}
 use Rattle.arc_ops.proofs.Made.{is_stepper}

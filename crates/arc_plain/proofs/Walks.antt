@@ -10,11 +10,16 @@ use Rattle.arc_script.specs.declared.script.Op.{Op}
 use Rattle.arc_script.specs.declared.script.Op.TheVariants as op
 use Rattle.arc_model.specs.declared.answer.Answer.{Answer}
 use Rattle.arc_model.specs.declared.answer.Answer.TheVariants as answers
+use Rattle.arc_ops.specs.declared.gain.Gain.{Gain}
+use Rattle.arc_ops.specs.declared.gain.Gain.TheVariants as gains
 use Rattle.arc_ops.specs.declared.stepper.Held.{Held}
 use Rattle.arc_ops.specs.declared.stepper.Doing.TheVariants as doings
 use Rattle.arc_ops.specs.declared.stepper.Move.{Move}
 use Rattle.arc_ops.specs.declared.stepper.Move.TheVariants as moves
-use Rattle.arc_ops.specs.Thread.{Thread, value, set_var, put, skipped, moved, is_held, drop_begun, make_begun, begun_nil, begun_copy, begun_move, begun_drop, begun_op, scope_at, scope_drop, scope_begun, phase_end, phase_over, begun_at, begun, next_op, replaced, replaced_old}
+use Rattle.arc_ops.specs.Thread.{Thread, value, set_var, put, is_held}
+use Rattle.arc_ops.specs.Plans.{drop_begun, make_begun}
+use Rattle.arc_ops.specs.Begins.{skipped, moved, begun_nil, begun_gain, begun_move, begun_drop, begun_op, scope_at, scope_drop, scope_begun, phase_end, phase_over, begun_at, begun, next_op}
+use Rattle.arc_ops.specs.Drops.{replaced, replaced_old}
 use Rattle.arc_plain.specs.Left.{held_unit, units, busy_units, left}
 use Rattle.arc_plain.proofs.Lists.{get_taken, get_dropped}
 
@@ -72,7 +77,7 @@ unit_few None = omega arith
 unit_few (Some held) = omega arith
 
 -- a drop begins
-pub drop_comes : (t : Thread) (held : Held) → Comes t (drop_begun held t) (4200 * busy_units t + 8)
+pub drop_comes : (t : Thread) (held : Held) → Comes t (drop_begun held t) (4200 * busy_units t + 9)
 drop_comes t held = record { layout = refl; phases = refl; program = refl; count = refl; phase = refl; few = λ words. omega arith }
 
 -- the value of a variable that refers is dropped
@@ -91,7 +96,7 @@ scope_comes t = go (position is_held t.vars) refl
     dropping v (Some h) is held =
         let fewer = taken t v h is in
         let less = fewer.1 in
-        after_same t (set_var v None t) (drop_begun h (set_var v None t)) (4200 * busy_units (set_var v None t) + 8) (4200 * units t) fewer.0 (drop_comes (set_var v None t) h) (omega arith)
+        after_same t (set_var v None t) (drop_begun h (set_var v None t)) (4200 * busy_units (set_var v None t) + 9) (4200 * units t) fewer.0 (drop_comes (set_var v None t) h) (omega arith)
 
     go : (o : Option ℕ) → position is_held t.vars ≡ o → Comes t (scope_at o t) (4200 * units t)
     go None e = record { layout = refl; phases = refl; program = refl; count = refl; phase = refl; few = λ words. omega arith }
@@ -125,8 +130,8 @@ op_comes o t rest here slots forth later = at o forth
         let fewer = taken u v held is in
         let less = fewer.1 in
         let program : length u.program ≡ length t.program = ap (λ (ops : List Op). length ops) same.program in
-        after_same t u (drop_begun held (set_var v None u)) (4200 * busy_units (set_var v None u) + 8) (4200 * units t) same
-        (after_same u (set_var v None u) (drop_begun held (set_var v None u)) (4200 * busy_units (set_var v None u) + 8) (4200 * busy_units (set_var v None u) + 8) fewer.0 (drop_comes (set_var v None u) held) (omega arith)) (omega arith)
+        after_same t u (drop_begun held (set_var v None u)) (4200 * busy_units (set_var v None u) + 9) (4200 * units t) same
+        (after_same u (set_var v None u) (drop_begun held (set_var v None u)) (4200 * busy_units (set_var v None u) + 9) (4200 * busy_units (set_var v None u) + 9) fewer.0 (drop_comes (set_var v None u) held) (omega arith)) (omega arith)
 
     makes : (to class : ℕ) → Comes t (make_begun to class (record t { first = true })) (4200 * units t)
     makes to class = record { layout = refl; phases = refl; program = refl; count = refl; phase = refl; few = λ words. omega arith }
@@ -135,9 +140,9 @@ op_comes o t rest here slots forth later = at o forth
     nil to (Some old) is = drops (put answers.Nil (record t { first = true })) to old (record { layout = refl; phases = refl; program = refl; count = refl; phase = refl }) refl (omega arith) is
     nil to None is = skips answers.Nil
 
-    copying : (to : ℕ) (from old : Option Held) → value t.vars to ≡ old → Comes t (begun_copy to from old t rest) (4200 * units t)
-    copying to (Some held) old is = record { layout = refl; phases = refl; program = refl; count = refl; phase = refl; few = λ words. omega arith }
-    copying to None old is = nil to old is
+    gaining : (gain : Gain) (to : ℕ) (from old : Option Held) → value t.vars to ≡ old → Comes t (begun_gain gain to from old t rest) (4200 * units t)
+    gaining gain to (Some held) old is = record { layout = refl; phases = refl; program = refl; count = refl; phase = refl; few = λ words. omega arith }
+    gaining gain to None old is = nil to old is
 
     counts : (to from : ℕ) (held : Held) → length (set (set t.vars to (Some held)) from None) ≡ length t.vars
     counts to from held = length-set (set t.vars to (Some held)) from None ∙ length-set t.vars to (Some held)
@@ -148,7 +153,7 @@ op_comes o t rest here slots forth later = at o forth
         let b = units_set (set t.vars to (Some held)) from None in
         let at : held_unit (get_or t.vars to None) ≡ 1 = ap held_unit is in
         after_same t (moved to from held (put answers.Ok (record t { first = true }))) (drop_begun old (moved to from held (put answers.Ok (record t { first = true }))))
-        (4200 * busy_units (moved to from held (put answers.Ok (record t { first = true }))) + 8) (4200 * units t)
+        (4200 * busy_units (moved to from held (put answers.Ok (record t { first = true }))) + 9) (4200 * units t)
         (record { layout = refl; phases = refl; program = refl; count = counts to from held; phase = refl })
         (drop_comes (moved to from held (put answers.Ok (record t { first = true }))) old) (omega arith)
     moving to from (Some held) None is =
@@ -167,12 +172,12 @@ op_comes o t rest here slots forth later = at o forth
 
     at : (o : Op) → IsForth t.index o → Comes t (begun_op o t rest) (4200 * units t)
     at (op.New to class) f = makes to class
-    at (op.Copy to from) f = copying to (value t.vars from) (value t.vars to) refl
+    at (op.Copy to from) f = gaining gains.Copy to (value t.vars from) (value t.vars to) refl
     at (op.Move to from) f = moving to from (value t.vars from) (value t.vars to) refl
     at (op.Drop v) f = dropping v (value t.vars v) refl
-    at (op.Unown to of) f = skips answers.Nil
+    at (op.Unown to of) f = gaining gains.Unown to (value t.vars of) (value t.vars to) refl
     at (op.Weak to of) f = skips answers.Nil
-    at (op.Load to of) f = skips answers.Nil
+    at (op.Load to of) f = gaining gains.Load to (value t.vars of) (value t.vars to) refl
     at (op.Get to cell) f = skips answers.Nil
     at (op.Set cell from) f = skips answers.Nil
     at (op.IfNil v to) f = goes (is_held (value t.vars v)) to (t.index + 1) (omega arith) (omega arith)
@@ -230,28 +235,28 @@ next_comes t fits = go (ltb t.index (length t.program)) refl
         after_same t (record t { doing = doings.Ended }) (begun (record t { doing = doings.Ended })) (4200 * units (record t { doing = doings.Ended })) (4200 * busy_units t)
         (record { layout = refl; phases = refl; program = refl; count = refl; phase = refl }) (begins (record t { doing = doings.Ended }) fits) (omega arith)
 
--- a variable gets a reference, and what it held before is dropped last
-pub replaced_comes : (t : Thread) (to : ℕ) (held : Held) → Fits t → t.index < length t.program → Comes t (replaced to held t) (4200 * busy_units t + 8)
-replaced_comes t to held fits here = go (value t.vars to) refl
+-- a variable gets another value, and what it held before is dropped last
+pub replaced_comes : (t : Thread) (to : ℕ) (new : Option Held) → Fits t → t.index < length t.program → Comes t (replaced to new t) (4200 * busy_units t + 9)
+replaced_comes t to new fits here = go (value t.vars to) refl
   where
-    same : Same t (set_var to (Some held) t)
-    same = record { layout = refl; phases = refl; program = refl; count = length-set t.vars to (Some held); phase = refl }
+    same : Same t (set_var to new t)
+    same = record { layout = refl; phases = refl; program = refl; count = length-set t.vars to new; phase = refl }
 
-    go : (old : Option Held) → value t.vars to ≡ old → Comes t (replaced_old old (set_var to (Some held) t)) (4200 * busy_units t + 8)
+    go : (old : Option Held) → value t.vars to ≡ old → Comes t (replaced_old old (set_var to new t)) (4200 * busy_units t + 9)
     go (Some old) is =
-        let a = units_set t.vars to (Some held) in
+        let a = units_set t.vars to new in let one = unit_few new in
         let at : held_unit (get_or t.vars to None) ≡ 1 = ap held_unit is in
-        after_same t (set_var to (Some held) t) (drop_begun old (set_var to (Some held) t)) (4200 * busy_units (set_var to (Some held) t) + 8) (4200 * busy_units t + 8) same (drop_comes (set_var to (Some held) t) old) (omega arith)
+        after_same t (set_var to new t) (drop_begun old (set_var to new t)) (4200 * busy_units (set_var to new t) + 9) (4200 * busy_units t + 9) same (drop_comes (set_var to new t) old) (omega arith)
     go None is =
-        let a = units_set t.vars to (Some held) in
+        let a = units_set t.vars to new in let one = unit_few new in
         let on = ends_op (ltb t.index (length t.program)) refl in
         on
       where
-        ends_op : (b : Bool) → ltb t.index (length t.program) ≡ b → Comes t (begun (record t { vars = set t.vars to (Some held); doing = doings.Ended; index = cond b (t.index + 1) t.index })) (4200 * busy_units t + 8)
+        ends_op : (b : Bool) → ltb t.index (length t.program) ≡ b → Comes t (begun (record t { vars = set t.vars to new; doing = doings.Ended; index = cond b (t.index + 1) t.index })) (4200 * busy_units t + 9)
         ends_op true e =
-            let a = units_set t.vars to (Some held) in
-            after_same t (record t { vars = set t.vars to (Some held); doing = doings.Ended; index = t.index + 1 }) (begun (record t { vars = set t.vars to (Some held); doing = doings.Ended; index = t.index + 1 }))
-            (4200 * units (record t { vars = set t.vars to (Some held); doing = doings.Ended; index = t.index + 1 })) (4200 * busy_units t + 8)
-            (record { layout = refl; phases = refl; program = refl; count = length-set t.vars to (Some held); phase = refl })
-            (begins (record t { vars = set t.vars to (Some held); doing = doings.Ended; index = t.index + 1 }) fits) (omega arith)
+            let a = units_set t.vars to new in let one = unit_few new in
+            after_same t (record t { vars = set t.vars to new; doing = doings.Ended; index = t.index + 1 }) (begun (record t { vars = set t.vars to new; doing = doings.Ended; index = t.index + 1 }))
+            (4200 * units (record t { vars = set t.vars to new; doing = doings.Ended; index = t.index + 1 })) (4200 * busy_units t + 9)
+            (record { layout = refl; phases = refl; program = refl; count = length-set t.vars to new; phase = refl })
+            (begins (record t { vars = set t.vars to new; doing = doings.Ended; index = t.index + 1 }) fits) (omega arith)
         ends_op false e = let past = ltb-false t.index (length t.program) e in absurd (omega arith)

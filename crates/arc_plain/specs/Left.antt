@@ -2,8 +2,8 @@
 use Rattle.std.specs.Prelude.{ℕ, ◌+◌, ◌-◌, ◌*◌, ◌/◌, ◌==◌, bit_and, if◌then◌else◌, List, length, slice_index, sum_by, Option, Some, None}
 use Rattle.arc_rule.specs.Places.{number}
 use Rattle.arc_rule.specs.declared.layout.Place.TheVariants.{Count, SlotBits}
-use Rattle.arc_plan.specs.declared.attempt.At.{At as AttemptAt}
-use Rattle.arc_plan.specs.declared.attempt.At.TheVariants.{Loading, Exchanging}
+use Rattle.arc_rule.specs.declared.attempt.At.{At as AttemptAt}
+use Rattle.arc_rule.specs.declared.attempt.At.TheVariants.{Loading, Exchanging}
 use Rattle.arc_plan.specs.declared.slots.Making.{Making as Search}
 use Rattle.arc_plan.specs.declared.slots.Making.TheVariants.{Looking, Taking, Counting}
 use Rattle.arc_rule.specs.Extents.{Extent}
@@ -12,7 +12,7 @@ use Rattle.arc_cells.specs.declared.cascade.At.{At}
 use Rattle.arc_cells.specs.declared.cascade.At.TheVariants.{Entering, Naming, Leaving, Finishing}
 use Rattle.arc_ops.specs.declared.stepper.Held.{Held}
 use Rattle.arc_ops.specs.declared.stepper.Doing.{Doing}
-use Rattle.arc_ops.specs.declared.stepper.Doing.TheVariants.{Ready, Making, Copying, Dropping, Dying, Ended}
+use Rattle.arc_ops.specs.declared.stepper.Doing.TheVariants.{Ready, Making, Gaining, Naming, Dropping, Dying, Vacating, Ended}
 use Rattle.arc_ops.specs.Thread.{Thread}
 
 abbrev pub held_unit : Option Held → ℕ
@@ -41,6 +41,13 @@ attempt_left word Loading = 2
 attempt_left word (Exchanging seen new) = if word == seen then 1 else 3
 attempt_left word _ = 1
 
+-- the same where the attempt goes on to an entry's count if the inline word names one; in the entry it has two steps
+abbrev pub count_left : (entry : Option ℕ) → ℕ → AttemptAt → ℕ
+count_left (Some e) word at = 2
+count_left None word Loading = 3
+count_left None word (Exchanging seen new) = if word == seen then 1 else 4
+count_left None word _ = 1
+
 -- the inline word of the slot
 abbrev pub count_at : List ℕ → Extent → ℕ → ℕ
 count_at words l s = slice_index words (number l (Count s))
@@ -54,9 +61,11 @@ cascade_left words _ = 1
 
 abbrev pub doing_left : List ℕ → Thread → Doing → ℕ
 doing_left words t (Making to name plan) = 4200 * busy_units t + search_left words plan.layout plan.at
-doing_left words t (Copying to held plan) = 4200 * busy_units t + 10 + attempt_left (count_at words plan.layout plan.slot) plan.at
-doing_left words t (Dropping held plan) = 4200 * busy_units t + 6 + attempt_left (count_at words plan.layout plan.slot) plan.at
+doing_left words t (Gaining gain to from plan) = 4200 * busy_units t + 10 + count_left plan.entry (count_at words plan.layout plan.slot) plan.at
+doing_left words t (Naming to held plan) = 4200 * busy_units t + 10
+doing_left words t (Dropping held plan) = 4200 * busy_units t + 6 + count_left plan.entry (count_at words plan.layout plan.slot) plan.at
 doing_left words t (Dying c) = 4200 * busy_units t + cascade_left words c.at
+doing_left words t (Vacating slot plan) = 4200 * busy_units t + 1
 doing_left words t Ready = 0
 doing_left words t Ended = 0
 

@@ -5,7 +5,10 @@ ghost use Rattle.arc_rule.specs.Places.{extent_of};
 ghost use Rattle.arc_rule.specs.Steps.{place_of, found_by};
 ghost use Rattle.arc_script.specs.Valid.{IsScript};
 ghost use Rattle.arc_ops.specs.Served.{IsServed};
-ghost use Rattle.arc_ops.specs.Thread.{IsStepper, takes, turned, stepper_of};
+ghost use Rattle.arc_ops.specs.Thread.{stepper_of};
+ghost use Rattle.arc_ops.specs.Turns.{turned};
+ghost use Rattle.arc_ops.specs.Takes.{takes};
+ghost use Rattle.arc_ops.specs.Steppers.{IsStepper};
 ghost use Rattle.arc_replays.specs.Stages.{IsSome, IsNone, has_step, awaits_phase, first_stage, new_threads, stamped};
 ghost use Rattle.arc_plain.specs.Crews.{Progress, IsUnderWay, IsInPhases, AreFollowed, MayGoOn, PlaceFollowed, PlacesFollowed, ThreadFinished, PhaseFinished, PhasesDone, IsDone, given, has_made, place_used, thread_begun, phase_begun, step_count, steps_asked, thread_at};
 

@@ -1,12 +1,13 @@
 //! Scripts, and the events and lines of their replays. Each step is counted by hand: `new` loads the bits of the slots, sets the first
 //! one that is clear (here is `new`) and writes the count and the name, a copy and a drop load the count and exchange it, and the deinit
 //! behind a last drop makes six steps: next word, name (here stands its line), next word, count, count (here is `finish`), and the bit of
-//! the slot (here is `vacate`).
+//! the slot (here is `vacate`). Where an unowned reference is left there is no `vacate` behind `finish`, but right behind the drop of the
+//! last one. An unowned reference is formed as one is copied; a load of one has one step more, in which the name is read.
 //!
 //! No thread here sees an object of another, so the one step that another thread can make vain is that which sets a bit: it finds the bit
 //! set that was clear when it was loaded, and `new` is begun again.
 
-use arc_model::{Act, ObjectName, Origin};
+use arc_model::{Act, Got, ObjectName, Origin};
 use arc_ops::Answer;
 
 /// A script with its replay: the step, the thread and the act of each event, the operation and the answer of each thread's lines, the
@@ -79,6 +80,23 @@ const DROP_LAST: Act = Act::Drop {
 const DROP_SECOND: Act = Act::Drop {
     hand: 2,
     last: true,
+};
+
+const UNOWN: Act = Act::UnownedOf { of: 1, hand: 2 };
+
+const LOADED: Act = Act::Load {
+    of: 2,
+    got: Got::Hand(3),
+};
+
+const FOUND_DEAD: Act = Act::Load {
+    of: 2,
+    got: Got::Dead,
+};
+
+const FINISH_0_MORE: Act = Act::Finish {
+    slot: 0,
+    last: false,
 };
 
 const DROP_SECOND_MORE: Act = Act::Drop {
@@ -532,5 +550,190 @@ pub static ROWS: &[Row] = &[
         ],
         steps: 24,
         taken: 0,
+    },
+    // an unowned reference doesn't keep its object: a load after the deinit finds it dead, and the slot stays taken
+    Row {
+        text: "arc 1\nslots 1\nentries 1\nclass Node\nthread 1\nvar a strong Node\nvar b strong Node\nvar c strong Node\nvar u unowned Node\nnew a Node\nunown u a\ndrop a\nload b u\nnew c Node\ndone\n",
+        events: &[
+            (2, 1, NEW_IN_0),
+            (6, 1, UNOWN),
+            (8, 1, DROP_LAST),
+            (13, 1, FINISH_0_MORE),
+            (14, 1, FOUND_DEAD),
+            (15, 1, Act::Full),
+            (17, 1, DROP_SECOND),
+            (18, 1, VACATE_0),
+        ],
+        lines: &[&[
+            (1, Answer::New(NODE)),
+            (2, Answer::Ok),
+            (3, Answer::Ok),
+            (3, Answer::Deinit(NODE)),
+            (4, Answer::Dead),
+            (5, Answer::Full),
+        ]],
+        steps: 18,
+        taken: 0,
+    },
+    // a load before the end keeps the object; once the last unowned reference is gone the slot is given again
+    Row {
+        text: "arc 1\nslots 1\nentries 1\nclass Node\nthread 1\nvar a strong Node\nvar b strong Node\nvar u unowned Node\nnew a Node\nunown u a\nload b u\ndrop a\ndrop b\nload b u\ndrop u\nnew b Node\ndone\n",
+        events: &[
+            (2, 1, NEW_IN_0),
+            (6, 1, UNOWN),
+            (8, 1, LOADED),
+            (11, 1, DROP_MORE),
+            (13, 1, DROP_THIRD),
+            (18, 1, FINISH_0_MORE),
+            (19, 1, FOUND_DEAD),
+            (21, 1, DROP_SECOND),
+            (22, 1, VACATE_0),
+            (
+                24,
+                1,
+                Act::New {
+                    hand: 4,
+                    class: 0,
+                    slot: 0,
+                },
+            ),
+            (
+                28,
+                1,
+                Act::Drop {
+                    hand: 4,
+                    last: true,
+                },
+            ),
+            (33, 1, FINISH_0),
+            (34, 1, VACATE_0),
+        ],
+        lines: &[&[
+            (1, Answer::New(NODE)),
+            (2, Answer::Ok),
+            (3, Answer::Got(NODE)),
+            (4, Answer::Ok),
+            (5, Answer::Ok),
+            (5, Answer::Deinit(NODE)),
+            (6, Answer::Dead),
+            (7, Answer::Ok),
+            (8, Answer::New(NEXT_NODE)),
+            (0, Answer::Deinit(NEXT_NODE)),
+        ]],
+        steps: 34,
+        taken: 0,
+    },
+    // unowned references are copied, also after the deinit, moved, and dropped where another takes their place
+    Row {
+        text: "arc 1\nslots 1\nentries 1\nclass Node\nthread 1\nvar a strong Node\nvar u unowned Node\nvar v unowned Node\nnew a Node\nunown u a\ncopy v u\nunown u a\nmove u v\ndrop a\ncopy v u\ndone\n",
+        events: &[
+            (2, 1, NEW_IN_0),
+            (6, 1, UNOWN),
+            (
+                8,
+                1,
+                Act::Copy {
+                    from: Origin::Hand(2),
+                    hand: 3,
+                },
+            ),
+            (10, 1, Act::UnownedOf { of: 1, hand: 4 }),
+            (12, 1, DROP_SECOND_MORE),
+            (
+                14,
+                1,
+                Act::Drop {
+                    hand: 4,
+                    last: false,
+                },
+            ),
+            (16, 1, DROP_LAST),
+            (21, 1, FINISH_0_MORE),
+            (
+                23,
+                1,
+                Act::Copy {
+                    from: Origin::Hand(3),
+                    hand: 5,
+                },
+            ),
+            (
+                25,
+                1,
+                Act::Drop {
+                    hand: 3,
+                    last: false,
+                },
+            ),
+            (
+                27,
+                1,
+                Act::Drop {
+                    hand: 5,
+                    last: true,
+                },
+            ),
+            (28, 1, VACATE_0),
+        ],
+        lines: &[&[
+            (1, Answer::New(NODE)),
+            (2, Answer::Ok),
+            (3, Answer::Ok),
+            (4, Answer::Ok),
+            (5, Answer::Ok),
+            (6, Answer::Ok),
+            (6, Answer::Deinit(NODE)),
+            (7, Answer::Ok),
+        ]],
+        steps: 28,
+        taken: 0,
+    },
+    // nothing is formed of nil, and nothing is loaded of it; the destination becomes nil
+    Row {
+        text: "arc 1\nslots 1\nentries 1\nclass Node\nthread 1\nvar a strong Node\nvar u unowned Node\nunown u a\nload a u\nnew a Node\nload a u\ndone\n",
+        events: &[
+            (2, 1, NEW_IN_0),
+            (6, 1, DROP_LAST),
+            (11, 1, FINISH_0),
+            (12, 1, VACATE_0),
+        ],
+        lines: &[&[
+            (1, Answer::Nil),
+            (2, Answer::Nil),
+            (3, Answer::New(NODE)),
+            (4, Answer::Nil),
+            (4, Answer::Deinit(NODE)),
+        ]],
+        steps: 12,
+        taken: 0,
+    },
+    // an immortal object is found by a load after each of its references is gone: no word changes, and each drop has one step
+    Row {
+        text: "arc 2\nslots 1\nentries 1\nimmortal Root\nthread 1\nvar a strong Root\nvar b strong Root\nvar u unowned Root\nnew a Root\nunown u a\ndrop a\nload b u\ndrop b\ndrop u\ndone\n",
+        events: &[
+            (2, 1, NEW_IN_0),
+            (5, 1, UNOWN),
+            (6, 1, DROP_MORE),
+            (7, 1, LOADED),
+            (
+                9,
+                1,
+                Act::Drop {
+                    hand: 3,
+                    last: false,
+                },
+            ),
+            (10, 1, DROP_SECOND_MORE),
+        ],
+        lines: &[&[
+            (1, Answer::New(NODE)),
+            (2, Answer::Ok),
+            (3, Answer::Ok),
+            (4, Answer::Got(NODE)),
+            (5, Answer::Ok),
+            (6, Answer::Ok),
+        ]],
+        steps: 10,
+        taken: 1,
     },
 ];

@@ -1,12 +1,12 @@
 -- The lowest bit of a word that is clear.
-use Rattle.std.proofs.Common.{◌≡◌, ◌⊎◌, inl, inr, ℕ, zero, suc, ◌+◌, ◌-◌, ◌*◌, ◌/◌, ◌%◌, ◌^◌, ◌<◌, ◌≤◌, ◌==◌, nat_lt, min, bit_and, Bool, true, false, cond, Option, None, Some, refl, sym, ap, ◌∙◌, subst, arith, zero-mul, ⊎_elim, ◌&&◌, w64}
+use Rattle.std.proofs.Common.{◌≡◌, ◌⊎◌, inl, inr, ℕ, zero, suc, ◌+◌, ◌-◌, ◌*◌, ◌/◌, ◌%◌, ◌^◌, ◌<◌, ◌≤◌, ◌==◌, nat_lt, min, bit_and, Bool, cond, Option, None, Some, refl, sym, ap, ◌∙◌, subst, arith, zero-mul, ⊎_elim, ◌&&◌, w64}
 use Rattle.std.proofs.lemmas.Nat.Bits.{bit_at-trailing_zeros, bit_at_not, bit_at_ones, and_pow}
 use Rattle.std.proofs.lemmas.Bool.{lt-ltb, le-ltb, cases_lt}
 use Rattle.std.specs.Int.{bit_at}
 use lib.Count.{count_trailing_zeros, under}
-use Rattle.arc_rule.specs.Bits.{bit_of, is_set, full_word, lowest, thing_left, ShowsBits}
+use Rattle.arc_rule.specs.Bits.{is_set, full_word, lowest, thing_left, ShowsBits}
 use Rattle.arc_rule.proofs.Bits.{full_below, set_in_full, same_bits}
-use Rattle.arc_plan.specs.Slots.{free_slot, IsTaking}
+use Rattle.arc_plan.specs.Searches.{free_thing, IsTaking}
 
 -- the place of the lowest bit is what the processor counts
 pub lowest_is : (k n : ℕ) → lowest k n ≡ count_trailing_zeros k n
@@ -75,7 +75,7 @@ no_clear : (w : ℕ) → 2 ^ 64 ≤ w + 1 → clear_place w ≡ 64
 no_clear w full = ap (lowest 64) (let z : rest w ≡ 0 = omega (arith, full) in z) ∙ lowest_of_none
 
 -- the slot that is found free is one of the word's, and its bit is clear
-pub free_is_clear : (n k w s : ℕ) → free_slot n k w ≡ Some s → IsTaking n s w × (s / 64 ≡ k)
+pub free_is_clear : (n k w s : ℕ) → free_thing n k w ≡ Some s → IsTaking n s w × (s / 64 ≡ k)
 free_is_clear n k w s e = go (cases_lt (w + 1) (2 ^ 64))
   where
     found : (thing_left k w < min n (64 * (k + 1))) × (thing_left k w ≡ s)
@@ -97,7 +97,7 @@ free_is_clear n k w s e = go (cases_lt (w + 1) (2 ^ 64))
         )
 
 -- where a word that shows which slots are taken has no free one, each of its slots is taken
-pub none_free_is_full : (n k : ℕ) (taken : ℕ → Bool) (w : ℕ) → ShowsBits n k taken w → free_slot n k w ≡ None → w ≡ full_word n k
+pub none_free_is_full : (n k : ℕ) (taken : ℕ → Bool) (w : ℕ) → ShowsBits n k taken w → free_thing n k w ≡ None → w ≡ full_word n k
 none_free_is_full n k taken w shows e = same_bits k w (full_word n k) shows.below (full_below n k) (λ x word. same x word (cases_lt x n))
   where
     none : min n (64 * (k + 1)) ≤ thing_left k w

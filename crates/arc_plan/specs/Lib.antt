@@ -1,4 +1,5 @@
 pub mod Attempts
 pub mod Strong
 pub mod Unowned
+pub mod Searches
 pub mod Slots

@@ -1,5 +1,5 @@
 -- An object is made, its name is read, and its slot is given up.
-use Rattle.std.specs.Prelude.{ℕ, ◌≡◌, ◌≢◌, ◌+◌, ◌-◌, ◌*◌, ◌/◌, ◌<◌, ◌==◌, nat_lt, min, bit_and, Bool, if◌then◌else◌, Option, Some, None, ⊤}
+use Rattle.std.specs.Prelude.{ℕ, ◌≡◌, ◌≢◌, ◌+◌, ◌-◌, ◌/◌, ◌<◌, ◌==◌, nat_lt, bit_and, Bool, if◌then◌else◌, Option, Some, None, ⊤}
 use Rattle.std.specs.Option.{unwrap_or}
 use Rattle.arc_model.specs.declared.event.ObjectName.{ObjectName}
 use Rattle.arc_rule.specs.declared.layout.Place.TheVariants.{Count, Isa, SlotBits}
@@ -8,11 +8,12 @@ use Rattle.arc_rule.specs.declared.step.Step.TheVariants.{Load, Store, Or, And}
 use Rattle.arc_rule.specs.declared.step.Changed.{Changed}
 use Rattle.arc_rule.specs.declared.plan.Next.{Next}
 use Rattle.arc_rule.specs.declared.plan.Next.TheVariants as nexts
-use Rattle.arc_rule.specs.Bits.{words_of, bit_of, but_bit_of, thing_left}
+use Rattle.arc_rule.specs.Bits.{words_of, bit_of, but_bit_of}
 use Rattle.arc_rule.specs.Extents.{Extent}
 use Rattle.arc_rule.specs.Isa.{isa_word_of, isa_name_of, IsName, IsIsaWord}
 use Rattle.arc_rule.specs.Places.{number}
 use Rattle.arc_rule.specs.Plans.{Reading}
+pub use Rattle.arc_plan.specs.Searches.{free_thing as free_slot, IsTaking}
 use Rattle.arc_plan.specs.declared.slots.NewObjectAnswer.{NewObjectAnswer}
 use Rattle.arc_plan.specs.declared.slots.NewObjectAnswer.TheVariants.{Slot, NoSlot, Again}
 use Rattle.arc_plan.specs.declared.slots.Making.{Making}
@@ -39,15 +40,6 @@ bits_place l word = number l (SlotBits word)
 
 abbrev pub bits_place_of : Extent → ℕ → ℕ
 bits_place_of l slot = bits_place l (slot / 64)
-
--- the lowest slot whose bit, in this word of the slots' bits, is clear, if there is one
-abbrev pub free_slot : ℕ → ℕ → ℕ → Option ℕ
-free_slot slots word bits = let s = thing_left word bits in if nat_lt s (min slots (64 * (word + 1))) then Some s else None
-
--- the slot's bit is clear in the word that was read
-pub record IsTaking (slots slot seen : ℕ) : Type 0 where
-  pub below : slot < slots
-  pub clear : bit_and seen (bit_of slot) ≡ 0
 
 abbrev pub InSlots : Extent → Making → Type 0
 InSlots l makings.Start = ⊤

@@ -9,13 +9,14 @@ use Rattle.arc_rule.specs.declared.layout.Place.TheVariants.{Count}
 use Rattle.arc_rule.specs.declared.step.Changed.{Changed}
 use Rattle.arc_rule.specs.declared.plan.Next.{Next}
 use Rattle.arc_rule.specs.Places.{number}
-use Rattle.arc_plan.specs.declared.attempt.Choice.{Choice}
-use Rattle.arc_plan.specs.declared.attempt.Choice.TheVariants.{Tell, Write}
+use Rattle.arc_rule.specs.declared.attempt.Choice.{Choice}
+use Rattle.arc_rule.specs.declared.attempt.Choice.TheVariants.{Tell, Write}
 use Rattle.arc_plan.specs.declared.strong.StrongUpAnswer.{StrongUpAnswer}
 use Rattle.arc_plan.specs.declared.strong.StrongUpAnswer.TheVariants as ups
 use Rattle.arc_plan.specs.declared.strong.StrongDownAnswer.{StrongDownAnswer}
 use Rattle.arc_plan.specs.declared.strong.StrongDownAnswer.TheVariants as downs
-use Rattle.arc_plan.specs.Attempts.{Attempt, CappedAttempt, IsCountWord, takes_at, turned_at, answer_at}
+use Rattle.arc_plan.specs.Attempts.{Attempt, CappedAttempt, IsCountWord}
+use Rattle.arc_rule.specs.Attempts.{takes_at, turned_at, answer_at}
 
 -- by the word read: Dead where it is deiniting, AtCap at the cap, Slow with the entry, and Up where the object is immortal; else one strong reference more
 abbrev pub strong_up_row : ℕ → Option Word → Choice StrongUpAnswer

@@ -1,12 +1,13 @@
 //! A new object's plan: a free slot by the bit words, the words stored, the bit set; and the plan that gives a slot up.
-ghost use Rattle.std.specs.Prelude.{◌≡◌, ◌<◌, ◌≤◌, ◌/◌, Some, IfSome};
+ghost use Rattle.std.specs.Prelude.{◌≡◌, ◌≢◌, ◌<◌, ◌≤◌, ◌/◌, Some, IfSome};
 ghost use Rattle.arc_rule.specs.Bits.{words_of, bit_of};
 ghost use Rattle.arc_rule.specs.Isa.{IsName};
 ghost use Rattle.arc_rule.specs.Places.{IsPlace, number};
 ghost use Rattle.arc_rule.specs.Plans.{WaitsFor, FewerLeft, RestsOn, HoldsChange};
 ghost use Rattle.arc_rule.specs.declared.layout.Place.TheVariants.{Count, Isa};
-ghost use Rattle.arc_plan.specs.Slots.{creation_takes, creation_turned, creation_answer, creation_asked, creation_left, creation_rests, creation_change, free_slot, slot_taken, looked, looked_answer, looking, taking, new_word, IsTaking, vacate_takes, vacate_answer, vacate_asked, name_of_takes, one_turned, name_of_answer, name_of_asked, one_left, no_reading, no_change};
+ghost use Rattle.arc_plan.specs.Slots.{creation_takes, creation_turned, creation_answer, creation_asked, creation_left, creation_rests, creation_change, free_slot, slot_taken, looked, looked_answer, looking, taking, new_word, IsTaking, vacate_takes, vacate_answer, vacate_asked, name_of_takes, once_turned, once_answer, one_turned, name_of_answer, name_of_asked, one_left, no_reading, no_change};
 
+use crate::free::{bit, free_thing};
 use arc_bits::{Inline, Word, pack};
 use arc_model::ObjectName;
 use arc_rule::{Changed, Layout, Next, Plan, Step, isa_name, isa_word};
@@ -116,7 +117,7 @@ impl NewObject {
         ensures change { HoldsChange creation_change (creation_asked self.old) (Some bits) (creation_rests self.old) result }
     {
         let layout = self.layout;
-        if let Some(slot) = free_slot(layout.slots(), word, bits) {
+        if let Some(slot) = free_thing(layout.slots(), word, bits) {
             self.at = Making::Taking { slot, seen: bits };
             return Next::Step(taking(&layout, slot));
         }
@@ -126,27 +127,6 @@ impl NewObject {
         }
         self.at = Making::Ended;
         Next::Done(NewObjectAnswer::NoSlot)
-    }
-}
-
-fn bit(slot: u32) -> u64
-    ensures { result ≡ bit_of slot }
-{
-    1u64 << (slot % 64)
-}
-
-/// The lowest slot whose bit is clear in this word of the slots' bits.
-fn free_slot(slots: u32, word: u32, bits: u64) -> Option<u32>
-    requires some { word < words_of slots }
-    requires few { slots ≤ 4096 }
-    ensures free { result ≡ free_slot slots word bits }
-    ensures clear { IfSome result (λ s. IsTaking slots s bits × (s / 64 ≡ word)) }
-{
-    let slot = 64 * word + bits.trailing_ones();
-    if slot < slots.min(64 * (word + 1)) {
-        Some(slot)
-    } else {
-        None
     }
 }
 
@@ -284,6 +264,27 @@ impl Vacate {
     }
 }
 
+impl Once {
+    /// The step, or the answer once the step was made.
+    pub fn ask(&mut self, step: Step) -> Next<()>
+        requires { self.old ≢ Once.Ended }
+        ensures turned { self.new ≡ once_turned self.old }
+        ensures answer { result ≡ once_answer step tt self.old }
+    {
+        match *self {
+            Once::Start => {
+                *self = Once::Asked;
+                Next::Step(step)
+            }
+            Once::Asked => {
+                *self = Once::Ended;
+                Next::Done(())
+            }
+            Once::Ended => unreachable!(),
+        }
+    }
+}
+
 impl Plan for Vacate {
     type Answer = ();
 
@@ -302,20 +303,10 @@ impl Plan for Vacate {
     ghost changed = { no_change };
 
     fn next(&mut self, _last: Option<u64>) -> Next<()> {
-        match self.at {
-            Once::Start => {
-                self.at = Once::Asked;
-                Next::Step(Step::And {
-                    place: self.layout.slot_bits(self.slot),
-                    bits: !bit(self.slot),
-                })
-            }
-            Once::Asked => {
-                self.at = Once::Ended;
-                Next::Done(())
-            }
-            Once::Ended => unreachable!(),
-        }
+        self.at.ask(Step::And {
+            place: self.layout.slot_bits(self.slot),
+            bits: !bit(self.slot),
+        })
     }
 }
 

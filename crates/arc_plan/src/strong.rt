@@ -1,16 +1,16 @@
 //! Plans of a strong reference on the inline word: one more, one fewer.
 ghost use Rattle.std.specs.Prelude.{◌≡◌, ◌<◌, ◌≤◌, true};
-ghost use Rattle.std.specs.Option.{unwrap_or};
 ghost use Rattle.arc_bits.specs.Words.{IsStrongCap, unpacked};
 ghost use Rattle.arc_rule.specs.Places.{IsPlace, number};
 ghost use Rattle.arc_rule.specs.declared.layout.Place.TheVariants.{Count};
-ghost use Rattle.arc_plan.specs.declared.attempt.At.TheVariants.{Start};
-ghost use Rattle.arc_plan.specs.Attempts.{asked_at, left_at, rests_at};
-ghost use Rattle.arc_plan.specs.Strong.{StrongUpWord, strong_up_row, strong_up_takes, strong_up_turned, strong_up_answer, strong_up_change, StrongDownWord, strong_down_row, strong_down_end, strong_down_takes, strong_down_turned, strong_down_answer, strong_down_change};
+ghost use Rattle.arc_rule.specs.declared.attempt.At.TheVariants.{Start};
+ghost use Rattle.arc_rule.specs.Attempts.{goes_nowhere};
+ghost use Rattle.arc_plan.specs.declared.strong.StrongUpAnswer.TheVariants as ups;
+ghost use Rattle.arc_plan.specs.declared.strong.StrongDownAnswer.TheVariants as downs;
+ghost use Rattle.arc_plan.specs.Strong.{StrongUpWord, strong_up_row, strong_up_change, StrongDownWord, strong_down_row, strong_down_end, strong_down_change};
 
-use crate::attempt::{At, Choice};
-use arc_bits::{Word, pack, strong_down, strong_up, unpack};
-use arc_rule::{Changed, Layout, Next, Plan, Step};
+use arc_bits::{Word, has_no_strong_extra, strong_down_packed, strong_up_packed, unpack};
+use arc_rule::{At, Changed, Choice, Layout, Row};
 use std::alloc::AllocError;
 use std::marker::Model;
 
@@ -76,78 +76,70 @@ impl StrongUp {
             at: At::Start,
         }
     }
+}
 
-    fn choice(&self, word: u64) -> Choice<StrongUpAnswer>
-        requires { StrongUpWord self.now word }
-        ensures { result ≡ strong_up_row self.now.cap (unpacked word) }
-    {
+impl Row for StrongUp {
+    type Answer = StrongUpAnswer;
+
+    ghost at = { λ p. p.at };
+
+    ghost moved = { λ p at. record p { at = at } };
+
+    ghost place = { λ p. number p.layout (Count p.slot) };
+
+    ghost fits = { StrongUpWord };
+
+    ghost choice = { λ p w. strong_up_row p.cap (unpacked w) };
+
+    ghost after = { λ p seen. ups.Up };
+
+    ghost again = { ups.Again };
+
+    ghost onward = { goes_nowhere };
+
+    ghost load_leaves = { λ p. 1 };
+
+    ghost exchange_leaves = { λ p. 0 };
+
+    ghost changes = { strong_up_change };
+
+    fn at(&self) -> At {
+        self.at
+    }
+
+    fn move_to(&mut self, to: At) {
+        self.at = to;
+    }
+
+    fn place(&self) -> u32 {
+        self.layout.count_of(self.slot)
+    }
+
+    #[tactic(auto, using(crate::proofs::Taken::is_taken))]
+    fn choice(&self, word: u64) -> Choice<StrongUpAnswer> {
+        if let Some(more) = strong_up_packed(word, self.cap) {
+            return Choice::Write(more);
+        }
         match unpack(word) {
-            Some(Word::Counts(counts)) => {
-                if counts.deiniting {
-                    return Choice::Tell(StrongUpAnswer::Dead);
-                }
-                match strong_up(counts, self.cap) {
-                    Ok(more) => Choice::Write(pack(Word::Counts(more))),
-                    Err(_) => Choice::Tell(StrongUpAnswer::AtCap),
-                }
-            }
+            Some(Word::Counts(counts)) if counts.deiniting => Choice::Tell(StrongUpAnswer::Dead),
+            Some(Word::Counts(_)) => Choice::Tell(StrongUpAnswer::AtCap),
             Some(Word::Slow(entry)) => Choice::Tell(StrongUpAnswer::Slow(entry)),
             Some(Word::Immortal) => Choice::Tell(StrongUpAnswer::Up),
             Some(Word::Free) => unreachable!(),
             None => unreachable!(),
         }
     }
-}
 
-impl Plan for StrongUp {
-    type Answer = StrongUpAnswer;
+    fn after(&self, _seen: u64) -> StrongUpAnswer {
+        StrongUpAnswer::Up
+    }
 
-    ghost takes = { strong_up_takes };
+    fn again(words: Changed) -> StrongUpAnswer {
+        StrongUpAnswer::Again(words)
+    }
 
-    ghost turned = { strong_up_turned };
-
-    ghost answer = { strong_up_answer };
-
-    ghost asked = { λ p. asked_at (number p.layout (Count p.slot)) p.at };
-
-    ghost left = { λ p. left_at p.at };
-
-    ghost rests = { λ p. rests_at (number p.layout (Count p.slot)) p.at };
-
-    ghost changed = { strong_up_change };
-
-    fn next(&mut self, last: Option<u64>) -> Next<StrongUpAnswer> {
-        let place = self.layout.count_of(self.slot);
-        let word = last.unwrap_or(0);
-        match self.at {
-            At::Start => {
-                self.at = At::Loading;
-                Next::Step(Step::Load { place })
-            }
-            At::Loading => match self.choice(word) {
-                Choice::Tell(answer) => {
-                    self.at = At::Ended;
-                    Next::Done(answer)
-                }
-                Choice::Write(new) => {
-                    self.at = At::Exchanging { seen: word, new };
-                    Next::Step(Step::Exchange {
-                        place,
-                        old: word,
-                        new,
-                    })
-                }
-            },
-            At::Exchanging { seen, new: _ } => {
-                self.at = At::Ended;
-                Next::Done(if word == seen {
-                    StrongUpAnswer::Up
-                } else {
-                    StrongUpAnswer::Again(Changed { seen, found: word })
-                })
-            }
-            At::Ended => unreachable!(),
-        }
+    fn onward(&self, _last: Option<u64>) -> Option<StrongUp> {
+        None
     }
 }
 
@@ -208,78 +200,72 @@ impl StrongDown {
             at: At::Start,
         }
     }
+}
 
-    fn choice(&self, word: u64) -> Choice<StrongDownAnswer>
-        requires { StrongDownWord self.now word }
-        ensures { result ≡ strong_down_row (unpacked word) }
-    {
+impl Row for StrongDown {
+    type Answer = StrongDownAnswer;
+
+    ghost at = { λ p. p.at };
+
+    ghost moved = { λ p at. record p { at = at } };
+
+    ghost place = { λ p. number p.layout (Count p.slot) };
+
+    ghost fits = { StrongDownWord };
+
+    ghost choice = { λ p w. strong_down_row (unpacked w) };
+
+    ghost after = { λ p seen. strong_down_end (unpacked seen) };
+
+    ghost again = { downs.Again };
+
+    ghost onward = { goes_nowhere };
+
+    ghost load_leaves = { λ p. 1 };
+
+    ghost exchange_leaves = { λ p. 0 };
+
+    ghost changes = { strong_down_change };
+
+    fn at(&self) -> At {
+        self.at
+    }
+
+    fn move_to(&mut self, to: At) {
+        self.at = to;
+    }
+
+    fn place(&self) -> u32 {
+        self.layout.count_of(self.slot)
+    }
+
+    #[tactic(auto, using(crate::proofs::Taken::is_taken))]
+    fn choice(&self, word: u64) -> Choice<StrongDownAnswer> {
+        if let Some(fewer) = strong_down_packed(word) {
+            return Choice::Write(fewer);
+        }
         match unpack(word) {
-            Some(Word::Counts(counts)) => Choice::Write(pack(Word::Counts(strong_down(counts)))),
+            Some(Word::Counts(_)) => unreachable!(),
             Some(Word::Slow(entry)) => Choice::Tell(StrongDownAnswer::Slow(entry)),
             Some(Word::Immortal) => Choice::Tell(StrongDownAnswer::More),
             Some(Word::Free) => unreachable!(),
             None => unreachable!(),
         }
     }
-}
 
-fn end_of_release(seen: u64) -> StrongDownAnswer
-    ensures { result ≡ strong_down_end (unpacked seen) }
-{
-    match unpack(seen) {
-        Some(Word::Counts(counts)) if counts.strong_extra == 0 => StrongDownAnswer::Last,
-        _ => StrongDownAnswer::More,
-    }
-}
-
-impl Plan for StrongDown {
-    type Answer = StrongDownAnswer;
-
-    ghost takes = { strong_down_takes };
-
-    ghost turned = { strong_down_turned };
-
-    ghost answer = { strong_down_answer };
-
-    ghost asked = { λ p. asked_at (number p.layout (Count p.slot)) p.at };
-
-    ghost left = { λ p. left_at p.at };
-
-    ghost rests = { λ p. rests_at (number p.layout (Count p.slot)) p.at };
-
-    ghost changed = { strong_down_change };
-
-    fn next(&mut self, last: Option<u64>) -> Next<StrongDownAnswer> {
-        let place = self.layout.count_of(self.slot);
-        let word = last.unwrap_or(0);
-        match self.at {
-            At::Start => {
-                self.at = At::Loading;
-                Next::Step(Step::Load { place })
-            }
-            At::Loading => match self.choice(word) {
-                Choice::Tell(answer) => {
-                    self.at = At::Ended;
-                    Next::Done(answer)
-                }
-                Choice::Write(new) => {
-                    self.at = At::Exchanging { seen: word, new };
-                    Next::Step(Step::Exchange {
-                        place,
-                        old: word,
-                        new,
-                    })
-                }
-            },
-            At::Exchanging { seen, new: _ } => {
-                self.at = At::Ended;
-                Next::Done(if word == seen {
-                    end_of_release(seen)
-                } else {
-                    StrongDownAnswer::Again(Changed { seen, found: word })
-                })
-            }
-            At::Ended => unreachable!(),
+    fn after(&self, seen: u64) -> StrongDownAnswer {
+        if has_no_strong_extra(seen) {
+            StrongDownAnswer::Last
+        } else {
+            StrongDownAnswer::More
         }
+    }
+
+    fn again(words: Changed) -> StrongDownAnswer {
+        StrongDownAnswer::Again(words)
+    }
+
+    fn onward(&self, _last: Option<u64>) -> Option<StrongDown> {
+        None
     }
 }

@@ -1,16 +1,16 @@
 //! Plans of an unowned reference on the inline word: one more, one fewer.
 ghost use Rattle.std.specs.Prelude.{◌≡◌, ◌<◌, ◌≤◌, true};
-ghost use Rattle.std.specs.Option.{unwrap_or};
 ghost use Rattle.arc_bits.specs.Words.{IsUnownedCap, unpacked};
 ghost use Rattle.arc_rule.specs.Places.{IsPlace, number};
 ghost use Rattle.arc_rule.specs.declared.layout.Place.TheVariants.{Count};
-ghost use Rattle.arc_plan.specs.declared.attempt.At.TheVariants.{Start};
-ghost use Rattle.arc_plan.specs.Attempts.{asked_at, left_at, rests_at};
-ghost use Rattle.arc_plan.specs.Unowned.{UnownedUpWord, unowned_up_row, unowned_up_takes, unowned_up_turned, unowned_up_answer, unowned_up_change, UnownedDownWord, unowned_down_row, unowned_down_end, unowned_down_takes, unowned_down_turned, unowned_down_answer, unowned_down_change};
+ghost use Rattle.arc_rule.specs.declared.attempt.At.TheVariants.{Start};
+ghost use Rattle.arc_rule.specs.Attempts.{goes_nowhere};
+ghost use Rattle.arc_plan.specs.declared.unowned.UnownedUpAnswer.TheVariants as ups;
+ghost use Rattle.arc_plan.specs.declared.unowned.UnownedDownAnswer.TheVariants as downs;
+ghost use Rattle.arc_plan.specs.Unowned.{UnownedUpWord, unowned_up_row, unowned_up_change, UnownedDownWord, unowned_down_row, unowned_down_end, unowned_down_change};
 
-use crate::attempt::{At, Choice};
 use arc_bits::{Word, pack, unowned_down, unowned_up, unpack};
-use arc_rule::{Changed, Layout, Next, Plan, Step};
+use arc_rule::{At, Changed, Choice, Layout, Row};
 use std::alloc::AllocError;
 use std::marker::Model;
 
@@ -74,11 +74,46 @@ impl UnownedUp {
             at: At::Start,
         }
     }
+}
 
-    fn choice(&self, word: u64) -> Choice<UnownedUpAnswer>
-        requires { UnownedUpWord self.now word }
-        ensures { result ≡ unowned_up_row self.now.cap (unpacked word) }
-    {
+impl Row for UnownedUp {
+    type Answer = UnownedUpAnswer;
+
+    ghost at = { λ p. p.at };
+
+    ghost moved = { λ p at. record p { at = at } };
+
+    ghost place = { λ p. number p.layout (Count p.slot) };
+
+    ghost fits = { UnownedUpWord };
+
+    ghost choice = { λ p w. unowned_up_row p.cap (unpacked w) };
+
+    ghost after = { λ p seen. ups.Up };
+
+    ghost again = { ups.Again };
+
+    ghost onward = { goes_nowhere };
+
+    ghost load_leaves = { λ p. 1 };
+
+    ghost exchange_leaves = { λ p. 0 };
+
+    ghost changes = { unowned_up_change };
+
+    fn at(&self) -> At {
+        self.at
+    }
+
+    fn move_to(&mut self, to: At) {
+        self.at = to;
+    }
+
+    fn place(&self) -> u32 {
+        self.layout.count_of(self.slot)
+    }
+
+    fn choice(&self, word: u64) -> Choice<UnownedUpAnswer> {
         match unpack(word) {
             Some(Word::Counts(counts)) => match unowned_up(counts, self.cap) {
                 Ok(more) => Choice::Write(pack(Word::Counts(more))),
@@ -90,57 +125,17 @@ impl UnownedUp {
             None => unreachable!(),
         }
     }
-}
 
-impl Plan for UnownedUp {
-    type Answer = UnownedUpAnswer;
+    fn after(&self, _seen: u64) -> UnownedUpAnswer {
+        UnownedUpAnswer::Up
+    }
 
-    ghost takes = { unowned_up_takes };
+    fn again(words: Changed) -> UnownedUpAnswer {
+        UnownedUpAnswer::Again(words)
+    }
 
-    ghost turned = { unowned_up_turned };
-
-    ghost answer = { unowned_up_answer };
-
-    ghost asked = { λ p. asked_at (number p.layout (Count p.slot)) p.at };
-
-    ghost left = { λ p. left_at p.at };
-
-    ghost rests = { λ p. rests_at (number p.layout (Count p.slot)) p.at };
-
-    ghost changed = { unowned_up_change };
-
-    fn next(&mut self, last: Option<u64>) -> Next<UnownedUpAnswer> {
-        let place = self.layout.count_of(self.slot);
-        let word = last.unwrap_or(0);
-        match self.at {
-            At::Start => {
-                self.at = At::Loading;
-                Next::Step(Step::Load { place })
-            }
-            At::Loading => match self.choice(word) {
-                Choice::Tell(answer) => {
-                    self.at = At::Ended;
-                    Next::Done(answer)
-                }
-                Choice::Write(new) => {
-                    self.at = At::Exchanging { seen: word, new };
-                    Next::Step(Step::Exchange {
-                        place,
-                        old: word,
-                        new,
-                    })
-                }
-            },
-            At::Exchanging { seen, new: _ } => {
-                self.at = At::Ended;
-                Next::Done(if word == seen {
-                    UnownedUpAnswer::Up
-                } else {
-                    UnownedUpAnswer::Again(Changed { seen, found: word })
-                })
-            }
-            At::Ended => unreachable!(),
-        }
+    fn onward(&self, _last: Option<u64>) -> Option<UnownedUp> {
+        None
     }
 }
 
@@ -201,11 +196,46 @@ impl UnownedDown {
             at: At::Start,
         }
     }
+}
 
-    fn choice(&self, word: u64) -> Choice<UnownedDownAnswer>
-        requires { UnownedDownWord self.now word }
-        ensures { result ≡ unowned_down_row (unpacked word) }
-    {
+impl Row for UnownedDown {
+    type Answer = UnownedDownAnswer;
+
+    ghost at = { λ p. p.at };
+
+    ghost moved = { λ p at. record p { at = at } };
+
+    ghost place = { λ p. number p.layout (Count p.slot) };
+
+    ghost fits = { UnownedDownWord };
+
+    ghost choice = { λ p w. unowned_down_row (unpacked w) };
+
+    ghost after = { λ p seen. unowned_down_end (unpacked seen) };
+
+    ghost again = { downs.Again };
+
+    ghost onward = { goes_nowhere };
+
+    ghost load_leaves = { λ p. 1 };
+
+    ghost exchange_leaves = { λ p. 0 };
+
+    ghost changes = { unowned_down_change };
+
+    fn at(&self) -> At {
+        self.at
+    }
+
+    fn move_to(&mut self, to: At) {
+        self.at = to;
+    }
+
+    fn place(&self) -> u32 {
+        self.layout.count_of(self.slot)
+    }
+
+    fn choice(&self, word: u64) -> Choice<UnownedDownAnswer> {
         match unpack(word) {
             Some(Word::Counts(counts)) => Choice::Write(pack(Word::Counts(unowned_down(counts)))),
             Some(Word::Slow(entry)) => Choice::Tell(UnownedDownAnswer::Slow(entry)),
@@ -214,65 +244,19 @@ impl UnownedDown {
             None => unreachable!(),
         }
     }
-}
 
-fn end_of_reference(seen: u64) -> UnownedDownAnswer
-    ensures { result ≡ unowned_down_end (unpacked seen) }
-{
-    match unpack(seen) {
-        Some(Word::Counts(counts)) if counts.unowned == 1 => UnownedDownAnswer::Last,
-        _ => UnownedDownAnswer::More,
-    }
-}
-
-impl Plan for UnownedDown {
-    type Answer = UnownedDownAnswer;
-
-    ghost takes = { unowned_down_takes };
-
-    ghost turned = { unowned_down_turned };
-
-    ghost answer = { unowned_down_answer };
-
-    ghost asked = { λ p. asked_at (number p.layout (Count p.slot)) p.at };
-
-    ghost left = { λ p. left_at p.at };
-
-    ghost rests = { λ p. rests_at (number p.layout (Count p.slot)) p.at };
-
-    ghost changed = { unowned_down_change };
-
-    fn next(&mut self, last: Option<u64>) -> Next<UnownedDownAnswer> {
-        let place = self.layout.count_of(self.slot);
-        let word = last.unwrap_or(0);
-        match self.at {
-            At::Start => {
-                self.at = At::Loading;
-                Next::Step(Step::Load { place })
-            }
-            At::Loading => match self.choice(word) {
-                Choice::Tell(answer) => {
-                    self.at = At::Ended;
-                    Next::Done(answer)
-                }
-                Choice::Write(new) => {
-                    self.at = At::Exchanging { seen: word, new };
-                    Next::Step(Step::Exchange {
-                        place,
-                        old: word,
-                        new,
-                    })
-                }
-            },
-            At::Exchanging { seen, new: _ } => {
-                self.at = At::Ended;
-                Next::Done(if word == seen {
-                    end_of_reference(seen)
-                } else {
-                    UnownedDownAnswer::Again(Changed { seen, found: word })
-                })
-            }
-            At::Ended => unreachable!(),
+    fn after(&self, seen: u64) -> UnownedDownAnswer {
+        match unpack(seen) {
+            Some(Word::Counts(counts)) if counts.unowned == 1 => UnownedDownAnswer::Last,
+            _ => UnownedDownAnswer::More,
         }
+    }
+
+    fn again(words: Changed) -> UnownedDownAnswer {
+        UnownedDownAnswer::Again(words)
+    }
+
+    fn onward(&self, _last: Option<u64>) -> Option<UnownedDown> {
+        None
     }
 }

@@ -1,14 +1,15 @@
--- What acts that are served leave: objects without an entry, in whose strong lists are no more holders than references came. No entry is claimed.
+-- What acts that are served leave: objects without an entry, in whose lists are no more holders than references came, and one. No entry is claimed.
 use Rattle.std.proofs.Common.{◌≡◌, ℕ, zero, suc, ◌≤◌, Bool, true, false, cond, List, [], ◌∷◌, ◌++◌, length, Option, Some, None, refl, sym, subst, arith}
 use Rattle.std.specs.Prelude.{find, slice_get, ⊤}
 use Rattle.std.proofs.lemmas.List.{length-append}
 use Rattle.arc_model.specs.declared.event.Origin.TheVariants as origins
+use Rattle.arc_model.specs.declared.event.Got.TheVariants as gots
 use Rattle.arc_model.specs.declared.event.Act.{Act}
 use Rattle.arc_model.specs.declared.event.Act.TheVariants as acts
 use Rattle.arc_model.specs.declared.shape.Kind.{Kind}
 use Rattle.arc_model.specs.declared.shape.Kind.TheVariants.{Strong, Unowned, Weak}
 use Rattle.arc_model.specs.Heaps.{Holder, Hand, Strongs, Object, Heap}
-use Rattle.arc_model.specs.Holders.{same_holder, is_in, without, gains, lists, with_list, change, kind_in, holds, in_slot, held_by, at_first}
+use Rattle.arc_model.specs.Holders.{same_holder, is_in, with_last, without, gains, lists, with_list, change, kind_in, holds, in_slot, held_by, at_first}
 use Rattle.arc_model.specs.Cells.{origin}
 use Rattle.arc_model.specs.Effects.{ended_if, given_up, entry_of_last, entry_left, entry_to, left_slot, finished, vacated, effect, made}
 use Rattle.arc_model.specs.WellFormed.{more}
@@ -21,10 +22,11 @@ abbrev pub came_in : History → ℕ
 came_in [] = 0
 came_in (e ∷ h) = more (brings e.act) (came_in h)
 
--- it has no entry, and so many strong holders at most
+-- it has no entry, so many strong holders at most, and besides the one that stands for these so many unowned ones
 pub record IsBare (n : ℕ) (o : Object) : Type 0 where
   pub entry : o.entry ≡ None
   pub strong : length o.strong ≤ n
+  pub unowned : length o.unowned ≤ suc n
 
 abbrev pub AreBare : ℕ → List Object → Type 0
 AreBare n [] = ⊤
@@ -59,7 +61,7 @@ gains_few x y xs = go (is_in x xs)
 -- ---- objects
 
 more_bare : (n m : ℕ) (o : Object) → n ≤ m → IsBare n o → IsBare m o
-more_bare n m o le b = record { entry = b.entry; strong = (let s = b.strong in omega arith) }
+more_bare n m o le b = record { entry = b.entry; strong = (let s = b.strong in omega arith); unowned = (let u = b.unowned in omega arith) }
 
 all_more : (n m : ℕ) (os : List Object) → n ≤ m → AreBare n os → AreBare m os
 all_more n m [] le b = tt
@@ -79,27 +81,28 @@ end_bare n (r ∷ os) o b last = (b.0, end_bare n os o b.1 last)
 
 ended_bare : (n p : ℕ) (last : Bool) (kind : Kind) (o : Object) → IsBare n o → IsBare n (ended_if last p kind o)
 ended_bare n p false kind o b = b
-ended_bare n p true Strong o b = record { entry = b.entry; strong = b.strong }
-ended_bare n p true Unowned o b = record { entry = b.entry; strong = b.strong }
-ended_bare n p true Weak o b = record { entry = refl; strong = b.strong }
+ended_bare n p true Strong o b = record { entry = b.entry; strong = b.strong; unowned = b.unowned }
+ended_bare n p true Unowned o b = record { entry = b.entry; strong = b.strong; unowned = b.unowned }
+ended_bare n p true Weak o b = record { entry = refl; strong = b.strong; unowned = b.unowned }
 
 given_bare : (n p : ℕ) (x : Holder) (last : Bool) (o : Object) → IsBare n o → IsBare n (given_up p x last o)
 given_bare n p x last o b = go (kind_in x o)
   where
     go : (kind : Kind) → IsBare n (ended_if last p kind (with_list kind (without x) o))
-    go Strong = ended_bare n p last Strong (record o { strong = without x o.strong }) (record { entry = b.entry; strong = (let s = b.strong in let w = without_few x o.strong in omega arith) })
-    go Unowned = ended_bare n p last Unowned (record o { unowned = without x o.unowned }) (record { entry = b.entry; strong = b.strong })
-    go Weak = ended_bare n p last Weak (record o { weak = without x o.weak }) (record { entry = b.entry; strong = b.strong })
+    go Strong = ended_bare n p last Strong (record o { strong = without x o.strong }) (record { entry = b.entry; strong = (let s = b.strong in let w = without_few x o.strong in omega arith); unowned = b.unowned })
+    go Unowned = ended_bare n p last Unowned (record o { unowned = without x o.unowned }) (record { entry = b.entry; strong = b.strong; unowned = (let u = b.unowned in let w = without_few x o.unowned in omega arith) })
+    go Weak = ended_bare n p last Weak (record o { weak = without x o.weak }) (record { entry = b.entry; strong = b.strong; unowned = b.unowned })
 
 finished_bare : (n p : ℕ) (last : Bool) (o : Object) → IsBare n o → IsBare n (finished p last o)
-finished_bare n p last o b = ended_bare n p last Unowned (record o { unowned = without Strongs o.unowned; owed = None }) (record { entry = b.entry; strong = b.strong })
+finished_bare n p last o b =
+    ended_bare n p last Unowned (record o { unowned = without Strongs o.unowned; owed = None }) (record { entry = b.entry; strong = b.strong; unowned = (let u = b.unowned in let w = without_few Strongs o.unowned in omega arith) })
 
 vacated_bare : (n p : ℕ) (o : Object) → IsBare n o → IsBare n (vacated p o)
 vacated_bare n p o b = go o.entry
   where
     go : (e : Option ℕ) → IsBare n (left_slot p e (record o { slot = None; owed = None }))
-    go None = record { entry = b.entry; strong = b.strong }
-    go (Some e) = record { entry = b.entry; strong = b.strong }
+    go None = record { entry = b.entry; strong = b.strong; unowned = b.unowned }
+    go (Some e) = record { entry = b.entry; strong = b.strong; unowned = b.unowned }
 
 -- no object leaves an entry
 none_left : (n : ℕ) (x : Holder) (last : Bool) (test : Object → Bool) (os : List Object) → AreBare n os → entry_left x last (find test os) ≡ None
@@ -124,19 +127,33 @@ bare_drop n p (Some e) heap none b = absurd (None≢Some e (sym none))
 
 bare_effect : (classes n p : ℕ) (act : Act) (heap : Heap) → ActFits classes act → IsBareHeap n heap → IsBareHeap (more (brings act) n) (effect p act heap)
 bare_effect classes n p (acts.New k c s) heap fits b = record {
-  objects = end_bare (suc n) heap.objects (made p k c s heap.objects) (all_more n (suc n) heap.objects (omega arith) b.objects) (record { entry = refl; strong = omega arith });
+  objects = end_bare (suc n) heap.objects (made p k c s heap.objects) (all_more n (suc n) heap.objects (omega arith) b.objects) (record { entry = refl; strong = omega arith; unowned = omega arith });
   claims = b.claims;
 }
 bare_effect classes n p acts.Full heap fits b = b
 bare_effect classes n p (acts.Copy (origins.Hand h) k) heap fits b = record {
   objects = first_bare n (suc n) (holds (origin heap p (origins.Hand h))) (lists (gains (origin heap p (origins.Hand h)) (Hand p k))) heap.objects (omega arith)
-      (λ o bare. record { entry = bare.entry; strong = (let s = bare.strong in let g = gains_few (origin heap p (origins.Hand h)) (Hand p k) o.strong in omega arith) }) b.objects;
+      (λ o bare. record {
+        entry = bare.entry;
+        strong = (let s = bare.strong in let g = gains_few (origin heap p (origins.Hand h)) (Hand p k) o.strong in omega arith);
+        unowned = (let u = bare.unowned in let g = gains_few (origin heap p (origins.Hand h)) (Hand p k) o.unowned in omega arith);
+      }) b.objects;
   claims = b.claims;
 }
 bare_effect classes n p (acts.Copy (origins.Cell cell) k) heap fits b = absurd fits
-bare_effect classes n p (acts.UnownedOf of k) heap fits b = absurd fits
+bare_effect classes n p (acts.UnownedOf of k) heap fits b = record {
+  objects = first_bare n (suc n) (holds (Hand p of)) (with_list Unowned (with_last (Hand p k))) heap.objects (omega arith)
+      (λ o bare. record { entry = bare.entry; strong = (let s = bare.strong in omega arith); unowned = (let u = bare.unowned in let l = length-append o.unowned (Hand p k ∷ []) in omega arith) }) b.objects;
+  claims = b.claims;
+}
 bare_effect classes n p (acts.WeakOf of k) heap fits b = absurd fits
-bare_effect classes n p (acts.Load of got) heap fits b = absurd fits
+bare_effect classes n p (acts.Load of (gots.Hand k)) heap fits b = record {
+  objects = first_bare n (suc n) (holds (Hand p of)) (with_list Strong (with_last (Hand p k))) heap.objects (omega arith)
+      (λ o bare. record { entry = bare.entry; strong = (let s = bare.strong in let l = length-append o.strong (Hand p k ∷ []) in omega arith); unowned = (let u = bare.unowned in omega arith) }) b.objects;
+  claims = b.claims;
+}
+bare_effect classes n p (acts.Load of gots.Dead) heap fits b = b
+bare_effect classes n p (acts.Load of gots.Nil) heap fits b = b
 bare_effect classes n p (acts.Drop h last) heap fits b =
     bare_drop n p (entry_left (Hand p h) last (held_by (Hand p h) heap)) (change (holds (Hand p h)) (given_up p (Hand p h) last) heap) (none_left n (Hand p h) last (holds (Hand p h)) heap.objects b.objects)
     (record { objects = first_bare n n (holds (Hand p h)) (given_up p (Hand p h) last) heap.objects (omega arith) (λ o bare. given_bare n p (Hand p h) last o bare) b.objects; claims = b.claims })
@@ -152,7 +169,7 @@ bare_effect classes n p (acts.Finish s last) heap fits b = record { objects = fi
 bare_effect classes n p (acts.Vacate s) heap fits b = record { objects = first_bare n n (in_slot s) (vacated p) heap.objects (omega arith) (λ o bare. vacated_bare n p o bare) b.objects; claims = b.claims }
 bare_effect classes n p (acts.Gone e last) heap fits b = absurd fits
 
--- No object of the heap has an entry, none has more strong holders than references came, and no entry is claimed.
+-- No object of the heap has an entry, none has more strong holders than references came, nor more unowned ones besides the one that stands for these, and no entry is claimed.
 pub bare_after : (classes : ℕ) (h : History) → EventsFit classes h → IsBareHeap (came_in h) (heap_after h)
 bare_after classes [] fits = record { objects = tt; claims = refl }
 bare_after classes (e ∷ h) fits = bare_effect classes (came_in h) e.thread e.act (heap_after h) fits.0 (bare_after classes h fits.1)

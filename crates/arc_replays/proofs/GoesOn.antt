@@ -20,7 +20,9 @@ use Rattle.arc_rule.specs.declared.step.Intent.{Intent}
 use Rattle.arc_rule.specs.declared.layout.Place.{Place}
 use Rattle.arc_rule.specs.declared.layout.Place.TheVariants as places
 use Rattle.arc_ops.specs.declared.stepper.Move.TheVariants as moves
-use Rattle.arc_ops.specs.Thread.{Thread, takes, turned}
+use Rattle.arc_ops.specs.Thread.{Thread}
+use Rattle.arc_ops.specs.Turns.{turned}
+use Rattle.arc_ops.specs.Takes.{takes}
 use Rattle.arc_spelled.specs.StepperStands.{Work, IsServedWork}
 use Rattle.arc_spelled.specs.Spelled.{work_of, with_event_of}
 use Rattle.arc_view.specs.declared.view.Working.{Working}

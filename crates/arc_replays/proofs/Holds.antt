@@ -27,7 +27,10 @@ use Rattle.arc_ops.specs.Served.{IsServed}
 use Rattle.arc_ops.specs.declared.told.Stamped.{Stamped}
 use Rattle.arc_ops.specs.declared.stepper.Move.{Move}
 use Rattle.arc_ops.specs.declared.stepper.Move.TheVariants as moves
-use Rattle.arc_ops.specs.Thread.{Thread, IsStepper, stepper_of, takes, turned}
+use Rattle.arc_ops.specs.Thread.{Thread, stepper_of}
+use Rattle.arc_ops.specs.Turns.{turned}
+use Rattle.arc_ops.specs.Takes.{takes}
+use Rattle.arc_ops.specs.Steppers.{IsStepper}
 use Rattle.arc_programs.specs.Programs.{Hands}
 use Rattle.arc_spelled.specs.StepperStands.{Work}
 use Rattle.arc_spelled.specs.Spelled.{work_of, with_event_of}
@@ -134,12 +137,15 @@ module _ (script : Script) (came : Hands) (valid : IsScript script) (served : Is
         let cap = served.strong_cap in
         omega arith
 
+    few_unowned_came : suc (came_in log) < script.shape.caps.unowned
+    few_unowned_came = let few = few_came in let cap = served.strong_cap in let other = served.unowned_cap in omega arith
+
     module _ (p : ℕ) (t : Thread) (step : Step) (intent : Intent) (there : slice_get s.threads p ≡ Some t) (stepper : IsStepper t) (asked : t.asked ≡ moves.Step step intent) where
       abbrev its : (v : View) × (get_elem? h.replaying.views p ≡ some v) × Drives (work_of script p came) t v
       its = h.replaying.drives p t there
 
-      serves_it : Serves (work_of script p came) s.words h.replaying.views h.replaying.kept p its.0 its.1 its.2.pass (came_in log) bare few_came t step intent asked step intent
-      serves_it = serves (work_of script p came) s.words h.replaying.views h.replaying.kept p its.0 its.1 its.2.pass (came_in log) bare few_came t step intent asked (served-work script p came valid served) stepper its.2
+      serves_it : Serves (work_of script p came) s.words h.replaying.views h.replaying.kept p its.0 its.1 its.2.pass (came_in log) bare few_came few_unowned_came t step intent asked step intent
+      serves_it = serves (work_of script p came) s.words h.replaying.views h.replaying.kept p its.0 its.1 its.2.pass (came_in log) bare few_came few_unowned_came t step intent asked (served-work script p came valid served) stepper its.2
 
       abbrev may_turn : MayTurn script.shape (λ q. work_of script q came) s.threads s.words p t step intent
       may_turn = record { there = there; asked = asked; stepper = stepper; served = served-work script p came valid served; same_shape = refl; word = serves_it.word }

@@ -3,6 +3,7 @@ pub mod GoesOn
 pub mod Beginning
 pub mod Bare
 pub mod Came
+pub mod Words
 pub mod Serves
 pub mod Holds
 pub mod Laws

@@ -26,10 +26,11 @@ use Rattle.arc_programs_laws.specs.Phases.HasDonePhases.{some as done_some, all 
 use Rattle.arc_ops.specs.Served.{IsServed}
 use Rattle.arc_ops.specs.Programs.{declared_of, phases_in, phases_of, program_of, vars_of, count_of_vars, ops_in_first}
 use Rattle.arc_ops.specs.declared.stepper.Doing.{Doing}
-use Rattle.arc_ops.specs.declared.stepper.Doing.TheVariants.{Ready, Making, Copying, Dropping, Dying, Ended}
+use Rattle.arc_ops.specs.declared.stepper.Doing.TheVariants.{Ready, Making, Gaining, Naming, Dropping, Dying, Vacating, Ended}
 use Rattle.arc_ops.specs.declared.stepper.Move.{Move}
 use Rattle.arc_ops.specs.declared.stepper.Move.TheVariants as moves
-use Rattle.arc_ops.specs.Thread.{Thread, stepper_of, turned}
+use Rattle.arc_ops.specs.Thread.{Thread, stepper_of}
+use Rattle.arc_ops.specs.Turns.{turned}
 use Rattle.arc_spelled.specs.StepperStands.{Asks, variables}
 use Rattle.arc_spelled.specs.Spelled.{work_of, with_event_of}
 use Rattle.arc_spelled.proofs.SteppersSpell.{ready_steppers_have_done}
@@ -80,9 +81,11 @@ begun_there (first ∷ others) (suc i) u other at = in_map others i at
 ready_at_end : (d : Doing) → Asks d moves.PhaseEnd → d ≡ Ready
 ready_at_end Ready a = refl
 ready_at_end (Making to name plan) a = absurd a
-ready_at_end (Copying to held plan) a = absurd a
+ready_at_end (Gaining gain to from plan) a = absurd a
+ready_at_end (Naming to held plan) a = absurd a
 ready_at_end (Dropping held plan) a = absurd a
 ready_at_end (Dying c) a = absurd a
+ready_at_end (Vacating slot plan) a = absurd a
 ready_at_end Ended a = absurd (cc)
 
 -- behind a turn in the phase that was begun last

@@ -1,20 +1,20 @@
 -- The word that a step finds is served, and the event that it has is one of the operations that are served.
-use Rattle.std.proofs.Common.{◌≡◌, inl, inr, ℕ, ◌<◌, ◌-◌, ◌/◌, ◌==◌, Bool, true, false, cond, List, [], ◌++◌, length, Option, Some, None, refl, sym, ap, ◌∙◌, subst, arith}
+use Rattle.std.proofs.Common.{◌≡◌, inl, inr, ℕ, suc, ◌<◌, ◌/◌, ◌==◌, Bool, true, false, cond, List, [], ◌++◌, length, Option, Some, None, refl, sym, ap, ◌∙◌, subst, arith}
 use Rattle.std.specs.Prelude.{slice_get, bit_and}
 use Rattle.std.proofs.lemmas.Option.{slice_get_within, get_or_from_slice_get}
-use Rattle.arc_bits.specs.declared.packing.Inline.{Inline}
 use Rattle.arc_bits.specs.Words.{unpacked}
 use Rattle.arc_model.specs.declared.event.Act.{Act}
 use Rattle.arc_model.specs.declared.event.Act.TheVariants as acts
 use Rattle.arc_model.specs.declared.event.ObjectName.{ObjectName}
 use Rattle.arc_model.specs.declared.event.Origin.TheVariants as origins
-use Rattle.arc_model.specs.declared.shape.Kind.TheVariants.{Strong}
+use Rattle.arc_model.specs.declared.event.Got.TheVariants as gots
+use Rattle.arc_model.specs.declared.shape.Kind.{Kind}
+use Rattle.arc_model.specs.declared.shape.Kind.TheVariants.{Strong, Unowned, Weak}
 use Rattle.arc_model.specs.Shapes.{HeapShape, class_at}
 use Rattle.arc_model.specs.Heaps.{Hand, Duty, Deinit, Vacating, Object}
 use Rattle.arc_model.specs.History.{History, heap_after, next_hand, share, IsLegal}
-use Rattle.arc_model.specs.Lookup.{spot, duty_of}
-use Rattle.arc_model.proofs.Basics.{None≢Some}
-use Rattle.arc_model.proofs.Others.{others_leave}
+use Rattle.arc_model.specs.Lookup.{spot}
+use Rattle.arc_model.proofs.Courses.{well_formed}
 use Rattle.arc_rule.specs.Extents.{Extent}
 use Rattle.arc_rule.specs.Places.{extent_of, number, place_at}
 use Rattle.arc_rule.specs.Shown.{Says, ShowsCounts, word_at}
@@ -28,8 +28,8 @@ use Rattle.arc_rule.specs.declared.step.Intent.TheVariants as intents
 use Rattle.arc_rule.proofs.Places.{place_at-number}
 use Rattle.arc_plan.specs.Slots.{looking, taking, counting, naming}
 use Rattle.arc_rule.specs.Bits.{words_of, bit_of, but_bit_of}
-use Rattle.arc_plan.specs.declared.attempt.At.{At as AttemptAt}
-use Rattle.arc_plan.specs.declared.attempt.At.TheVariants as attempt
+use Rattle.arc_rule.specs.declared.attempt.At.{At as AttemptAt}
+use Rattle.arc_rule.specs.declared.attempt.At.TheVariants as attempt
 use Rattle.arc_plan.specs.declared.slots.Making.{Making as Search}
 use Rattle.arc_plan.specs.declared.slots.Making.TheVariants as search
 use Rattle.arc_plan.specs.declared.slots.Once.{Once}
@@ -37,6 +37,7 @@ use Rattle.arc_plan.specs.declared.slots.Once.TheVariants as once
 use Rattle.arc_cells.specs.declared.cascade.At.{At as CascadeAt}
 use Rattle.arc_cells.specs.declared.cascade.At.TheVariants as ats
 use Rattle.arc_cells.specs.Cascades.{IsInline}
+use Rattle.arc_side.specs.Inline.{IsCountedInline}
 use Rattle.arc_script.specs.declared.script.Op.{Op}
 use Rattle.arc_script.specs.declared.script.Op.TheVariants as op
 use Rattle.arc_ops.specs.Programs.{ClassFits}
@@ -45,7 +46,11 @@ use Rattle.arc_ops.specs.declared.stepper.Doing.{Doing}
 use Rattle.arc_ops.specs.declared.stepper.Doing.TheVariants as doings
 use Rattle.arc_ops.specs.declared.stepper.Move.{Move}
 use Rattle.arc_ops.specs.declared.stepper.Move.TheVariants as moves
-use Rattle.arc_ops.specs.Thread.{Thread, IsStepper, IsMakingIn, IsUpWord}
+use Rattle.arc_ops.specs.declared.gain.Gain.{Gain}
+use Rattle.arc_ops.specs.declared.gain.Gain.TheVariants as gains
+use Rattle.arc_ops.specs.Thread.{Thread}
+use Rattle.arc_ops.specs.Plans.{intent_of}
+use Rattle.arc_ops.specs.Steppers.{IsStepper, IsMakingIn}
 use Rattle.arc_spelled.specs.StepperStands.{Work, IsServedWork, MakesUpTo}
 use Rattle.arc_view.specs.declared.view.Role.TheVariants.{Pass}
 use Rattle.arc_view.specs.declared.view.View.{View}
@@ -55,27 +60,23 @@ use Rattle.arc_view.specs.Holding.{At}
 use Rattle.arc_view.proofs.Bridge.{unsettled}
 use mathlib.Core.Option.{some}
 use lib.ListN.{get_elem?}
-use Rattle.arc_view.specs.Kinds.{act_of, first_of, is_fruitless, loaded_act, or_act, and_act, stored_act, when}
+use Rattle.arc_view.specs.Kinds.{act_of, first_of, is_forever, is_fruitless, shows_end, kind_at, load_shown, loaded_act, hit_act, or_act, and_act, stored_act, when}
 use Rattle.arc_view.specs.Rule.{InShape, IsKept, IsWithin, Fits}
-use Rattle.arc_view.proofs.Counting.{Counted, inline_counts}
-use Rattle.arc_view.proofs.Held.{Held as HeldLater, held_stays, strong≢weak}
+use Rattle.arc_view.proofs.Held.{Held as HeldLater, held_stays}
 use Rattle.arc_view.proofs.Lists.{others_came}
 use Rattle.arc_view.proofs.Owed.{OwedLater, owed_stays}
 use Rattle.arc_view.proofs.Strongs.{slot_found}
 use Rattle.arc_view.proofs.Within.{each_at}
-use Rattle.arc_view_laws.proofs.StrongWords.{ShowsStrong, shows_strong}
-use Rattle.arc_view_laws.proofs.StrongWords.ShowsStrong.{counts as strong_counts, slow as strong_slow, forever as strong_forever}
-use Rattle.arc_view_laws.proofs.DyingWords.{ShowsDying, shows_dying}
-use Rattle.arc_view_laws.proofs.DyingWords.ShowsDying.{counts as dying_counts, slow as dying_slow}
 use Rattle.arc_ops_passes.specs.References.{is_ref, Leads}
-use Rattle.arc_ops_passes.specs.Drives.{SearchAsks, AttemptAsks, VacateAsks, CascadeAsks, OwesOne, DutyAt, cascade_works, Drives}
-use Rattle.arc_ops_passes.specs.Laws.{IsServedWord}
+use Rattle.arc_ops_passes.specs.Drives.{SearchAsks, AttemptAsks, VacateAsks, NameAsks, CascadeAsks, OwesOne, DutyAt, cascade_works, Drives}
+use Rattle.arc_ops_passes.specs.Laws.{IsBelowCaps, IsServedWord}
 use Rattle.arc_ops_passes.proofs.Goes.{Facts, facts, asked_is}
 use Rattle.arc_ops_passes.proofs.Owned.{ref-itself}
 use Rattle.arc_ops_passes.proofs.Walks.{vars-least}
 use Rattle.arc_replays.specs.Named.{EventFits}
 use Rattle.arc_replays.specs.Replaying.{table}
 use Rattle.arc_replays.proofs.Bare.{IsBareHeap, bare_at}
+use Rattle.arc_replays.proofs.Words.{below_inline, bare_word}
 
 -- ---- the events
 
@@ -84,9 +85,9 @@ when_full n true = tt
 when_full n false = tt
 
 -- a word that tells of an immortal object, and one that doesn't
-told_first : (n : ℕ) (b : Bool) (a : Act) → EventFits n (Some a) → EventFits n (first_of b a None)
-told_first n true a fits = fits
-told_first n false a fits = tt
+told_first : (n : ℕ) (b : Bool) (a : Act) (more : Option Act) → EventFits n (Some a) → EventFits n more → EventFits n (first_of b a more)
+told_first n true a more fits others = fits
+told_first n false a more fits others = others
 
 told_when : (n : ℕ) (b : Bool) (a : Act) → EventFits n (Some a) → EventFits n (when b a)
 told_when n true a fits = fits
@@ -98,7 +99,12 @@ exchanged n false hit missed a b = b
 
 -- ---- the words
 
-module _ (w : Work) (words : List ℕ) (views : List View) (k : IsKept w.shape (table words views)) (i : ℕ) (v : View) (there : get_elem? views i ≡ some v) (pass : v.role ≡ Pass) (n : ℕ) (bare : IsBareHeap n (heap_after k.log)) (few : n < w.shape.caps.strong) where
+counted≢weak : (kind : Kind) → IsCountedInline kind → kind ≡ Weak → ⊥
+counted≢weak Strong counted e = cc
+counted≢weak Unowned counted e = cc
+counted≢weak Weak counted e = absurd counted
+
+module _ (w : Work) (words : List ℕ) (views : List View) (k : IsKept w.shape (table words views)) (i : ℕ) (v : View) (there : get_elem? views i ≡ some v) (pass : v.role ≡ Pass) (n : ℕ) (bare : IsBareHeap n (heap_after k.log)) (few : n < w.shape.caps.strong) (few_unowned : suc n < w.shape.caps.unowned) where
   abbrev fit : Fits w.shape k.log k.splits k.taken v
   fit = k.fits i v there
 
@@ -125,41 +131,23 @@ module _ (w : Work) (words : List ℕ) (views : List View) (k : IsKept w.shape (
   says s lt free known =
       subst (λ (h : History). Says w.shape (heap_after h) (Count s) (word_at w.shape words (Count s))) fit.begins.1 (k.words.says (Count s) lt (λ x. unsettled w.shape (table words views) k i v there pass free (Count s) (inl known) x))
 
-  -- of an object of which the pass has a strong hand
-  record IsLed (s : ℕ) : Type 0 where
-    up : IsUpWord w.shape.caps.strong (unpacked (word_at w.shape words (Count s)))
-    inline : IsInline (unpacked (word_at w.shape words (Count s)))
+  -- of an object in a slot
+  word_of : (s j : ℕ) (q : Object) → At (heap_after now) j q → q.slot ≡ Some s → Says w.shape (heap_after now) (Count s) (word_at w.shape words (Count s)) → IsBelowCaps w.shape.caps (unpacked (word_at w.shape words (Count s)))
+  word_of s j q here slot word_says =
+      bare_word w.shape n (word_at w.shape words (Count s)) q k.sized ((well_formed w.shape now legal).whole j q here) (bare_at n (heap_after now).objects j q bare_now.objects here) few few_unowned
+      (subst (λ m. ShowsCounts w.shape m (word_at w.shape words (Count s))) (slot_found w.shape now j s q legal here slot) word_says)
 
-  led_word : (held : Held) → held.place < w.shape.slots → v.working.owes ≡ None → Leads v held → IsLed held.place
-  led_word held lt free (j, o, hand, here, slot) =
-      let later : HeldLater Strong j o (heap_after now) = held_stays w.shape v.number held.hand j Strong o v.seen rest legal others hand here in
-      let spot_now : spot (Hand v.number held.hand) (heap_after now) ≡ Some (record { place = j; kind = Strong }) = (others_leave w.shape v.number v.seen rest legal others).hands held.hand ∙ hand in
-      let slot_now = later.slot strong≢weak ∙ slot in
-      by later.q later.here slot_now (shows_strong w.shape now v.number held.hand j held.place (word_at w.shape words (Count held.place)) later.q k.sized legal in_shape spot_now later.here slot_now word_says)
-    where
-      word_says : Says w.shape (heap_after now) (Count held.place) (word_at w.shape words (Count held.place))
-      word_says = says held.place lt free (j, o, here, slot, inl (held.hand, Strong, hand, strong≢weak))
-
-      by : (q : Object) → At (heap_after now) j q → q.slot ≡ Some held.place → ShowsStrong w.shape q (word_at w.shape words (Count held.place)) → IsLed held.place
-      by q here_now slot_now (strong_forever one is immortal) = record { up = subst (IsUpWord w.shape.caps.strong) (sym is) tt; inline = subst IsInline (sym is) tt }
-      by q here_now slot_now (strong_slow e is entry below) = absurd (None≢Some e (sym (bare_at n (heap_after now).objects j q bare_now.objects here_now).entry ∙ entry))
-      by q here_now slot_now (strong_counts c is word lives most unowned none) =
-          let shown : ShowsCounts w.shape (Some q) (word_at w.shape words (Count held.place)) = subst (λ m. ShowsCounts w.shape m (word_at w.shape words (Count held.place))) (slot_found w.shape now j held.place q legal here_now slot_now) word_says in
-          let same : Counted w.shape q c = inline_counts w.shape q c (word_at w.shape words (Count held.place)) k.sized shown word in
-          let extra : length q.strong - 1 ≡ c.strong_extra = ap (λ (x : Inline). x.strong_extra) same.counts in
-          let some = (bare_at n (heap_after now).objects j q bare_now.objects here_now).strong in
-          record { up = subst (IsUpWord w.shape.caps.strong) (sym is) (lives, omega arith); inline = subst IsInline (sym is) tt }
+  -- of an object to which the pass has a reference
+  led_word : (held : Held) → held.place < w.shape.slots → v.working.owes ≡ None → Leads v held → IsBelowCaps w.shape.caps (unpacked (word_at w.shape words (Count held.place)))
+  led_word held lt free (counted, j, o, hand, here, slot) =
+      let later : HeldLater held.kind j o (heap_after now) = held_stays w.shape v.number held.hand j held.kind o v.seen rest legal others hand here in
+      word_of held.place j later.q later.here (later.slot (counted≢weak held.kind counted) ∙ slot) (says held.place lt free (j, o, here, slot, inl (held.hand, held.kind, hand, counted≢weak held.kind counted)))
 
   -- of an object to which it owes the deinit
   owed_word : (s : ℕ) → s < w.shape.slots → v.working.owes ≡ None → OwesOne v Deinit s → IsInline (unpacked (word_at w.shape words (Count s)))
   owed_word s lt free owes =
       let later : OwedLater owes.place owes.object now = owed_stays w.shape v.number owes.place Deinit owes.object v.seen rest legal others owes.here owes.owes in
-      let duty_now : duty_of v.number owes.place (heap_after now) ≡ Some Deinit = (others_leave w.shape v.number v.seen rest legal others).duties owes.place ∙ owes.owes in
-      by later.q later.here (shows_dying w.shape now v.number owes.place s (word_at w.shape words (Count s)) later.q k.sized legal in_shape later.here duty_now (later.slot ∙ owes.slot) (says s lt free (owes.place, owes.object, owes.here, owes.slot, inr (inl (Deinit, owes.owes)))))
-    where
-      by : (q : Object) → At (heap_after now) owes.place q → ShowsDying w.shape q (word_at w.shape words (Count s)) → IsInline (unpacked (word_at w.shape words (Count s)))
-      by q here_now (dying_slow e is entry below) = absurd (None≢Some e (sym (bare_at n (heap_after now).objects owes.place q bare_now.objects here_now).entry ∙ entry))
-      by q here_now (dying_counts c is word ends unowned none) = subst IsInline (sym is) tt
+      below_inline w.shape.caps _ (word_of s owes.place later.q later.here (later.slot ∙ owes.slot) (says s lt free (owes.place, owes.object, owes.here, owes.slot, inr (inl (Deinit, owes.owes)))))
 
   -- ---- the step that the stepper asks for
 
@@ -207,23 +195,56 @@ module _ (w : Work) (words : List ℕ) (views : List View) (k : IsKept w.shape (
     })
     making name search.Ended inside x fits = absurd x
 
-    copying : (held : Held) (a : AttemptAt) → held.place < w.shape.slots → v.working.owes ≡ None → Leads v held → AttemptAsks w.shape t.asked held.place (intents.Copy (origins.Hand held.hand)) a → Serves step intent
-    copying held attempt.Start lt free leads x = absurd x
-    copying held attempt.Loading lt free leads x = as_asked (Load (number (extent_of w.shape) (Count held.place))) (intents.Copy (origins.Hand held.hand)) x (record {
-      word = (led_word held lt free leads).up;
-      event = subst (EventFits (length w.shape.classes)) (sym (ap (λ (q : Place). loaded_act w.shape v q (word_at w.shape words (Count held.place)) (intents.Copy (origins.Hand held.hand))) (place_at-number (extent_of w.shape) (Count held.place) lt)))
-          (told_first (length w.shape.classes) _ (acts.Copy (origins.Hand held.hand) (next_hand v.number v.seen)) tt);
+    -- what a load of the inline word shows where a strong reference is loaded of this kind
+    load_fits : (kind : Kind) (o : Option Object) (s found of next : ℕ) → EventFits (length w.shape.classes) (load_shown w.shape kind o (Count s) found of next)
+    load_fits Strong o s found of next = tt
+    load_fits Unowned o s found of next =
+        told_first (length w.shape.classes) (is_forever Strong o (Count s) found) (acts.Load of (gots.Hand next)) (first_of (shows_end o (Count s) found) (acts.Load of gots.Dead) None) tt
+        (told_first (length w.shape.classes) (shows_end o (Count s) found) (acts.Load of gots.Dead) None tt tt)
+    load_fits Weak o s found of next = told_first (length w.shape.classes) (shows_end o (Count s) found) (acts.Load of gots.Nil) None tt tt
+
+    gain_shows : (gain : Gain) (from : Held) (s found : ℕ) → EventFits (length w.shape.classes) (loaded_act w.shape v (Count s) found (intent_of gain from))
+    gain_shows gains.Copy from s found = told_first (length w.shape.classes) _ (acts.Copy (origins.Hand from.hand) (next_hand v.number v.seen)) None tt tt
+    gain_shows gains.Unown from s found = told_first (length w.shape.classes) _ (acts.UnownedOf from.hand (next_hand v.number v.seen)) None tt tt
+    gain_shows gains.Load from s found = load_fits (kind_at (spot (Hand v.number from.hand) (heap_after v.seen))) _ s found from.hand (next_hand v.number v.seen)
+
+    gain_word : (gain : Gain) (from : Held) (s found : ℕ) → IsBelowCaps w.shape.caps (unpacked found) → IsServedWord w.shape (Load s) (intent_of gain from) found
+    gain_word gains.Copy from s found below = below
+    gain_word gains.Unown from s found below = below
+    gain_word gains.Load from s found below = below
+
+    gain_made : (gain : Gain) (from : Held) (pl : Place) (seen new : ℕ) → EventFits (length w.shape.classes) (hit_act v pl seen new (intent_of gain from))
+    gain_made gains.Copy from pl seen new = tt
+    gain_made gains.Unown from pl seen new = tt
+    gain_made gains.Load from pl seen new = tt
+
+    exchange_word : (gain : Gain) (from : Held) (s seen new found : ℕ) → IsServedWord w.shape (Exchange s seen new) (intent_of gain from) found
+    exchange_word gains.Copy from s seen new found = tt
+    exchange_word gains.Unown from s seen new found = tt
+    exchange_word gains.Load from s seen new found = tt
+
+    gaining : (gain : Gain) (from : Held) (a : AttemptAt) → from.place < w.shape.slots → v.working.owes ≡ None → Leads v from → AttemptAsks w.shape t.asked from.place (intent_of gain from) a → Serves step intent
+    gaining gain from attempt.Start lt free leads x = absurd x
+    gaining gain from attempt.Loading lt free leads x = as_asked (Load (number (extent_of w.shape) (Count from.place))) (intent_of gain from) x (record {
+      word = gain_word gain from (number (extent_of w.shape) (Count from.place)) (word_at w.shape words (Count from.place)) (led_word from lt free leads);
+      event = subst (EventFits (length w.shape.classes)) (sym (ap (λ (q : Place). loaded_act w.shape v q (word_at w.shape words (Count from.place)) (intent_of gain from)) (place_at-number (extent_of w.shape) (Count from.place) lt)))
+          (gain_shows gain from from.place (word_at w.shape words (Count from.place)));
     })
-    copying held (attempt.Exchanging seen new) lt free leads x = as_asked (Exchange (number (extent_of w.shape) (Count held.place)) seen new) (intents.Copy (origins.Hand held.hand)) x (record {
-      word = tt;
-      event = exchanged (length w.shape.classes) (word_at w.shape words (Count held.place) == seen) _ _ tt tt;
+    gaining gain from (attempt.Exchanging seen new) lt free leads x = as_asked (Exchange (number (extent_of w.shape) (Count from.place)) seen new) (intent_of gain from) x (record {
+      word = exchange_word gain from (number (extent_of w.shape) (Count from.place)) seen new (word_at w.shape words (Count from.place));
+      event = exchanged (length w.shape.classes) (word_at w.shape words (Count from.place) == seen) _ _ (gain_made gain from _ seen new) tt;
     })
-    copying held attempt.Ended lt free leads x = absurd x
+    gaining gain from attempt.Ended lt free leads x = absurd x
+
+    reading : (s : ℕ) (a : Once) → NameAsks w.shape t.asked s a → Serves step intent
+    reading s once.Start x = absurd x
+    reading s once.Asked x = as_asked (Load (number (extent_of w.shape) (Isa s))) intents.Look x (record { word = tt; event = tt })
+    reading s once.Ended x = absurd x
 
     dropping : (held : Held) (a : AttemptAt) → held.place < w.shape.slots → v.working.owes ≡ None → Leads v held → AttemptAsks w.shape t.asked held.place (intents.Drop held.hand) a → Serves step intent
     dropping held attempt.Start lt free leads x = absurd x
     dropping held attempt.Loading lt free leads x = as_asked (Load (number (extent_of w.shape) (Count held.place))) (intents.Drop held.hand) x (record {
-      word = (led_word held lt free leads).inline;
+      word = below_inline w.shape.caps _ (led_word held lt free leads);
       event = subst (EventFits (length w.shape.classes)) (sym (ap (λ (q : Place). loaded_act w.shape v q (word_at w.shape words (Count held.place)) (intents.Drop held.hand)) (place_at-number (extent_of w.shape) (Count held.place) lt)))
           (told_when (length w.shape.classes) _ (acts.Drop held.hand false) tt);
     })
@@ -275,35 +296,34 @@ module _ (w : Work) (words : List ℕ) (views : List View) (k : IsKept w.shape (
     dying s ats.Ended lt works duty x = absurd x
 
     -- an object that the pass owes something is in a slot of the shape
-    duty_within : (s : ℕ) (a : CascadeAt) → InShape w.shape v.seen → DutyAt v s a → s < w.shape.slots
-    duty_within s a within duty = by a duty
-      where
-        its : (d : Duty) → OwesOne v d s → s < w.shape.slots
-        its d o = (each_at (IsWithin w.shape) (heap_after v.seen).objects o.place o.object within.within o.here).0 s o.slot
+    owed_within : (s : ℕ) (d : Duty) → InShape w.shape v.seen → OwesOne v d s → s < w.shape.slots
+    owed_within s d within o = (each_at (IsWithin w.shape) (heap_after v.seen).objects o.place o.object within.within o.here).0 s o.slot
 
-        by : (a : CascadeAt) → DutyAt v s a → s < w.shape.slots
-        by (ats.Vacating p) o = its Vacating o
-        by ats.Start o = its Deinit o
-        by ats.Entering o = its Deinit o
-        by ats.Naming o = its Deinit o
-        by (ats.Named name) o = its Deinit o
-        by ats.Leaving o = its Deinit o
-        by (ats.Finishing p) o = its Deinit o
-        by ats.Ended o = its Deinit o
+    duty_within : (s : ℕ) (a : CascadeAt) → InShape w.shape v.seen → DutyAt v s a → s < w.shape.slots
+    duty_within s (ats.Vacating p) within o = owed_within s Vacating within o
+    duty_within s ats.Start within o = owed_within s Deinit within o
+    duty_within s ats.Entering within o = owed_within s Deinit within o
+    duty_within s ats.Naming within o = owed_within s Deinit within o
+    duty_within s (ats.Named name) within o = owed_within s Deinit within o
+    duty_within s ats.Leaving within o = owed_within s Deinit within o
+    duty_within s (ats.Finishing p) within o = owed_within s Deinit within o
+    duty_within s ats.Ended within o = owed_within s Deinit within o
 
     serves_at : (d : Doing) → Facts w t v d → Serves step intent
     serves_at doings.Ready f = no_step moves.PhaseEnd f.asks (λ e. cc)
     serves_at (doings.Making to name plan) f = making name plan.at (subst (λ (l : Extent). IsMakingIn l plan.at) f.is_for.0 f.fits.3) f.asks.1 (λ s seen is.
         let up : MakesUpTo w t.index to name t.vars f.notes (search.Taking s seen) = subst (λ (a : Search). MakesUpTo w t.index to name t.vars f.notes a) is f.up_to in
         class_fits f.stepper f.is_for.1 f.program to name.class t.index up.begun.there)
-    serves_at (doings.Copying to held plan) f =
-        let lt : held.place < w.shape.slots = subst (λ (e : Extent). held.place < e.slots) f.is_for.0 f.fits.1 in
-        let leads : Leads v held = f.owns.leads held (let least = vars-least (is_ref held) t.vars f.up_to.from held f.up_to.source in let one = ref-itself held in omega arith) in
-        copying held plan.at lt (ap (λ (x : Working). x.owes) f.under_way.0.working) leads f.asks.1
+    serves_at (doings.Gaining gain to from plan) f =
+        let lt : from.place < w.shape.slots = subst (λ (e : Extent). from.place < e.slots) f.is_for.0 f.fits.1.place in
+        let leads : Leads v from = f.owns.leads from (let least = vars-least (is_ref from) t.vars f.up_to.of from f.up_to.source in let one = ref-itself from in omega arith) in
+        gaining gain from plan.at lt (ap (λ (x : Working). x.owes) f.under_way.0.working) leads f.asks.1
+    serves_at (doings.Naming to held plan) f = reading held.place plan.at f.asks.1
     serves_at (doings.Dropping held plan) f =
-        let lt : held.place < w.shape.slots = subst (λ (e : Extent). held.place < e.slots) f.is_for.0 f.fits in
+        let lt : held.place < w.shape.slots = subst (λ (e : Extent). held.place < e.slots) f.is_for.0 f.fits.place in
         let leads : Leads v held = f.owns.leads held (let one = ref-itself held in omega arith) in
         dropping held plan.at lt (ap (λ (x : Working). x.owes) f.under_way.0.working) leads f.asks.1
+    serves_at (doings.Vacating slot plan) f = vacating slot plan.at (owed_within slot Vacating f.in_shape f.under_way.1) f.asks.1
     serves_at (doings.Dying c) f = dying c.slot c.at (duty_within c.slot c.at f.in_shape f.under_way.duty) f.under_way.working f.under_way.duty f.asks.1
     serves_at doings.Ended f = no_step moves.Ended f.asks.0 (λ e. cc)
 

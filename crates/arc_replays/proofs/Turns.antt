@@ -9,28 +9,38 @@ use Rattle.arc_rule.specs.declared.plan.Next.{Next}
 use Rattle.arc_rule.specs.declared.plan.Next.TheVariants as nexts
 use Rattle.arc_plan.specs.declared.slots.NewObjectAnswer.{NewObjectAnswer}
 use Rattle.arc_plan.specs.declared.slots.NewObjectAnswer.TheVariants.{Slot, NoSlot, Again}
-use Rattle.arc_plan.specs.declared.strong.StrongUpAnswer.{StrongUpAnswer}
-use Rattle.arc_plan.specs.declared.strong.StrongUpAnswer.TheVariants as ups
-use Rattle.arc_plan.specs.declared.strong.StrongDownAnswer.{StrongDownAnswer}
-use Rattle.arc_plan.specs.declared.strong.StrongDownAnswer.TheVariants as downs
-use Rattle.arc_plan.specs.Attempts.{Attempt, CappedAttempt}
-use Rattle.arc_plan.specs.Strong.{strong_up_turned, strong_up_answer, strong_down_turned, strong_down_answer}
-use Rattle.arc_plan.specs.Slots.{Creation, slot_taken, creation_turned, creation_answer}
+use Rattle.arc_plan.specs.Slots.{Creation, OneStep, slot_taken, creation_turned, creation_answer, one_turned, name_of_answer, vacate_answer}
+use Rattle.arc_side.specs.declared.up.UpAnswer.{UpAnswer}
+use Rattle.arc_side.specs.declared.up.UpAnswer.TheVariants as ups
+use Rattle.arc_side.specs.declared.down.DownAnswer.{DownAnswer}
+use Rattle.arc_side.specs.declared.down.DownAnswer.TheVariants as downs
+use Rattle.arc_side.specs.Ups.{Rise, up_turned, up_answer}
+use Rattle.arc_side.specs.Downs.{Fall, down_turned, down_answer}
 use Rattle.arc_cells.specs.declared.cascade.CascadeNext.{CascadeNext}
 use Rattle.arc_cells.specs.declared.cascade.CascadeNext.TheVariants as says
 use Rattle.arc_cells.specs.Cascades.{CascadeState, cascade_turned, cascade_answer}
 use Rattle.arc_model.specs.declared.event.ObjectName.{ObjectName}
 use Rattle.arc_model.specs.declared.event.Act.TheVariants as acts
-use Rattle.arc_model.specs.declared.event.Origin.TheVariants as origins
+use Rattle.arc_model.specs.declared.event.Got.TheVariants as gots
+use Rattle.arc_model.specs.declared.shape.Kind.{Kind}
+use Rattle.arc_model.specs.declared.shape.Kind.TheVariants.{Strong, Unowned, Weak}
 use Rattle.arc_model.specs.declared.answer.Answer.TheVariants as answers
 use Rattle.arc_script.specs.declared.script.Op.{Op}
 use Rattle.arc_script.specs.declared.script.Op.TheVariants as op
 use Rattle.arc_ops.specs.declared.stepper.Held.{Held}
 use Rattle.arc_ops.specs.declared.stepper.Doing.{Doing}
-use Rattle.arc_ops.specs.declared.stepper.Doing.TheVariants.{Ready, Making, Copying, Dropping, Dying, Ended}
+use Rattle.arc_ops.specs.declared.stepper.Doing.TheVariants.{Ready, Making, Gaining, Naming, Dropping, Dying, Vacating, Ended}
 use Rattle.arc_ops.specs.declared.stepper.Move.{Move}
 use Rattle.arc_ops.specs.declared.stepper.Move.TheVariants as moves
-use Rattle.arc_ops.specs.Thread.{Thread, value, set_var, put, drop_begun, make_begun, make_begun_as, copy_begun, asking, came_to, skipped, begun_nil, begun_copy, moved, begun_move, begun_drop, begun_op, scope_drop, scope_at, is_held, scope_begun, phase_end, phase_over, block_goes_on, at_place, begun_at, begun, next_op, replaced_old, replaced, made_on, copied_on, dying_asks, dropped_on, dying_on, turned_at, turned}
+use Rattle.arc_ops.specs.declared.gain.Gain.{Gain}
+use Rattle.arc_ops.specs.declared.gain.Gain.TheVariants as gains
+use Rattle.arc_ops.specs.Thread.{Thread, value, set_var, put, asking, is_held}
+use Rattle.arc_ops.specs.Plans.{drop_begun, gain_begun, make_begun, make_begun_as}
+use Rattle.arc_ops.specs.Begins.{skipped, begun_nil, begun_gain, moved, begun_move, begun_drop, begun_op, scope_drop, scope_at, scope_begun, phase_end, phase_over, block_goes_on, at_place, begun_at, begun, next_op}
+use Rattle.arc_ops.specs.Drops.{replaced_old, replaced, dying_asks, last_gone, dropped_on, dying_on, vacated_on}
+use Rattle.arc_ops.specs.Gains.{gained, came_by, has_gained, gained_on, named_on}
+use Rattle.arc_ops.specs.Makes.{came_to, made_on, strong_to}
+use Rattle.arc_ops.specs.Turns.{turned_at, turned}
 
 -- Where a thread of so many phases is that was in phase n: it asks for a step in it, waits for the next one, or that was its last.
 abbrev pub IsBehind : (phases n : ℕ) → Move → Doing → (phase : ℕ) → Type 0
@@ -78,8 +88,8 @@ module _ (phases : List (List Op)) (n : ℕ) where
   make_as_after : (to : ℕ) (name : ObjectName) (t : Thread) → IsIdle phases n t → IsAfter phases n (make_begun_as to name t)
   make_as_after to name t i = (i.phases_are, i.phase_is)
 
-  copy_after : (to : ℕ) (held : Held) (t : Thread) → IsIdle phases n t → IsAfter phases n (copy_begun to held t)
-  copy_after to held t i = (i.phases_are, i.phase_is)
+  gain_after : (gain : Gain) (to : ℕ) (from : Held) (t : Thread) → IsIdle phases n t → IsAfter phases n (gain_begun gain to from t)
+  gain_after gain to from t i = (i.phases_are, i.phase_is)
 
   -- ---- the next operation
 
@@ -113,9 +123,9 @@ module _ (phases : List (List Op)) (n : ℕ) where
       nil to None = go (skipped answers.Nil t) (record { phases_are = i.phases_are; phase_is = i.phase_is; idle = i.idle })
       nil to (Some held) = drop_after held (set_var to None (put answers.Nil (record t { first = true }))) (record { phases_are = i.phases_are; phase_is = i.phase_is; idle = i.idle })
 
-      copies : (to : ℕ) (from old : Option Held) → IsAfter phases n (begun_copy to from old t rest)
-      copies to None old = nil to old
-      copies to (Some held) old = copy_after to held (record t { first = true }) firstly
+      gains_from : (gain : Gain) (to : ℕ) (from old : Option Held) → IsAfter phases n (begun_gain gain to from old t rest)
+      gains_from gain to None old = nil to old
+      gains_from gain to (Some held) old = gain_after gain to held (record t { first = true }) firstly
 
       moves_on : (to from : ℕ) (held old : Option Held) → IsAfter phases n (begun_move to from held old t rest)
       moves_on to from None old = nil to old
@@ -136,12 +146,12 @@ module _ (phases : List (List Op)) (n : ℕ) where
 
       by : (o : Op) → IsAfter phases n (begun_op o t rest)
       by (op.New to class) = make_after to class (record t { first = true }) firstly
-      by (op.Copy to from) = copies to (value t.vars from) (value t.vars to)
+      by (op.Copy to from) = gains_from gains.Copy to (value t.vars from) (value t.vars to)
       by (op.Move to from) = moves_on to from (value t.vars from) (value t.vars to)
       by (op.Drop v) = drops v (value t.vars v)
-      by (op.Unown to of) = skips
+      by (op.Unown to of) = gains_from gains.Unown to (value t.vars of) (value t.vars to)
       by (op.Weak to of) = skips
-      by (op.Load to of) = skips
+      by (op.Load to of) = gains_from gains.Load to (value t.vars of) (value t.vars to)
       by (op.Get to cell) = skips
       by (op.Set cell from) = skips
       by (op.IfNil v to) = goes_by (block_goes_on t.vars t.index (op.IfNil v to))
@@ -167,15 +177,15 @@ module _ (phases : List (List Op)) (n : ℕ) where
 
   -- ---- the steps of an operation
 
-  replaced_after : (to : ℕ) (held : Held) (t : Thread) → IsIdle phases n t → IsAfter phases n (replaced to held t)
-  replaced_after to held t i = go (value t.vars to)
+  replaced_after : (to : ℕ) (new : Option Held) (t : Thread) → IsIdle phases n t → IsAfter phases n (replaced to new t)
+  replaced_after to new t i = go (value t.vars to)
     where
-      set : IsIdle phases n (set_var to (Some held) t)
+      set : IsIdle phases n (set_var to new t)
       set = record { phases_are = i.phases_are; phase_is = i.phase_is; idle = i.idle }
 
-      go : (m : Option Held) → IsAfter phases n (replaced_old m (set_var to (Some held) t))
-      go None = next_after (set_var to (Some held) t) set
-      go (Some old) = drop_after old (set_var to (Some held) t) set
+      go : (m : Option Held) → IsAfter phases n (replaced_old m (set_var to new t))
+      go None = next_after (set_var to new t) set
+      go (Some old) = drop_after old (set_var to new t) set
 
   made_after : (to : ℕ) (name : ObjectName) (plan : Creation) (next : Next NewObjectAnswer) (t : Thread) → IsIdle phases n t → IsAfter phases n (made_on to name plan next t)
   made_after to name plan (nexts.Step s) t i = go (slot_taken plan.at)
@@ -183,29 +193,46 @@ module _ (phases : List (List Op)) (n : ℕ) where
       go : (m : Option ℕ) → IsAfter phases n (asking (Making to name plan) s (intents.New name.class) (came_to name m t))
       go None = (i.phases_are, i.phase_is)
       go (Some slot) = (i.phases_are, i.phase_is)
-  made_after to name plan (nexts.Done (Slot place)) t i = replaced_after to (record { hand = t.hands; place = place }) (put (answers.New name) t) (record { phases_are = i.phases_are; phase_is = i.phase_is; idle = i.idle })
+  made_after to name plan (nexts.Done (Slot place)) t i = replaced_after to (Some (strong_to t.hands place)) (put (answers.New name) t) (record { phases_are = i.phases_are; phase_is = i.phase_is; idle = i.idle })
   made_after to name plan (nexts.Done NoSlot) t i = next_after (put answers.Full (record t { event = Some acts.Full })) (record { phases_are = i.phases_are; phase_is = i.phase_is; idle = i.idle })
   made_after to name plan (nexts.Done (Again changed)) t i = make_as_after to name t i
 
-  copied_after : (to : ℕ) (held : Held) (plan : CappedAttempt) (next : Next StrongUpAnswer) (t : Thread) → IsIdle phases n t → HasAsked t → IsAfter phases n (copied_on to held plan next t)
-  copied_after to held plan (nexts.Step s) t i asked = (i.phases_are, i.phase_is)
-  copied_after to held plan (nexts.Done ups.Up) t i asked = replaced_after to (record { hand = t.hands + 1; place = held.place }) (put answers.Ok (record t { hands = t.hands + 1; event = Some (acts.Copy (origins.Hand held.hand) (t.hands + 1)) })) (record { phases_are = i.phases_are; phase_is = i.phase_is; idle = i.idle })
-  copied_after to held plan (nexts.Done (ups.Again changed)) t i asked = copy_after to held t i
-  copied_after to held plan (nexts.Done ups.Dead) t i asked = asked_stays t i asked
-  copied_after to held plan (nexts.Done ups.AtCap) t i asked = asked_stays t i asked
-  copied_after to held plan (nexts.Done (ups.Slow e)) t i asked = asked_stays t i asked
+  gained_after : (gain : Gain) (to : ℕ) (held : Held) (t : Thread) → IsIdle phases n t → IsAfter phases n (has_gained gain to held t)
+  gained_after gains.Copy to held t i = replaced_after to (Some held) (put answers.Ok t) (record { phases_are = i.phases_are; phase_is = i.phase_is; idle = i.idle })
+  gained_after gains.Unown to held t i = replaced_after to (Some held) (put answers.Ok t) (record { phases_are = i.phases_are; phase_is = i.phase_is; idle = i.idle })
+  gained_after gains.Load to held t i = (i.phases_are, i.phase_is)
+
+  rise_after : (gain : Gain) (to : ℕ) (from : Held) (plan : Rise) (next : Next UpAnswer) (t : Thread) → IsIdle phases n t → HasAsked t → IsAfter phases n (gained_on gain to from plan next t)
+  rise_after gain to from plan (nexts.Step s) t i asked = (i.phases_are, i.phase_is)
+  rise_after gain to from plan (nexts.Done ups.Up) t i asked = gained_after gain to (gained gain from t) (came_by gain from t) (record { phases_are = i.phases_are; phase_is = i.phase_is; idle = i.idle })
+  rise_after gain to from plan (nexts.Done ups.Dead) t i asked = replaced_after to None (put answers.Dead (record t { event = Some (acts.Load from.hand gots.Dead) })) (record { phases_are = i.phases_are; phase_is = i.phase_is; idle = i.idle })
+  rise_after gain to from plan (nexts.Done (ups.Again changed)) t i asked = gain_after gain to from t i
+  rise_after gain to from plan (nexts.Done ups.AtCap) t i asked = asked_stays t i asked
+  rise_after gain to from plan (nexts.Done ups.CountFull) t i asked = asked_stays t i asked
+
+  named_after : (to : ℕ) (held : Held) (plan : OneStep) (next : Next ObjectName) (t : Thread) → IsIdle phases n t → IsAfter phases n (named_on to held plan next t)
+  named_after to held plan (nexts.Step s) t i = (i.phases_are, i.phase_is)
+  named_after to held plan (nexts.Done name) t i = replaced_after to (Some held) (put (answers.Got name) t) (record { phases_are = i.phases_are; phase_is = i.phase_is; idle = i.idle })
 
   asks_after : (c : CascadeState) (next : CascadeNext) (t : Thread) → IsIdle phases n t → HasAsked t → IsAfter phases n (dying_asks c next t)
   asks_after c (says.Step s intent) t i asked = (i.phases_are, i.phase_is)
   asks_after c (says.Died name) t i asked = asked_stays t i asked
   asks_after c says.Done t i asked = asked_stays t i asked
 
-  dropped_after : (held : Held) (plan : Attempt) (next : Next StrongDownAnswer) (t : Thread) → IsIdle phases n t → HasAsked t → IsAfter phases n (dropped_on held plan next t)
+  last_after : (kind : Kind) (slot : ℕ) (t : Thread) → IsIdle phases n t → HasAsked t → IsAfter phases n (last_gone kind slot t)
+  last_after Strong slot t i asked = (i.phases_are, i.phase_is)
+  last_after Unowned slot t i asked = (i.phases_are, i.phase_is)
+  last_after Weak slot t i asked = asked_stays t i asked
+
+  dropped_after : (held : Held) (plan : Fall) (next : Next DownAnswer) (t : Thread) → IsIdle phases n t → HasAsked t → IsAfter phases n (dropped_on held plan next t)
   dropped_after held plan (nexts.Step s) t i asked = (i.phases_are, i.phase_is)
-  dropped_after held plan (nexts.Done downs.More) t i asked = next_after (record t { event = Some (acts.Drop held.hand false) }) (record { phases_are = i.phases_are; phase_is = i.phase_is; idle = i.idle })
-  dropped_after held plan (nexts.Done downs.Last) t i asked = (i.phases_are, i.phase_is)
+  dropped_after held plan (nexts.Done (downs.More e)) t i asked = next_after (record t { event = Some (acts.Drop held.hand false) }) (record { phases_are = i.phases_are; phase_is = i.phase_is; idle = i.idle })
+  dropped_after held plan (nexts.Done (downs.Last e)) t i asked = last_after held.kind held.place (record t { event = Some (acts.Drop held.hand true) }) (record { phases_are = i.phases_are; phase_is = i.phase_is; idle = i.idle }) asked
   dropped_after held plan (nexts.Done (downs.Again changed)) t i asked = drop_after held t i
-  dropped_after held plan (nexts.Done (downs.Slow e)) t i asked = asked_stays t i asked
+
+  vacated_after : (slot : ℕ) (plan : OneStep) (next : Next (Unit {0})) (t : Thread) → IsIdle phases n t → IsAfter phases n (vacated_on slot plan next t)
+  vacated_after slot plan (nexts.Step s) t i = (i.phases_are, i.phase_is)
+  vacated_after slot plan (nexts.Done a) t i = next_after (record t { event = Some (acts.Vacate slot) }) (record { phases_are = i.phases_are; phase_is = i.phase_is; idle = i.idle })
 
   dying_after : (c : CascadeState) (next : CascadeNext) (t : Thread) → IsIdle phases n t → HasAsked t → IsAfter phases n (dying_on c next t)
   dying_after c (says.Step s intent) t i asked = (i.phases_are, i.phase_is)
@@ -230,7 +257,9 @@ turned_after t last may = at t.doing refl may
     at : (d : Doing) → t.doing ≡ d → HasAsked t ⊎ (t.doing ≡ Ready) → IsAfter t.phases t.phase (turned_at last d (quiet t))
     at Ready is m = begun_after t.phases t.phase (quiet t) idle
     at (Making to name plan) is m = made_after t.phases t.phase to name (creation_turned plan last) (creation_answer plan last) (quiet t) idle
-    at (Copying to held plan) is m = copied_after t.phases t.phase to held (strong_up_turned plan last) (strong_up_answer plan last) (quiet t) idle (no is (λ e. cc) m)
-    at (Dropping held plan) is m = dropped_after t.phases t.phase held (strong_down_turned plan last) (strong_down_answer plan last) (quiet t) idle (no is (λ e. cc) m)
+    at (Gaining gain to from plan) is m = rise_after t.phases t.phase gain to from (up_turned plan last) (up_answer plan last) (quiet t) idle (no is (λ e. cc) m)
+    at (Naming to held plan) is m = named_after t.phases t.phase to held (one_turned plan last) (name_of_answer plan last) (quiet t) idle
+    at (Dropping held plan) is m = dropped_after t.phases t.phase held (down_turned plan last) (down_answer plan last) (quiet t) idle (no is (λ e. cc) m)
     at (Dying c) is m = dying_after t.phases t.phase (cascade_turned c last) (cascade_answer c last) (record (quiet t) { event = (cascade_turned c last).event }) (record { phases_are = refl; phase_is = refl; idle = refl }) (no is (λ e. cc) m)
+    at (Vacating slot plan) is m = vacated_after t.phases t.phase slot (one_turned plan last) (vacate_answer plan last) (quiet t) idle
     at Ended is m = asked_stays t.phases t.phase (quiet t) idle (no is (λ e. cc) m)

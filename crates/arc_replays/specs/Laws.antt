@@ -9,7 +9,9 @@ use Rattle.arc_script.specs.Valid.{IsScript}
 use Rattle.arc_ops.specs.declared.stepper.Move.TheVariants as moves
 use Rattle.arc_ops.specs.Served.{IsServed}
 use Rattle.arc_ops.specs.Programs.{program_of}
-use Rattle.arc_ops.specs.Thread.{Thread, IsStepper, takes}
+use Rattle.arc_ops.specs.Thread.{Thread}
+use Rattle.arc_ops.specs.Takes.{takes}
+use Rattle.arc_ops.specs.Steppers.{IsStepper}
 use Rattle.arc_ops_passes.specs.Drives.{Asks}
 use Rattle.arc_ops.specs.declared.told.Stamped.{Stamped}
 use Rattle.arc_ops.specs.declared.told.ThreadLines.{ThreadLines}

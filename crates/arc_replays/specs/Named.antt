@@ -7,15 +7,15 @@ use Rattle.arc_model.specs.History.{History}
 pub use Rattle.arc_programs_laws.specs.Names.{AnswerFits, LineFits}
 
 -- An event of the operations that are served so far: an object is made, of one of so many classes, or no slot is free; a reference is
--- copied from a hand, or dropped; a deinit is finished, a slot is vacated.
+-- copied from a hand, formed or loaded by one, or dropped; a deinit is finished, a slot is vacated.
 abbrev pub ActFits : ℕ → Act → Type 0
 ActFits n (acts.New hand class slot) = class < n
 ActFits n acts.Full = ⊤
 ActFits n (acts.Copy (Hand of) hand) = ⊤
 ActFits n (acts.Copy (Cell cell) hand) = ⊥
-ActFits n (acts.UnownedOf of hand) = ⊥
+ActFits n (acts.UnownedOf of hand) = ⊤
 ActFits n (acts.WeakOf of hand) = ⊥
-ActFits n (acts.Load of got) = ⊥
+ActFits n (acts.Load of got) = ⊤
 ActFits n (acts.Drop hand last) = ⊤
 ActFits n (acts.CountFull list from) = ⊥
 ActFits n (acts.Claim entry) = ⊥

@@ -14,7 +14,10 @@ use Rattle.arc_rule.specs.Steps.{found_by, made_by}
 use Rattle.arc_rule.specs.declared.step.Step.{Step}
 use Rattle.arc_rule.specs.declared.step.Intent.{Intent}
 use Rattle.arc_ops.specs.declared.stepper.Move.TheVariants as moves
-use Rattle.arc_ops.specs.Thread.{Thread, IsStepper, stepper_of, takes, turned}
+use Rattle.arc_ops.specs.Thread.{Thread, stepper_of}
+use Rattle.arc_ops.specs.Turns.{turned}
+use Rattle.arc_ops.specs.Takes.{takes}
+use Rattle.arc_ops.specs.Steppers.{IsStepper}
 use Rattle.arc_spelled.specs.StepperStands.{Work, IsServedWork, StandsFor}
 use Rattle.arc_spelled.specs.Spelled.{work_of, with_event_of, IsSpelled}
 use Rattle.arc_ops.specs.Served.{IsServed}

@@ -9,7 +9,10 @@ use Rattle.arc_script.specs.declared.script.Script.{Script}
 use Rattle.arc_ops.specs.declared.told.Stamped.{Stamped}
 use Rattle.arc_ops.specs.declared.stepper.Move.{Move}
 use Rattle.arc_ops.specs.declared.stepper.Move.TheVariants as moves
-use Rattle.arc_ops.specs.Thread.{Thread, IsStepper, stepper_of, takes, turned}
+use Rattle.arc_ops.specs.Thread.{Thread, stepper_of}
+use Rattle.arc_ops.specs.Turns.{turned}
+use Rattle.arc_ops.specs.Takes.{takes}
+use Rattle.arc_ops.specs.Steppers.{IsStepper}
 
 -- Where a replay is: how many phases have begun, the places of the schedule that are left, the threads with thread 0 first, the words, how many steps
 -- were made, and the events, the newest first.

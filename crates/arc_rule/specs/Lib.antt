@@ -4,4 +4,5 @@ pub mod Places
 pub mod Isa
 pub mod Steps
 pub mod Plans
+pub mod Attempts
 pub mod Shown

@@ -17,6 +17,11 @@ abbrev pub WaitsFor : {A : Type 0} → Next A → Option Step → Type 0
 WaitsFor (nexts.Step s) asked = asked ≡ Some s
 WaitsFor (nexts.Done a) asked = asked ≡ None
 
+-- the step that is asked for, and where there is none the answer
+abbrev pub step_or : {A : Type 0} → Option Step → A → Next A
+step_or (Some s) a = nexts.Step s
+step_or None a = nexts.Done a
+
 -- each step that is asked for leaves fewer
 abbrev pub FewerLeft : {A : Type 0} → Next A → ℕ → ℕ → Type 0
 FewerLeft (nexts.Step s) old new = new < old

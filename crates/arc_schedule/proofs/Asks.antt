@@ -5,7 +5,7 @@ use Rattle.arc_rule.specs.declared.step.Step.{Step}
 use Rattle.arc_cells.specs.declared.cascade.At.{At as CascadeAt}
 use Rattle.arc_cells.specs.declared.cascade.At.TheVariants as at
 use Rattle.arc_ops.specs.declared.stepper.Doing.{Doing}
-use Rattle.arc_ops.specs.declared.stepper.Doing.TheVariants.{Ready, Making, Copying, Dropping, Dying, Ended}
+use Rattle.arc_ops.specs.declared.stepper.Doing.TheVariants.{Ready, Making, Gaining, Naming, Dropping, Dying, Vacating, Ended}
 use Rattle.arc_ops.specs.declared.stepper.Move.{Move}
 use Rattle.arc_ops.specs.declared.stepper.Move.TheVariants as moves
 use Rattle.arc_ops.specs.Thread.{Thread}
@@ -49,7 +49,9 @@ idle k n t now st none = go t.doing st.up_to
     go : (d : Doing) → UpTo k st.job st.at t.vars t.made t.hands t.asked now d → IsIdle d
     go Ready u = tt
     go (Making to name plan) u = let e = u.waits.asked_is in absurd (cc)
-    go (Copying to held plan) u = let e = u.waits.asked_is in absurd (cc)
+    go (Gaining gain to held plan) u = let e = u.waits.asked_is in absurd (cc)
+    go (Naming to held plan) u = let e = u.waits.asked_is in absurd (cc)
+    go (Vacating slot plan) u = let e = u.waits.asked_is in absurd (cc)
     go (Dropping held plan) u = let e = u.waits.asked_is in absurd (cc)
     go (Dying c) u = dying c.at u.place
       where
@@ -71,7 +73,9 @@ ended-stays k n m t now st ended = record { job = st.job; at = st.at; phases = s
     go : (d : Doing) → IsIdle d → UpTo k st.job st.at t.vars t.made t.hands t.asked now d → IsIn m st.phases d
     go Ready i u = let e = u.0 in absurd (cc)
     go (Making to name plan) i u = absurd i
-    go (Copying to held plan) i u = absurd i
+    go (Gaining gain to held plan) i u = absurd i
+    go (Naming to held plan) i u = absurd i
+    go (Vacating slot plan) i u = absurd i
     go (Dropping held plan) i u = absurd i
     go (Dying c) i u = absurd i
     go Ended i u = tt
@@ -82,7 +86,9 @@ whole k n t now st ended = go t.doing (idle k n t now st (ap step_in ended)) st.
     go : (d : Doing) → IsIdle d → UpTo k st.job st.at t.vars t.made t.hands t.asked now d → IsWhole k now
     go Ready i u = let e = u.0 in absurd (cc)
     go (Making to name plan) i u = absurd i
-    go (Copying to held plan) i u = absurd i
+    go (Gaining gain to held plan) i u = absurd i
+    go (Naming to held plan) i u = absurd i
+    go (Vacating slot plan) i u = absurd i
     go (Dropping held plan) i u = absurd i
     go (Dying c) i u = absurd i
     go Ended i u = u.1
@@ -94,7 +100,9 @@ in-phase k n t step now st asked = st.works.begun_is ∙ go t.doing st.phased st
     go : (d : Doing) → IsIn n st.phases d → UpTo k st.job st.at t.vars t.made t.hands t.asked now d → st.phases ≡ n
     go Ready p u = let e = ap step_in u.0 in absurd (cc)
     go (Making to name plan) p u = p
-    go (Copying to held plan) p u = p
+    go (Gaining gain to held plan) p u = p
+    go (Naming to held plan) p u = p
+    go (Vacating slot plan) p u = p
     go (Dropping held plan) p u = p
     go (Dying c) p u = p
     go Ended p u = let e = ap step_in u.0 in absurd (cc)

@@ -12,11 +12,14 @@ use Rattle.std.specs.List.{prefix_len, AllByRecursion}
 use Rattle.std.specs.Option.{option_map}
 use Rattle.arc_model.specs.declared.answer.Answer.TheVariants as answers
 use Rattle.arc_model.specs.declared.event.ObjectName.{ObjectName}
+use Rattle.arc_model.specs.declared.shape.Kind.{Kind}
 use Rattle.arc_model.specs.Shapes.{HeapShape, class_at}
-use Rattle.arc_rule.specs.Extents.{Extent}
 use Rattle.arc_rule.specs.Places.{extent_of}
-use Rattle.arc_plan.specs.declared.attempt.At.TheVariants as attempt
 use Rattle.arc_plan.specs.declared.slots.Making.TheVariants as search
+use Rattle.arc_side.specs.declared.up.UpAnswer.{UpAnswer}
+use Rattle.arc_side.specs.declared.down.DownAnswer.{DownAnswer}
+use Rattle.arc_side.specs.Ups.{Rise}
+use Rattle.arc_side.specs.Downs.{Fall}
 use Rattle.arc_script.specs.declared.script.Op.{Op}
 use Rattle.arc_script.specs.declared.script.Op.TheVariants as op
 use Rattle.arc_script.specs.OneList.{in_one_list, moved_behind, numbered}
@@ -24,15 +27,22 @@ use Rattle.arc_script.proofs.OneList.{length_in_one}
 use Rattle.arc_ops.specs.declared.stepper.Held.{Held}
 use Rattle.arc_ops.specs.declared.stepper.Doing.TheVariants.{Ready, Ended}
 use Rattle.arc_ops.specs.declared.stepper.Move.TheVariants as moves
-use Rattle.arc_ops.specs.Programs.{GoesForth, ops_in_first}
+use Rattle.arc_ops.specs.Programs.{GoesForth, ops_in_first, kind_of}
 use Rattle.arc_ops.specs.Served.{IsServedOp}
-use Rattle.arc_ops.specs.Thread.{Thread, HeldFits, value, is_held, put, set_var, skipped, moved, drop_from, creation_from, copy_from, drop_begun, begun_nil, begun_copy, begun_move, begun_drop, phase_over, begun_op, begun_at, begun, scope_drop, scope_at, scope_begun, next_op, replaced_old, replaced}
+use Rattle.arc_ops.specs.declared.gain.Gain.{Gain}
+use Rattle.arc_ops.specs.declared.gain.Gain.TheVariants as gains
+use Rattle.arc_ops.specs.Thread.{Thread, value, is_held, put, set_var}
+use Rattle.arc_ops.specs.Plans.{op_of, drop_from, creation_from, gain_from, gain_begun, drop_begun}
+use Rattle.arc_ops.specs.Begins.{skipped, moved, begun_nil, begun_gain, begun_move, begun_drop, phase_over, begun_op, begun_at, begun, scope_drop, scope_at, scope_begun, next_op}
+use Rattle.arc_ops.specs.Drops.{replaced_old, replaced}
+use Rattle.arc_ops.specs.Steppers.{IsHeld, HeldFits}
+use Rattle.arc_spelled.proofs.KindsKept.{kinds-set, kinds-nil, fits-some}
 use Rattle.arc_schedule.specs.Made.{Point, Made}
-use Rattle.arc_schedule.specs.Plans.{Starts, new_object, strong_up, strong_down}
+use Rattle.arc_schedule.specs.Plans.{Plan, Starts, new_object, down}
 use Rattle.arc_schedule.specs.Plans.Starts.{first as starts_first}
-use Rattle.arc_schedule.specs.Operations.{State, Holding, Variables, strong_to, Drops, Does, goes_on}
+use Rattle.arc_schedule.specs.Operations.{State, Holding, Variables, Drops, Does, forms, goes_on}
 use Rattle.arc_schedule.specs.Operations.Drops.{nothing as drops_nothing}
-use Rattle.arc_schedule.specs.Operations.Does.{copies_nil, moves as does_move, moves_nil, drops as does_drop}
+use Rattle.arc_schedule.specs.Operations.Does.{forms_nil, moves as does_move, moves_nil, drops as does_drop}
 use Rattle.arc_schedule.specs.Operations as operations
 use Rattle.arc_schedule.specs.Threads.{point_of, OpsDone, ScopeEnds}
 use Rattle.arc_schedule.specs.Threads.OpsDone.{none as ops_none, one as ops_one, block as ops_block}
@@ -41,7 +51,7 @@ use Rattle.arc_schedule.specs.Threads.ScopeEnds.{none as scope_none, one as scop
 use Rattle.arc_ops.proofs.Counts.{first_few, first_all}
 use Rattle.arc_schedule.proofs.Lists.{there-is, all-there, get-drop, nothing-left}
 use Rattle.arc_schedule.proofs.Phases.{all-ops, phase-next, phase-rest}
-use Rattle.arc_schedule.proofs.Stands.{waits, begun-from, Task, Job, start_of, ref, refs, state_of, AreDone, here, IsInScope, IsOverIf, IsOver, AreServed, Works, WorksAt, AreIn, Stands}
+use Rattle.arc_schedule.proofs.Stands.{waits, begun-from, Task, Job, kinds_here, start_of, ref, refs, state_of, AreDone, here, IsInScope, IsOverIf, IsOver, AreServed, gain_plan, Works, WorksAt, AreIn, Stands}
 
 -- ---- variables
 
@@ -69,20 +79,23 @@ not-held : (o : Option Held) → is_held o ≡ false → o ≡ None
 not-held None e = refl
 not-held (Some h) e = absurd (cc)
 
-held-at : (slots : ℕ) (vars : List (Option Held)) (v : ℕ) (h : Held) → AllByRecursion (HeldFits slots) vars → value vars v ≡ Some h → h.place < slots
+held-at : (slots : ℕ) (vars : List (Option Held)) (v : ℕ) (h : Held) → AllByRecursion (HeldFits slots) vars → value vars v ≡ Some h → IsHeld slots h
 held-at slots [] v h all e = absurd (cc)
 held-at slots (o ∷ vars) zero h all e = let f : HeldFits slots (Some h) = subst (HeldFits slots) e all.0 in f
 held-at slots (o ∷ vars) (suc v) h all e = held-at slots vars v h all.1 e
 
--- what a variable holds lies in the heap
-pub held-in : (shape : HeapShape) (vars : List (Option Held)) (v : ℕ) (h : Held) → AreIn shape vars → value vars v ≡ Some h → h.place < shape.slots
-held-in shape vars v h all e = held-at shape.slots vars v h (recursion_from_All (HeldFits shape.slots) vars all) e
+-- what a variable holds is served, lies in the heap, and is of the variable's kind
+pub held-in : (k : Task) (vars : List (Option Held)) (v : ℕ) (h : Held) → AreIn k vars → value vars v ≡ Some h → IsHeld k.shape.slots h
+held-in k vars v h all e = held-at k.shape.slots vars v h (recursion_from_All (HeldFits k.shape.slots) vars all.held) e
 
-pub nil-in : (shape : HeapShape) (vars : List (Option Held)) (v : ℕ) → AreIn shape vars → AreIn shape (set vars v None)
-nil-in shape vars v all = All-set (HeldFits shape.slots) vars v None tt all
+pub nil-in : (k : Task) (vars : List (Option Held)) (v : ℕ) → AreIn k vars → AreIn k (set vars v None)
+nil-in k vars v all = record { held = All-set (HeldFits k.shape.slots) vars v None tt all.held; kinds = kinds-nil (kinds_here k) vars v all.kinds }
 
-pub one-in : (shape : HeapShape) (vars : List (Option Held)) (v : ℕ) (h : Held) → h.place < shape.slots → AreIn shape vars → AreIn shape (set vars v (Some h))
-one-in shape vars v h within all = All-set (HeldFits shape.slots) vars v (Some h) within all
+pub one-in : (k : Task) (vars : List (Option Held)) (v : ℕ) (h : Held) → IsHeld k.shape.slots h → h.kind ≡ kind_of (kinds_here k) v → AreIn k vars → AreIn k (set vars v (Some h))
+one-in k vars v h inside kind all = record {
+  held = All-set (HeldFits k.shape.slots) vars v (Some h) inside all.held;
+  kinds = kinds-set (kinds_here k) vars v (Some h) (fits-some (kinds_here k) v h kind) all.kinds;
+}
 
 -- ---- operations
 
@@ -121,7 +134,7 @@ on-within vars i end (op.IfSome v past) below g = go (is_some (operations.value 
     go true = (omega arith, omega arith)
     go false = g
 
-done-within : {shape : HeapShape} {thread phase : ℕ} {ops : List Op} {first : State} {b : List Made} {i : ℕ} {state : State} {now : List Made} → AreServed ops → OpsDone shape thread phase ops first b i state now → i ≤ length ops
+done-within : {kinds : List Kind} {shape : HeapShape} {thread phase : ℕ} {ops : List Op} {first : State} {b : List Made} {i : ℕ} {state : State} {now : List Made} → AreServed kinds ops → OpsDone shape thread phase ops first b i state now → i ≤ length ops
 done-within served ops_none = omega arith
 done-within {ops = ops} served (ops_one {i = i} {o = o} d there x) = let h = slice_get_within ops i o there in omega arith
 done-within {ops = ops} served (ops_block {i = i} {n = n} {o = o} {state = state} d there begins goes further) =
@@ -172,11 +185,12 @@ works-next {n = n} k j i t works = works-at k j i (i + 1) t (t.index + 1) works 
 -- ---- plans begin
 
 -- the release of a reference begins
-pub drop-asks : {n : ℕ} (k : Task) (j : Job k) (i : ℕ) (t : Thread) (held : Held) (now begin : List Made) → WorksAt k j i n t → AreIn k.shape t.vars → held.place < k.shape.slots →
-    Starts (strong_down (extent_of k.shape) held.place held.hand) (here k j i) begin now →
-    ((after : List Made) → Drops k.shape (here k j i) (strong_to held.hand held.place) begin after → IsOver k j i t.vars t.made t.hands after) → Stands k n (drop_begun held t) now
-drop-asks {n = n} k j i t held now begin works vars within starts ends =
-    let same : record { layout = extent_of k.shape; slot = held.place; at = attempt.Start } ≡ drop_from t held = ap (λ (l : Extent). record { layout = l; slot = held.place; at = attempt.Start }) (sym works.layout_is) in
+pub drop-asks : {n : ℕ} (k : Task) (j : Job k) (i : ℕ) (t : Thread) (held : Held) (now begin : List Made) → WorksAt k j i n t → AreIn k t.vars → IsHeld k.shape.slots held →
+    Starts (down (extent_of k.shape) held.kind held.place held.hand) (here k j i) begin now →
+    ((after : List Made) → Drops k.shape (here k j i) (ref (Some held)) begin after → IsOver k j i t.vars t.made t.hands after) → Stands k n (drop_begun held t) now
+drop-asks {n = n} k j i t held now begin works vars inside starts ends =
+    let plan : Plan Fall DownAnswer = down (extent_of k.shape) held.kind held.place held.hand in
+    let same : plan.start ≡ drop_from held t = rw works.layout_is refl in
     record {
       job = j;
       at = i;
@@ -187,9 +201,35 @@ drop-asks {n = n} k j i t held now begin works vars within starts ends =
       up_to = record {
         base = begin;
         ends = ends;
-        waits = waits (strong_down (extent_of k.shape) held.place held.hand) (here k j i) begin now _ _
-            (begun-from (strong_down (extent_of k.shape) held.place held.hand) (here k j i) begin now (drop_from t held) starts same);
-        within = within;
+        waits = waits plan (here k j i) begin now _ _ (begun-from plan (here k j i) begin now (drop_from held t) starts same);
+        inside = inside;
+        bare = refl;
+      };
+    }
+
+-- a reference is gained of another
+pub gain-asks : {n : ℕ} (k : Task) (j : Job k) (i : ℕ) (gain : Gain) (to from : ℕ) (t : Thread) (held : Held) (now begin : List Made) → WorksAt k j i n t → AreIn k t.vars →
+    AreDone k j i (state_of t.vars t.made t.hands) begin → slice_get j.ops i ≡ Some (op_of gain to from) → value t.vars from ≡ Some held →
+    Starts (gain_plan k gain held t.hands) (here k j i) begin now → Stands k n (gain_begun gain to held t) now
+gain-asks {n = n} k j i gain to from t held now begin works vars done there source starts =
+    let plan : Plan Rise UpAnswer = gain_plan k gain held t.hands in
+    let same : plan.start ≡ gain_from gain held t = rw (works.layout_is, works.shape_is) refl in
+    record {
+      job = j;
+      at = i;
+      phases = n;
+      phased = refl;
+      works = works;
+      vars_in = vars;
+      up_to = record {
+        base = begin;
+        from = from;
+        done = done;
+        there = there;
+        source = source;
+        waits = waits plan (here k j i) begin now _ _ (begun-from plan (here k j i) begin now (gain_from gain held t) starts same);
+        inside = held-in k t.vars from held vars source;
+        bare = refl;
       };
     }
 
@@ -211,14 +251,14 @@ scope-skips {shape = shape} {point = point} {vars = vars} {b = b} {ns = ns} {v =
             let one : ScopeEnds shape point vars b (w + 1) ns = scope_one (before above) d in
             rw (← add-one) one
 
-scopes : {n : ℕ} (k : Task) (j : Job k) (i : ℕ) (t : Thread) (now : List Made) → WorksAt k j i n t → AreIn k.shape t.vars → ltb i (length j.ops) ≡ false → IsInScope k j t.vars now → Stands k n (scope_begun t) now
+scopes : {n : ℕ} (k : Task) (j : Job k) (i : ℕ) (t : Thread) (now : List Made) → WorksAt k j i n t → AreIn k t.vars → ltb i (length j.ops) ≡ false → IsInScope k j t.vars now → Stands k n (scope_begun t) now
 scopes {n = n} k j i t now works vars past s = go (position is_held t.vars) refl
   where
     point_is : here k j i ≡ point_of k.thread j.phase 0
     point_is = rw past refl
 
     held : (v : ℕ) (h : Held) → value t.vars v ≡ Some h → v < length t.vars → ((u : ℕ) → u < v → is_held (value t.vars u) ≡ false) → Stands k n (drop_begun h (set_var v None t)) now
-    held v h e within before = drop-asks k j i (set_var v None t) h now now works (nil-in k.shape t.vars v vars) (held-in k.shape t.vars v h vars e) starts_first (λ after x. rw past (over after x))
+    held v h e within before = drop-asks k j i (set_var v None t) h now now works (nil-in k t.vars v vars) (held-in k t.vars v h vars e) starts_first (λ after x. rw past (over after x))
       where
         above : s.below ≤ v
         above = at (cases_lt v s.below)
@@ -237,13 +277,13 @@ scopes {n = n} k j i t now works vars past s = go (position is_held t.vars) refl
             at (inl lower) = let differ : u ≢ v = λ e. (let same : u ≡ v = e in omega arith) in get_or-set_other t.vars v u None None differ ∙ others u lower
             at (inr upper) = let same : u ≡ v = omega arith in rw same (get_or-set_same t.vars v None None within)
 
-        over : (after : List Made) → Drops k.shape (here k j i) (strong_to h.hand h.place) now after → IsInScope k j (set t.vars v None) after
+        over : (after : List Made) → Drops k.shape (here k j i) (ref (Some h)) now after → IsInScope k j (set t.vars v None) after
         over after x =
             let many : length (set t.vars v None) ≡ length t.vars = length-set t.vars v None in
             let here_is : ScopeEnds k.shape (point_of k.thread j.phase 0) s.behind.vars s.worked v now =
             scope-skips s.ends v above (λ u from below. s.rest u from ∙ ap ref (others u below)) in
-            let value_is : operations.value s.behind.vars v ≡ strong_to h.hand h.place = s.rest v above ∙ ap ref e in
-            let P : Point → Type 0 = λ (p : Point). Drops k.shape p (strong_to h.hand h.place) now after in
+            let value_is : operations.value s.behind.vars v ≡ ref (Some h) = s.rest v above ∙ ap ref e in
+            let P : Point → Type 0 = λ (p : Point). Drops k.shape p (ref (Some h)) now after in
             let Q : Option Holding → Type 0 = λ (o : Option Holding). Drops k.shape (point_of k.thread j.phase 0) o now after in
             record {
               last = s.last;
@@ -290,7 +330,7 @@ scopes {n = n} k j i t now works vars past s = go (position is_held t.vars) refl
 -- ---- the next operation
 
 -- the operations of the phase are done: the next phase is to begin, or the scope ends
-phase-ends : {n : ℕ} (k : Task) (j : Job k) (i : ℕ) (t : Thread) (now : List Made) → WorksAt k j i n t → AreIn k.shape t.vars → i ≡ length j.ops → AreDone k j i (state_of t.vars t.made t.hands) now →
+phase-ends : {n : ℕ} (k : Task) (j : Job k) (i : ℕ) (t : Thread) (now : List Made) → WorksAt k j i n t → AreIn k t.vars → i ≡ length j.ops → AreDone k j i (state_of t.vars t.made t.hands) now →
     Stands k n (phase_over t) now
 phase-ends {n = n} k j i t now works vars at_end d = go (ltb (t.phase + 1) (length t.phases)) refl
   where
@@ -358,22 +398,47 @@ phase-ends {n = n} k j i t now works vars at_end d = go (ltb (t.phase + 1) (leng
         over_all false e = e
 
 -- a nil reference makes the variable nil, and what that held is dropped
-nil-begins : {n : ℕ} (k : Task) (j : Job k) (i : ℕ) (t : Thread) (now : List Made) → WorksAt k j i n t → AreIn k.shape t.vars → i < length j.ops → (to : ℕ) →
+nil-begins : {n : ℕ} (k : Task) (j : Job k) (i : ℕ) (t : Thread) (now : List Made) → WorksAt k j i n t → AreIn k t.vars → i < length j.ops → (to : ℕ) →
     ((old : Option Held) → value t.vars to ≡ old → (after : List Made) → Drops k.shape (here k j i) (ref old) now after → AreDone k j (i + 1) (state_of (set t.vars to None) t.made t.hands) after) →
     (rest : Thread → Thread) → (AreDone k j (i + 1) (state_of t.vars t.made t.hands) now → Stands k n (rest (skipped answers.Nil t)) now) →
     (old : Option Held) → value t.vars to ≡ old → Stands k n (begun_nil to old t rest) now
 nil-begins {n = n} k j i t now works vars within to done rest skip (Some old) e =
-    drop-asks k j i (set_var to None (put answers.Nil (record t { first = true }))) old now now works (nil-in k.shape t.vars to vars) (held-in k.shape t.vars to old vars e) starts_first
+    drop-asks k j i (set_var to None (put answers.Nil (record t { first = true }))) old now now works (nil-in k t.vars to vars) (held-in k t.vars to old vars e) starts_first
     (λ after x. over-done k j i (set t.vars to None) t.made t.hands after within (done (Some old) e after x))
 nil-begins {n = n} k j i t now works vars within to done rest skip None e =
     let same : set t.vars to None ≡ t.vars = ap (λ (o : Option Held). set t.vars to o) (sym e) ∙ set-get_or t.vars to None in
     let Q : List (Option Held) → Type 0 = λ (vs : List (Option Held)). AreDone k j (i + 1) (state_of vs t.made t.hands) now in
     skip (subst Q same (done None e now drops_nothing))
 
+gain-forms : (gain : Gain) (to from : ℕ) → forms (op_of gain to from) ≡ Some (to, from)
+gain-forms gains.Copy to from = refl
+gain-forms gains.Unown to from = refl
+gain-forms gains.Load to from = refl
+
+-- a reference is formed for a variable from that in another
+gains-op : {n : ℕ} (k : Task) (j : Job k) (gain : Gain) (to from i : ℕ) (t : Thread) (now : List Made) → WorksAt k j i n t → AreIn k t.vars →
+    slice_get j.ops i ≡ Some (op_of gain to from) → AreDone k j i (state_of t.vars t.made t.hands) now → (rest : Thread → Thread) →
+    ((on : ℕ) (u : Thread) → i < on → WorksAt k j on n u → AreIn k u.vars → AreDone k j on (state_of u.vars u.made u.hands) now → Stands k n (rest u) now) →
+    Stands k n (begun_gain gain to (value t.vars from) (value t.vars to) t rest) now
+gains-op {n = n} k j gain to from i t now works vars there d rest next = go (value t.vars from) refl
+  where
+    nil_done : value t.vars from ≡ None → (old : Option Held) → value t.vars to ≡ old → (after : List Made) → Drops k.shape (here k j i) (ref old) now after →
+        AreDone k j (i + 1) (state_of (set t.vars to None) t.made t.hands) after
+    nil_done e old f after x =
+        let Q : Option Holding → Type 0 = λ (o : Option Holding). Drops k.shape (here k j i) o now after in
+        op-done k j i (op_of gain to from) (state_of t.vars t.made t.hands) (state_of (set t.vars to None) t.made t.hands) now after d there
+        (forms_nil (gain-forms gain to from) (value-ref t.vars from None e) (subst Q (sym (value-ref t.vars to old f)) x) (ap (λ (vs : Variables). record { vars = vs; made = t.made; hands = t.hands }) (put-ref t.vars to None)))
+
+    go : (source : Option Held) → value t.vars from ≡ source → Stands k n (begun_gain gain to source (value t.vars to) t rest) now
+    go (Some h) e = gain-asks k j i gain to from (record t { first = true }) h now now works vars d there e starts_first
+    go None e =
+        nil-begins k j i t now works vars (slice_get_within j.ops i (op_of gain to from) there) to (nil_done e) rest
+        (λ done. next (i + 1) (skipped answers.Nil t) (omega arith) (works-next k j i t works) vars done) (value t.vars to) refl
+
 -- the operation begins, and where it asks for no step, the thread goes on behind it
-begins-op : {n : ℕ} (k : Task) (j : Job k) → AreServed j.ops → (o : Op) (i : ℕ) (t : Thread) (now : List Made) → WorksAt k j i n t → AreIn k.shape t.vars →
+begins-op : {n : ℕ} (k : Task) (j : Job k) → AreServed (kinds_here k) j.ops → (o : Op) (i : ℕ) (t : Thread) (now : List Made) → WorksAt k j i n t → AreIn k t.vars →
     slice_get j.ops i ≡ Some o → AreDone k j i (state_of t.vars t.made t.hands) now → (rest : Thread → Thread) →
-    ((on : ℕ) (u : Thread) → i < on → WorksAt k j on n u → AreIn k.shape u.vars → AreDone k j on (state_of u.vars u.made u.hands) now → Stands k n (rest u) now) →
+    ((on : ℕ) (u : Thread) → i < on → WorksAt k j on n u → AreIn k u.vars → AreDone k j on (state_of u.vars u.made u.hands) now → Stands k n (rest u) now) →
     Stands k n (begun_op (moved_behind (start_of k j) o) t rest) now
 begins-op {n = n} k j served (op.New to class) i t now works vars there d rest next =
     let name : ObjectName = record { class = class; thread = t.thread; number = t.made + 1 } in
@@ -397,40 +462,9 @@ begins-op {n = n} k j served (op.New to class) i t now works vars there d rest n
         count = (refl, refl);
       };
     }
-begins-op {n = n} k j served (op.Copy to from) i t now works vars there d rest next = copying (value t.vars from) refl (λ e.
-    next (i + 1) (skipped answers.Nil t) (omega arith) (works-next k j i t works) vars e)
-  where
-    nil_done : value t.vars from ≡ None → (old : Option Held) → value t.vars to ≡ old → (after : List Made) → Drops k.shape (here k j i) (ref old) now after →
-        AreDone k j (i + 1) (state_of (set t.vars to None) t.made t.hands) after
-    nil_done e old f after x =
-        let Q : Option Holding → Type 0 = λ (o : Option Holding). Drops k.shape (here k j i) o now after in
-        op-done k j i (op.Copy to from) (state_of t.vars t.made t.hands) (state_of (set t.vars to None) t.made t.hands) now after d there
-        (copies_nil (value-ref t.vars from None e) (subst Q (sym (value-ref t.vars to old f)) x) (ap (λ (vs : Variables). record { vars = vs; made = t.made; hands = t.hands }) (put-ref t.vars to None)))
-
-    copying : (source : Option Held) → value t.vars from ≡ source → (AreDone k j (i + 1) (state_of t.vars t.made t.hands) now → Stands k n (rest (skipped answers.Nil t)) now) →
-        Stands k n (begun_copy to source (value t.vars to) t rest) now
-    copying (Some h) e skip =
-        let same : record { layout = extent_of k.shape; slot = h.place; cap = k.shape.caps.strong; at = attempt.Start } ≡ copy_from t h = rw (works.layout_is, works.shape_is) refl in
-        record {
-          job = j;
-          at = i;
-          phases = n;
-          phased = refl;
-          works = works;
-          vars_in = vars;
-          up_to = record {
-            base = now;
-            from = from;
-            done = d;
-            there = there;
-            source = e;
-            waits = waits (strong_up (extent_of k.shape) h.place k.shape.caps.strong h.hand (t.hands + 1)) (here k j i) now now _ _
-                (begun-from (strong_up (extent_of k.shape) h.place k.shape.caps.strong h.hand (t.hands + 1)) (here k j i) now now (copy_from t h) starts_first same);
-            within = held-in k.shape t.vars from h vars e;
-          };
-        }
-    copying None e skip =
-        nil-begins k j i t now works vars (slice_get_within j.ops i (op.Copy to from) there) to (nil_done e) rest skip (value t.vars to) refl
+begins-op {n = n} k j served (op.Copy to from) i t now works vars there d rest next = gains-op k j gains.Copy to from i t now works vars there d rest next
+begins-op {n = n} k j served (op.Unown to of) i t now works vars there d rest next = gains-op k j gains.Unown to of i t now works vars there d rest next
+begins-op {n = n} k j served (op.Load to of) i t now works vars there d rest next = gains-op k j gains.Load to of i t now works vars there d rest next
 begins-op {n = n} k j served (op.Move to from) i t now works vars there d rest next = moving (value t.vars from) refl (λ e.
     next (i + 1) (skipped answers.Nil t) (omega arith) (works-next k j i t works) vars e) (λ h e x.
     next (i + 1) (moved to from h (skipped answers.Ok t)) (omega arith) (works-next k j i t works) (moved-in h e) x)
@@ -438,8 +472,10 @@ begins-op {n = n} k j served (op.Move to from) i t now works vars there d rest n
     within : i < length j.ops
     within = slice_get_within j.ops i (op.Move to from) there
 
-    moved-in : (h : Held) → value t.vars from ≡ Some h → AreIn k.shape (set (set t.vars to (Some h)) from None)
-    moved-in h e = nil-in k.shape (set t.vars to (Some h)) from (one-in k.shape t.vars to h (held-in k.shape t.vars from h vars e) vars)
+    moved-in : (h : Held) → value t.vars from ≡ Some h → AreIn k (set (set t.vars to (Some h)) from None)
+    moved-in h e =
+        nil-in k (set t.vars to (Some h)) from
+        (one-in k t.vars to h (held-in k t.vars from h vars e) (vars.kinds from h e ∙ sym (served.kinds_fit i (op.Move to from) there)) vars)
 
     nil_done : value t.vars from ≡ None → (old : Option Held) → value t.vars to ≡ old → (after : List Made) → Drops k.shape (here k j i) (ref old) now after →
         AreDone k j (i + 1) (state_of (set t.vars to None) t.made t.hands) after
@@ -466,7 +502,7 @@ begins-op {n = n} k j served (op.Move to from) i t now works vars there d rest n
         dropping : (old : Option Held) → value t.vars to ≡ old → Stands k n (begun_move to from (Some h) old t rest) now
         dropping None f = on h e (moved_done h e None f now drops_nothing)
         dropping (Some old) f =
-            drop-asks k j i (moved to from h (put answers.Ok (record t { first = true }))) old now now works (moved-in h e) (held-in k.shape t.vars to old vars f) starts_first
+            drop-asks k j i (moved to from h (put answers.Ok (record t { first = true }))) old now now works (moved-in h e) (held-in k t.vars to old vars f) starts_first
             (λ after x. over-done k j i (set (set t.vars to (Some h)) from None) t.made t.hands after within (moved_done h e (Some old) f after x))
 begins-op {n = n} k j served (op.Drop v) i t now works vars there d rest next = dropping (value t.vars v) refl (λ e.
     next (i + 1) (skipped answers.Nil t) (omega arith) (works-next k j i t works) vars (stays e))
@@ -490,12 +526,10 @@ begins-op {n = n} k j served (op.Drop v) i t now works vars there d rest next = 
     dropping : (old : Option Held) → value t.vars v ≡ old → (value t.vars v ≡ None → Stands k n (rest (skipped answers.Nil t)) now) →
         Stands k n (begun_drop v old t rest) now
     dropping (Some old) e skip =
-        drop-asks k j i (set_var v None (put answers.Ok (record t { first = true }))) old now now works (nil-in k.shape t.vars v vars) (held-in k.shape t.vars v old vars e) starts_first
+        drop-asks k j i (set_var v None (put answers.Ok (record t { first = true }))) old now now works (nil-in k t.vars v vars) (held-in k t.vars v old vars e) starts_first
         (λ after x. over-done k j i (set t.vars v None) t.made t.hands after within (dropped (Some old) e after x))
     dropping None e skip = skip e
-begins-op {n = n} k j served (op.Unown to of) i t now works vars there d rest next = absurd (all-there IsServedOp j.ops i (op.Unown to of) served.served there)
 begins-op {n = n} k j served (op.Weak to of) i t now works vars there d rest next = absurd (all-there IsServedOp j.ops i (op.Weak to of) served.served there)
-begins-op {n = n} k j served (op.Load to of) i t now works vars there d rest next = absurd (all-there IsServedOp j.ops i (op.Load to of) served.served there)
 begins-op {n = n} k j served (op.Get to cell) i t now works vars there d rest next = absurd (all-there IsServedOp j.ops i (op.Get to cell) served.served there)
 begins-op {n = n} k j served (op.Set cell from) i t now works vars there d rest next = absurd (all-there IsServedOp j.ops i (op.Set cell from) served.served there)
 begins-op {n = n} k j served (op.IfNil v past) i t now works vars there d rest next = go (is_held (value t.vars v)) refl
@@ -518,7 +552,7 @@ begins-op {n = n} k j served (op.IfSome v past) i t now works vars there d rest 
         (ops_block d there refl (ap (λ (b : Bool). cond b (i + 1) past) (sym e ∙ sym (block-is t.vars v))) (served.forth i (op.IfSome v past) there).0)
 
 -- the first operation of the rest that asks for a step begins, or the phase is over
-pub begins : {n : ℕ} (k : Task) (j : Job k) → AreServed j.ops → (rest : List Op) (place at i : ℕ) (t : Thread) (now : List Made) → WorksAt k j i n t → AreIn k.shape t.vars →
+pub begins : {n : ℕ} (k : Task) (j : Job k) → AreServed (kinds_here k) j.ops → (rest : List Op) (place at i : ℕ) (t : Thread) (now : List Made) → WorksAt k j i n t → AreIn k t.vars →
     place ≡ start_of k j + at → at ≤ i → rest ≡ drop at (moved-ops k j) → AreDone k j i (state_of t.vars t.made t.hands) now → Stands k n (begun_at place rest t) now
 begins {n = n} k j served [] place at i t now works vars place_is least r d =
     let within = done-within served d in
@@ -528,7 +562,7 @@ begins {n = n} k j served [] place at i t now works vars place_is least r d =
 begins {n = n} k j served (o ∷ rest) place at i t now works vars place_is least r d =
     go (λ on u past works_on vars_on done. begins k j served rest (place + 1) (at + 1) on u now works_on vars_on (omega (arith, place_is)) past (get-drop (moved-ops k j) rest at o r).1 done) (ltb place t.index) refl
   where
-    go : ((on : ℕ) (u : Thread) → at + 1 ≤ on → WorksAt k j on n u → AreIn k.shape u.vars → AreDone k j on (state_of u.vars u.made u.hands) now → Stands k n (begun_at (place + 1) rest u) now) →
+    go : ((on : ℕ) (u : Thread) → at + 1 ≤ on → WorksAt k j on n u → AreIn k u.vars → AreDone k j on (state_of u.vars u.made u.hands) now → Stands k n (begun_at (place + 1) rest u) now) →
         (b : Bool) → ltb place t.index ≡ b → Stands k n (cond b (begun_at (place + 1) rest t) (begun_op o t (λ (behind : Thread). begun_at (place + 1) rest behind))) now
     go next true e =
         let below = ltb-true place t.index e in
@@ -568,7 +602,7 @@ program-over {n = n} k j i t works most last = go (ltb t.index (length t.program
         let index : t.index ≡ ops_in_first j.phase k.decl.phases + i = works.index_is in
         absurd (omega arith)
 
-pub goes-on : {n : ℕ} (k : Task) (j : Job k) → AreServed j.ops → (i : ℕ) (t : Thread) (now : List Made) → WorksAt k j i n t → AreIn k.shape t.vars → IsOver k j i t.vars t.made t.hands now → Stands k n (next_op t) now
+pub goes-on : {n : ℕ} (k : Task) (j : Job k) → AreServed (kinds_here k) j.ops → (i : ℕ) (t : Thread) (now : List Made) → WorksAt k j i n t → AreIn k t.vars → IsOver k j i t.vars t.made t.hands now → Stands k n (next_op t) now
 goes-on {n = n} k j served i t now works vars over = go (ltb i (length j.ops)) refl over
   where
     At : Bool → Type 0
@@ -599,17 +633,17 @@ goes-on {n = n} k j served i t now works vars over = go (ltb i (length j.ops)) r
         not_below false e most = e
         not_below true e most = let below = ltb-true (t.phase + 1) (length t.phases) e in absurd (omega arith)
 
--- the destination has its new reference, and what it held is dropped last
-pub replaces : {n : ℕ} (k : Task) (j : Job k) → AreServed j.ops → (i : ℕ) (t : Thread) (to : ℕ) (held : Held) (now : List Made) → WorksAt k j i n t → AreIn k.shape t.vars → held.place < k.shape.slots → i < length j.ops →
-    ((after : List Made) → Drops k.shape (here k j i) (operations.value (refs t.vars) to) now after → AreDone k j (i + 1) (state_of (set t.vars to (Some held)) t.made t.hands) after) →
-    Stands k n (replaced to held t) now
-replaces {n = n} k j served i t to held now works vars inside within ends = go (value t.vars to) refl
+-- the destination has its new value, and what it held is dropped last
+pub replaces : {n : ℕ} (k : Task) (j : Job k) → AreServed (kinds_here k) j.ops → (i : ℕ) (t : Thread) (to : ℕ) (new : Option Held) (now : List Made) → WorksAt k j i n t → AreIn k t.vars → AreIn k (set t.vars to new) → i < length j.ops →
+    ((after : List Made) → Drops k.shape (here k j i) (operations.value (refs t.vars) to) now after → AreDone k j (i + 1) (state_of (set t.vars to new) t.made t.hands) after) →
+    Stands k n (replaced to new t) now
+replaces {n = n} k j served i t to new now works vars inside within ends = go (value t.vars to) refl
   where
-    over : (o : Option Held) → value t.vars to ≡ o → (after : List Made) → Drops k.shape (here k j i) (ref o) now after → IsOver k j i (set t.vars to (Some held)) t.made t.hands after
+    over : (o : Option Held) → value t.vars to ≡ o → (after : List Made) → Drops k.shape (here k j i) (ref o) now after → IsOver k j i (set t.vars to new) t.made t.hands after
     over o e after x =
         let Q : Option Holding → Type 0 = λ (r : Option Holding). Drops k.shape (here k j i) r now after in
-        over-done k j i (set t.vars to (Some held)) t.made t.hands after within (ends after (subst Q (sym (value-ref t.vars to o e)) x))
+        over-done k j i (set t.vars to new) t.made t.hands after within (ends after (subst Q (sym (value-ref t.vars to o e)) x))
 
-    go : (o : Option Held) → value t.vars to ≡ o → Stands k n (replaced_old o (set_var to (Some held) t)) now
-    go None e = goes-on k j served i (set_var to (Some held) t) now works (one-in k.shape t.vars to held inside vars) (over None e now drops_nothing)
-    go (Some old) e = drop-asks k j i (set_var to (Some held) t) old now now works (one-in k.shape t.vars to held inside vars) (held-in k.shape t.vars to old vars e) starts_first (over (Some old) e)
+    go : (o : Option Held) → value t.vars to ≡ o → Stands k n (replaced_old o (set_var to new t)) now
+    go None e = goes-on k j served i (set_var to new t) now works inside (over None e now drops_nothing)
+    go (Some old) e = drop-asks k j i (set_var to new t) old now now works inside (held-in k t.vars to old vars e) starts_first (over (Some old) e)

@@ -8,41 +8,46 @@ use Rattle.arc_bits.specs.Words.{unpacked}
 use Rattle.arc_model.specs.declared.event.ObjectName.{ObjectName}
 use Rattle.arc_rule.proofs.Places.{place_at-number}
 use Rattle.arc_rule.specs.Extents.{Extent}
-use Rattle.arc_rule.specs.Isa.{isa_word_of}
+use Rattle.arc_rule.specs.Isa.{isa_word_of, isa_name_of}
 use Rattle.arc_rule.specs.Places.{number, place_at, extent_of}
 use Rattle.arc_rule.specs.declared.layout.Place.TheVariants.{Count, Isa, Next as NextPlace}
 use Rattle.arc_rule.specs.declared.plan.Next.TheVariants as nexts
 use Rattle.arc_rule.specs.declared.step.Changed.{Changed}
 use Rattle.arc_rule.specs.declared.step.Step.{Step}
 use Rattle.arc_rule.specs.declared.step.Step.TheVariants as steps
-use Rattle.arc_plan.specs.declared.attempt.At.{At}
-use Rattle.arc_plan.specs.declared.attempt.At.TheVariants as attempt
-use Rattle.arc_plan.specs.declared.attempt.Choice.{Choice}
-use Rattle.arc_plan.specs.declared.attempt.Choice.TheVariants.{Tell, Write}
+use Rattle.arc_rule.specs.declared.attempt.At.{At}
+use Rattle.arc_rule.specs.declared.attempt.At.TheVariants as attempt
+use Rattle.arc_rule.specs.declared.attempt.Choice.{Choice}
+use Rattle.arc_rule.specs.declared.attempt.Choice.TheVariants.{Tell, Write}
 use Rattle.arc_plan.specs.declared.slots.Making.{Making as Search}
 use Rattle.arc_plan.specs.declared.slots.Making.TheVariants as search
 use Rattle.arc_plan.specs.declared.slots.NewObjectAnswer.TheVariants.{NoSlot, Again}
 use Rattle.arc_plan.specs.declared.slots.Once.{Once}
 use Rattle.arc_plan.specs.declared.slots.Once.TheVariants as onces
-use Rattle.arc_plan.specs.declared.strong.StrongUpAnswer.TheVariants as ups
-use Rattle.arc_plan.specs.declared.strong.StrongDownAnswer.TheVariants as downs
 use Rattle.arc_plan.specs.declared.unowned.UnownedDownAnswer.TheVariants as unowneds
-use Rattle.arc_plan.specs.Attempts.{Attempt, CappedAttempt, chosen, answer_at as attempt_answer}
-use Rattle.arc_plan.specs.Slots.{Creation, OneStep, free_slot, new_word, looked_answer, making_answer, looking, taking, counting, naming, once_answer, vacating}
+use Rattle.arc_plan.specs.Attempts.{Attempt}
+use Rattle.arc_rule.specs.Attempts.{chosen, answer_at as attempt_answer, answer_by, turned_by, turned_at as attempt_turned}
+use Rattle.arc_side.specs.declared.up.UpAnswer.TheVariants as ups
+use Rattle.arc_side.specs.declared.down.DownAnswer.TheVariants as downs
+use Rattle.arc_side.specs.Inline.{entry_met}
+use Rattle.arc_side.specs.Ups.{Rise, up_choice, up_in, up_moved, up_place, up_answer}
+use Rattle.arc_side.specs.Downs.{Fall, down_choice, down_end, down_in, down_moved, down_place, down_answer}
+use Rattle.arc_plan.specs.Slots.{Creation, OneStep, free_slot, new_word, looked_answer, making_answer, looking, taking, counting, naming, once_answer, vacating, reading_isa}
 use Rattle.arc_rule.specs.Bits.{words_of, bit_of}
-use Rattle.arc_model.specs.Shapes.{class_at}
-use Rattle.arc_plan.specs.Strong.{strong_up_row, strong_down_row, strong_down_end}
+use Rattle.arc_model.specs.declared.shape.Kind.{Kind}
+use Rattle.arc_model.specs.Shapes.{CapNumbers, class_at}
 use Rattle.arc_plan.specs.Unowned.{unowned_down_row, unowned_down_end}
 use Rattle.arc_cells.specs.declared.cascade.At.{At as CascadeAt}
 use Rattle.arc_cells.specs.declared.cascade.At.TheVariants as at
 use Rattle.arc_ops.specs.declared.stepper.Doing.{Doing}
-use Rattle.arc_ops.specs.declared.stepper.Doing.TheVariants.{Ready, Making, Copying, Dropping, Dying, Ended}
+use Rattle.arc_ops.specs.declared.stepper.Doing.TheVariants.{Ready, Making, Gaining, Naming, Dropping, Dying, Vacating, Ended}
+use Rattle.arc_ops.specs.Plans.{list_of}
 use Rattle.arc_ops.specs.Thread.{Thread}
 use Rattle.arc_schedule.specs.Made.{Point, Made, own, is_of}
-use Rattle.arc_schedule.specs.Plans.{Reaches, new_object, strong_up, strong_down, finish, vacate}
+use Rattle.arc_schedule.specs.Plans.{Rises, Reaches, new_object, up, down, name_of, finish, vacate}
 use Rattle.arc_schedule.specs.Plans.Reaches.{starts as reaches_start, makes as reaches_next}
 use Rattle.arc_schedule.specs.Orders.{is_cell, enters, in_access}
-use Rattle.arc_schedule.proofs.Stands.{Waits, Task, here, CascadeUpTo, step_in, UpTo, Stands}
+use Rattle.arc_schedule.proofs.Stands.{Waits, Task, rises_of, here, CascadeUpTo, step_in, UpTo, Stands}
 
 -- a thread that is in no access is in none behind the step
 abbrev pub IsCalm : Extent → Step → Type 0
@@ -62,38 +67,91 @@ counted l slot old new within found =
 
 -- ---- the steps of each plan
 
-attempted : {A : Type 0} (l : Extent) (row : ℕ → Choice A) (end : ℕ → A) (again : Changed → A) (slot : ℕ) (a : At) (w : ℕ) (s : Step) → slot < l.slots →
-    attempt_answer row end again (number l (Count slot)) a w ≡ nexts.Step s → IsCalm l s
-attempted l row end again slot attempt.Start w s within e = let same : steps.Load (number l (Count slot)) ≡ s = cc in subst (IsCalm l) same (λ found. refl)
-attempted {A = A} l row end again slot attempt.Loading w s within e = go (row w) e
+attempted : {A : Type 0} (l : Extent) (row : ℕ → Choice A) (end : ℕ → A) (again : Changed → A) (place : ℕ) (a : At) (w : ℕ) (s : Step) → ((old new : ℕ) → IsCalm l (steps.Exchange place old new)) →
+    attempt_answer row end again place a w ≡ nexts.Step s → IsCalm l s
+attempted l row end again place attempt.Start w s calm e = let same : steps.Load place ≡ s = cc in subst (IsCalm l) same (λ found. refl)
+attempted {A = A} l row end again place attempt.Loading w s calm e = go (row w) e
   where
-    go : (c : Choice A) → chosen (number l (Count slot)) w c ≡ nexts.Step s → IsCalm l s
+    go : (c : Choice A) → chosen place w c ≡ nexts.Step s → IsCalm l s
     go (Tell a) e = absurd (cc)
-    go (Write new) e = let same : steps.Exchange (number l (Count slot)) w new ≡ s = cc in subst (IsCalm l) same (counted l slot w new within)
-attempted l row end again slot (attempt.Exchanging seen new) w s within e = absurd (cc)
-attempted l row end again slot attempt.Ended w s within e = let same : steps.Load (number l (Count slot)) ≡ s = cc in subst (IsCalm l) same (λ found. refl)
+    go (Write new) e = let same : steps.Exchange place w new ≡ s = cc in subst (IsCalm l) same (calm w new)
+attempted l row end again place (attempt.Exchanging seen new) w s calm e = absurd (cc)
+attempted l row end again place attempt.Ended w s calm e = let same : steps.Load place ≡ s = cc in subst (IsCalm l) same (λ found. refl)
 
-up-place : (l : Extent) (slot cap from hand : ℕ) {point : Point} {b ns : List Made} {p : CappedAttempt} {last : Option ℕ} → Reaches (strong_up l slot cap from hand) point b p last ns → (p.layout ≡ l) × (p.slot ≡ slot)
-up-place l slot cap from hand reaches_start = (refl, refl)
-up-place l slot cap from hand (reaches_next r e) = up-place l slot cap from hand r
+-- ---- a reference more or fewer
 
-up-calm : (l : Extent) (slot cap from hand : ℕ) {point : Point} {b now : List Made} {p : CappedAttempt} {asked : Option Step} → slot < l.slots → (w : Waits (strong_up l slot cap from hand) point b now p asked) → IsCalm l w.step
-up-calm l slot cap from hand within w =
-    let g = w.gave in
-    let h = up-place l slot cap from hand g.reaches in
-    let e : attempt_answer (λ v. strong_up_row g.before.cap (unpacked v)) (λ seen. ups.Up) ups.Again (number g.before.layout (Count g.before.slot)) g.before.at (unwrap_or g.last 0) ≡ nexts.Step w.step = g.answers in
-    attempted l (λ v. strong_up_row g.before.cap (unpacked v)) (λ seen. ups.Up) ups.Again slot g.before.at (unwrap_or g.last 0) w.step within (rw (h.0, h.1) at e)
+up-moves : (p : Rise) (met : Option ℕ) (a : At) → ((turned_by up_moved p (up_in p met) a).layout ≡ p.layout) × ((turned_by up_moved p (up_in p met) a).slot ≡ p.slot)
+up-moves p None a = (refl, refl)
+up-moves p (Some e) a = (refl, refl)
 
-down-place : (l : Extent) (slot hand : ℕ) {point : Point} {b ns : List Made} {p : Attempt} {last : Option ℕ} → Reaches (strong_down l slot hand) point b p last ns → (p.layout ≡ l) × (p.slot ≡ slot)
-down-place l slot hand reaches_start = (refl, refl)
-down-place l slot hand (reaches_next r e) = down-place l slot hand r
+up-place-is : (l : Extent) (caps : CapNumbers) (list : Kind) (slot : ℕ) (acts : Rises) {point : Point} {b ns : List Made} {p : Rise} {last : Option ℕ} → Reaches (up l caps list slot acts) point b p last ns → (p.layout ≡ l) × (p.slot ≡ slot)
+up-place-is l caps list slot acts reaches_start = (refl, refl)
+up-place-is l caps list slot acts (reaches_next {p = p} {last = last} r e) =
+    let h = up-place-is l caps list slot acts r in
+    let m = up-moves p (entry_met p.entry p.at last) (attempt_turned (up_choice p) p.at (unwrap_or last 0)) in
+    (m.0 ∙ h.0, m.1 ∙ h.1)
 
-down-calm : (l : Extent) (slot hand : ℕ) {point : Point} {b now : List Made} {p : Attempt} {asked : Option Step} → slot < l.slots → (w : Waits (strong_down l slot hand) point b now p asked) → IsCalm l w.step
-down-calm l slot hand within w =
-    let g = w.gave in
-    let h = down-place l slot hand g.reaches in
-    let e : attempt_answer (λ v. strong_down_row (unpacked v)) (λ seen. strong_down_end (unpacked seen)) downs.Again (number g.before.layout (Count g.before.slot)) g.before.at (unwrap_or g.last 0) ≡ nexts.Step w.step = g.answers in
-    attempted l (λ v. strong_down_row (unpacked v)) (λ seen. strong_down_end (unpacked seen)) downs.Again slot g.before.at (unwrap_or g.last 0) w.step within (rw (h.0, h.1) at e)
+-- without an entry it counts in the inline word
+up-counts : (l : Extent) (slot : ℕ) (p : Rise) → p.entry ≡ None → p.layout ≡ l → p.slot ≡ slot → up_place p ≡ number l (Count slot)
+up-counts l slot p none layout place = rw (none, layout, place) refl
+
+up-calm : (l : Extent) (caps : CapNumbers) (list : Kind) (slot : ℕ) (acts : Rises) {point : Point} {b now : List Made} {p : Rise} {asked : Option Step} → slot < l.slots → (w : Waits (up l caps list slot acts) point b now p asked) → p.entry ≡ None → IsCalm l w.step
+up-calm l caps list slot acts within w bare = go (entry_met w.gave.before.entry w.gave.before.at w.gave.last) answers (ap (λ (q : Rise). q.entry) w.gave.turned ∙ bare)
+  where
+    q : Rise
+    q = w.gave.before
+
+    word : ℕ
+    word = unwrap_or w.gave.last 0
+
+    is : (q.layout ≡ l) × (q.slot ≡ slot)
+    is = up-place-is l caps list slot acts w.gave.reaches
+
+    answers : up_answer q w.gave.last ≡ nexts.Step w.step
+    answers = w.gave.answers
+
+    go : (met : Option ℕ) → answer_by up_place (up_in q met) (attempt_answer (up_choice q) (λ seen. ups.Up) ups.Again (up_place q) q.at word) ≡ nexts.Step w.step →
+        (turned_by up_moved q (up_in q met) (attempt_turned (up_choice q) q.at word)).entry ≡ None → IsCalm l w.step
+    go None e none =
+        attempted l (up_choice q) (λ seen. ups.Up) ups.Again (up_place q) q.at word w.step
+        (λ old new. subst (λ (n : ℕ). IsCalm l (steps.Exchange n old new)) (sym (up-counts l slot q none is.0 is.1)) (counted l slot old new within)) e
+    go (Some x) e none = absurd (cc)
+
+down-moves : (p : Fall) (met : Option ℕ) (a : At) → ((turned_by down_moved p (down_in p met) a).layout ≡ p.layout) × ((turned_by down_moved p (down_in p met) a).slot ≡ p.slot)
+down-moves p None a = (refl, refl)
+down-moves p (Some e) a = (refl, refl)
+
+down-place-is : (l : Extent) (list : Kind) (slot hand : ℕ) {point : Point} {b ns : List Made} {p : Fall} {last : Option ℕ} → Reaches (down l list slot hand) point b p last ns → (p.layout ≡ l) × (p.slot ≡ slot)
+down-place-is l list slot hand reaches_start = (refl, refl)
+down-place-is l list slot hand (reaches_next {p = p} {last = last} r e) =
+    let h = down-place-is l list slot hand r in
+    let m = down-moves p (entry_met p.entry p.at last) (attempt_turned (down_choice p) p.at (unwrap_or last 0)) in
+    (m.0 ∙ h.0, m.1 ∙ h.1)
+
+down-counts : (l : Extent) (slot : ℕ) (p : Fall) → p.entry ≡ None → p.layout ≡ l → p.slot ≡ slot → down_place p ≡ number l (Count slot)
+down-counts l slot p none layout place = rw (none, layout, place) refl
+
+down-calm : (l : Extent) (list : Kind) (slot hand : ℕ) {point : Point} {b now : List Made} {p : Fall} {asked : Option Step} → slot < l.slots → (w : Waits (down l list slot hand) point b now p asked) → p.entry ≡ None → IsCalm l w.step
+down-calm l list slot hand within w bare = go (entry_met w.gave.before.entry w.gave.before.at w.gave.last) answers (ap (λ (q : Fall). q.entry) w.gave.turned ∙ bare)
+  where
+    q : Fall
+    q = w.gave.before
+
+    word : ℕ
+    word = unwrap_or w.gave.last 0
+
+    is : (q.layout ≡ l) × (q.slot ≡ slot)
+    is = down-place-is l list slot hand w.gave.reaches
+
+    answers : down_answer q w.gave.last ≡ nexts.Step w.step
+    answers = w.gave.answers
+
+    go : (met : Option ℕ) → answer_by down_place (down_in q met) (attempt_answer (down_choice q) (down_end q) downs.Again (down_place q) q.at word) ≡ nexts.Step w.step →
+        (turned_by down_moved q (down_in q met) (attempt_turned (down_choice q) q.at word)).entry ≡ None → IsCalm l w.step
+    go None e none =
+        attempted l (down_choice q) (down_end q) downs.Again (down_place q) q.at word w.step
+        (λ old new. subst (λ (n : ℕ). IsCalm l (steps.Exchange n old new)) (sym (down-counts l slot q none is.0 is.1)) (counted l slot old new within)) e
+    go (Some x) e none = absurd (cc)
 
 finish-place : (l : Extent) (slot : ℕ) {point : Point} {b ns : List Made} {p : Attempt} {last : Option ℕ} → Reaches (finish l slot) point b p last ns → (p.layout ≡ l) × (p.slot ≡ slot)
 finish-place l slot reaches_start = (refl, refl)
@@ -104,7 +162,7 @@ finish-calm l slot within w =
     let g = w.gave in
     let h = finish-place l slot g.reaches in
     let e : attempt_answer (λ v. unowned_down_row (unpacked v)) (λ seen. unowned_down_end (unpacked seen)) unowneds.Again (number g.before.layout (Count g.before.slot)) g.before.at (unwrap_or g.last 0) ≡ nexts.Step w.step = g.answers in
-    attempted l (λ v. unowned_down_row (unpacked v)) (λ seen. unowned_down_end (unpacked seen)) unowneds.Again slot g.before.at (unwrap_or g.last 0) w.step within (rw (h.0, h.1) at e)
+    attempted l (λ v. unowned_down_row (unpacked v)) (λ seen. unowned_down_end (unpacked seen)) unowneds.Again (number l (Count slot)) g.before.at (unwrap_or g.last 0) w.step (λ old new. counted l slot old new within) (rw (h.0, h.1) at e)
 
 searched : (l : Extent) (p : Creation) (a : Search) (w : ℕ) (s : Step) → making_answer p a w ≡ nexts.Step s → IsCalm l s
 searched l p search.Start w s e = let same : looking p.layout 0 ≡ s = cc in subst (IsCalm l) same (λ found. refl)
@@ -137,6 +195,17 @@ vacate-calm l slot w = go w.gave.before.at w.gave.answers
     go onces.Asked e = absurd (cc)
     go onces.Ended e = absurd (cc)
 
+name-calm : (l : Extent) (slot : ℕ) {point : Point} {b now : List Made} {p : OneStep} {asked : Option Step} → (w : Waits (name_of l slot) point b now p asked) → IsCalm l w.step
+name-calm l slot w = go w.gave.before.at w.gave.answers
+  where
+    name : ObjectName
+    name = isa_name_of (unwrap_or w.gave.last 0)
+
+    go : (a : Once) → once_answer {A = ObjectName} (reading_isa w.gave.before) name a ≡ nexts.Step w.step → IsCalm l w.step
+    go onces.Start e = let same : reading_isa w.gave.before ≡ w.step = cc in subst (IsCalm l) same (λ found. refl)
+    go onces.Asked e = absurd (cc)
+    go onces.Ended e = absurd (cc)
+
 -- ---- the stepper
 
 pub calm : (k : Task) (n : ℕ) (t : Thread) (s : Step) (now : List Made) → Stands k n t now → step_in t.asked ≡ Some s → IsCalm (extent_of k.shape) s
@@ -151,8 +220,11 @@ calm k n t s now st asked = go t.doing st.up_to
     go : (d : Doing) → UpTo k st.job st.at t.vars t.made t.hands t.asked now d → Calm s
     go Ready u = let e : step_in t.asked ≡ None = ap step_in u.0 in absurd (cc)
     go (Making to name plan) u = is u.waits.step u.waits.asked_is (making-calm (extent_of k.shape) (class_at k.shape name.class).immortal name (u.held + 1) u.waits)
-    go (Copying to held plan) u = is u.waits.step u.waits.asked_is (up-calm (extent_of k.shape) held.place k.shape.caps.strong held.hand (t.hands + 1) u.within u.waits)
-    go (Dropping held plan) u = is u.waits.step u.waits.asked_is (down-calm (extent_of k.shape) held.place held.hand u.within u.waits)
+    go (Gaining gain to held plan) u =
+        is u.waits.step u.waits.asked_is (up-calm (extent_of k.shape) k.shape.caps (list_of gain held) held.place (rises_of gain held.hand (t.hands + 1)) u.inside.place u.waits u.bare)
+    go (Naming to held plan) u = is u.waits.step u.waits.asked_is (name-calm (extent_of k.shape) held.place u.waits)
+    go (Dropping held plan) u = is u.waits.step u.waits.asked_is (down-calm (extent_of k.shape) held.kind held.place held.hand u.inside.place u.waits u.bare)
+    go (Vacating slot plan) u = is u.waits.step u.waits.asked_is (vacate-calm (extent_of k.shape) slot u.waits)
     go (Dying c) u = dying c.at u.place
       where
         dying : (a : CascadeAt) → CascadeUpTo k.shape (here k st.job st.at) c.slot u.base now (step_in t.asked) a → Calm s

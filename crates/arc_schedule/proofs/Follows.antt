@@ -12,7 +12,9 @@ use Rattle.arc_script.specs.declared.script.ThreadDecl.{ThreadDecl}
 use Rattle.arc_script.specs.declared.script.Script.{Script}
 use Rattle.arc_script.specs.Valid.{IsScript}
 use Rattle.arc_ops.specs.Served.{IsServed}
-use Rattle.arc_ops.specs.Thread.{Thread, stepper_of, takes, turned}
+use Rattle.arc_ops.specs.Thread.{Thread, stepper_of}
+use Rattle.arc_ops.specs.Turns.{turned}
+use Rattle.arc_ops.specs.Takes.{takes}
 use Rattle.arc_replays.specs.Stages.Reached.{new, begins, makes, passes, by_number, last, last_step}
 use Rattle.arc_replays.specs.Stages.{Stage, MayStep, Reached, is_step, has_step, begun_threads, stepped}
 use Rattle.arc_schedule.specs.Made.{Made, made_at, own}
@@ -100,7 +102,7 @@ steps-on script some valid served s p places t step intent f other may ordered =
 
             kept : Stands k s.begun new (own (i + 1) (m ∷ f.ms))
             kept = subst (λ (xs : List Made). Stands k s.begun new xs) (sym (own-this m f.ms (i + 1) refl))
-                (keeps k s.begun t step found (own (i + 1) f.ms) st (job-served script valid served i d.0 d.1 st.job.phase st.job.ops st.job.there) served.without_fields asked may.takes_it)
+                (keeps k s.begun t step found (own (i + 1) f.ms) st (job-served script some valid served i d.0 d.1 st.job.phase st.job.ops st.job.there) served.without_fields asked may.takes_it)
 
             stand : AllStand script some s.begun (set s.threads p new) (m ∷ f.ms)
             stand x decl u at get = which (eqb i x) refl

@@ -1,20 +1,20 @@
 -- Each word that a stepper is given keeps what it stands for, with the step that found it.
 use Rattle.std.proofs.Common.{◌≡◌, ℕ, zero, suc, ◌+◌, ◌<◌, Bool, true, false, cond, eqb, ltb, List, [], ◌∷◌, length, take, drop, set, get_or, Option, Some, None, refl, sym, ap, subst, ◌∙◌, arith}
-use Rattle.std.proofs.lemmas.Bool.{eqb-true}
 use Rattle.std.proofs.lemmas.Option.{same_Some, slice_get_within}
 use Rattle.std.proofs.lemmas.List.Elements.{recursion_from_All}
-use Rattle.std.specs.Prelude.{bit_and}
+use Rattle.std.specs.Prelude.{bit_and, slice_get, ⊤}
 use Rattle.std.specs.List.{AllByRecursion}
 use Rattle.arc_bits.specs.declared.packing.Word.{Word}
 use Rattle.arc_bits.specs.declared.packing.Word.TheVariants.{Free, Counts, Slow, Immortal}
-use Rattle.arc_bits.specs.Words.{unpacked, packed}
-use Rattle.arc_bits.specs.Moves.{strong_more}
+use Rattle.arc_bits.specs.Words.{unpacked}
 use Rattle.arc_model.specs.declared.answer.Answer.TheVariants as answers
 use Rattle.arc_model.specs.declared.event.ObjectName.{ObjectName}
-use Rattle.arc_model.specs.declared.event.Origin.TheVariants.{Hand}
 use Rattle.arc_model.specs.declared.event.Act.{Act}
 use Rattle.arc_model.specs.declared.event.Act.TheVariants as acts
-use Rattle.arc_model.specs.Shapes.{HeapShape, ObjectClass, class_at}
+use Rattle.arc_model.specs.declared.event.Got.TheVariants as gots
+use Rattle.arc_model.specs.declared.shape.Kind.{Kind}
+use Rattle.arc_model.specs.declared.shape.Kind.TheVariants.{Strong, Unowned, Weak}
+use Rattle.arc_model.specs.Shapes.{CapNumbers, HeapShape, ObjectClass, class_at}
 use Rattle.arc_rule.specs.Extents.{Extent}
 use Rattle.arc_rule.specs.Isa.{isa_name_of}
 use Rattle.arc_rule.specs.Places.{number, extent_of}
@@ -23,23 +23,30 @@ use Rattle.arc_rule.specs.declared.plan.Next.{Next}
 use Rattle.arc_rule.specs.declared.plan.Next.TheVariants as nexts
 use Rattle.arc_rule.specs.declared.step.Step.{Step}
 use Rattle.arc_rule.specs.declared.step.Intent.TheVariants as intents
-use Rattle.arc_plan.specs.declared.attempt.At.{At}
-use Rattle.arc_plan.specs.declared.attempt.At.TheVariants as attempt
-use Rattle.arc_plan.specs.declared.attempt.Choice.TheVariants.{Tell, Write}
+use Rattle.arc_rule.specs.declared.attempt.At.{At}
+use Rattle.arc_rule.specs.declared.attempt.At.TheVariants as attempt
+use Rattle.arc_rule.specs.declared.attempt.Choice.{Choice}
+use Rattle.arc_rule.specs.declared.attempt.Choice.TheVariants.{Tell, Write}
 use Rattle.arc_plan.specs.declared.slots.Making.{Making as Search}
 use Rattle.arc_plan.specs.declared.slots.Making.TheVariants as search
 use Rattle.arc_plan.specs.declared.slots.NewObjectAnswer.{NewObjectAnswer}
 use Rattle.arc_plan.specs.declared.slots.NewObjectAnswer.TheVariants.{Slot, NoSlot, Again}
-use Rattle.arc_plan.specs.declared.strong.StrongUpAnswer.{StrongUpAnswer}
-use Rattle.arc_plan.specs.declared.strong.StrongUpAnswer.TheVariants as ups
-use Rattle.arc_plan.specs.declared.strong.StrongDownAnswer.{StrongDownAnswer}
-use Rattle.arc_plan.specs.declared.strong.StrongDownAnswer.TheVariants as downs
 use Rattle.arc_plan.specs.declared.unowned.UnownedDownAnswer.{UnownedDownAnswer}
 use Rattle.arc_plan.specs.declared.unowned.UnownedDownAnswer.TheVariants as unowneds
-use Rattle.arc_plan.specs.Attempts.{Attempt, CappedAttempt, chosen, takes_at as attempt_takes, answer_at as attempt_answer}
-use Rattle.arc_plan.specs.Strong.{StrongUpWord, strong_up_row, strong_up_turned, strong_up_answer, strong_up_takes, strong_down_row, strong_down_end, strong_down_turned, strong_down_answer}
+use Rattle.arc_plan.specs.Attempts.{Attempt}
+use Rattle.arc_rule.specs.Attempts.{chosen, told_as, answer_by, turned_by, answer_at as attempt_answer, turned_at as attempt_turned}
+use Rattle.arc_side.specs.declared.up.UpAnswer.{UpAnswer}
+use Rattle.arc_side.specs.declared.up.UpAnswer.TheVariants as ups
+use Rattle.arc_side.specs.declared.down.DownAnswer.{DownAnswer}
+use Rattle.arc_side.specs.declared.down.DownAnswer.TheVariants as downs
+use Rattle.arc_side.specs.Inline.{IsCountedInline, entry_named, entry_met}
+use Rattle.arc_side.specs.Ups.{Rise, up_in, up_moved, up_choice, up_turned, up_answer}
+use Rattle.arc_side.specs.Downs.{Fall, down_in, down_moved, down_place, down_choice, down_end_at, down_end, of_strong_down, of_unowned_down, down_turned, down_answer}
+use Rattle.arc_plan.specs.declared.strong.StrongDownAnswer.{StrongDownAnswer}
+use Rattle.arc_plan.specs.declared.strong.StrongDownAnswer.TheVariants as strongs
+use Rattle.arc_plan.specs.Strong.{strong_down_row, strong_down_end}
 use Rattle.arc_plan.specs.Unowned.{unowned_down_row, unowned_down_end, unowned_down_turned, unowned_down_answer}
-use Rattle.arc_plan.specs.Slots.{Creation, OneStep, free_slot, looked, looked_answer, creation_turned, creation_answer, making_turned, making_answer, looking, taking, counting, naming, one_turned, vacate_answer}
+use Rattle.arc_plan.specs.Slots.{Creation, OneStep, free_slot, looked, looked_answer, creation_turned, creation_answer, making_turned, making_answer, looking, taking, counting, naming, one_turned, name_of_answer, vacate_answer}
 use Rattle.arc_plan.proofs.Bits.{free_is_clear}
 use Rattle.arc_rule.specs.Bits.{words_of, bit_of}
 use Rattle.arc_cells.specs.declared.cascade.At.{At as CascadeAt}
@@ -49,78 +56,125 @@ use Rattle.arc_cells.specs.Cascades.{HasNoFields, CascadeState, IsInline, IsInli
 use Rattle.arc_script.specs.declared.script.Op.TheVariants as op
 use Rattle.arc_ops.specs.declared.stepper.Held.{Held}
 use Rattle.arc_ops.specs.declared.stepper.Doing.{Doing}
-use Rattle.arc_ops.specs.declared.stepper.Doing.TheVariants.{Ready, Making, Copying, Dropping, Dying, Ended}
+use Rattle.arc_ops.specs.declared.stepper.Doing.TheVariants.{Ready, Making, Gaining, Naming, Dropping, Dying, Vacating, Ended}
 use Rattle.arc_ops.specs.declared.stepper.Move.TheVariants as moves
-use Rattle.arc_ops.specs.Thread.{Thread, put, made_on, creation_from, copied_on, copy_from, dropped_on, dying_on, phase_end, IsUpWord, IsUpWordAt, IsUpAnswer, IsDownAnswer, turned_at, turned, takes_at, takes}
+use Rattle.arc_ops.specs.declared.gain.Gain.{Gain}
+use Rattle.arc_ops.specs.declared.gain.Gain.TheVariants as gains
+use Rattle.arc_ops.specs.Programs.{kind_of}
+use Rattle.arc_ops.specs.Thread.{Thread, value, put}
+use Rattle.arc_ops.specs.Plans.{op_of, list_of, creation_from, name_from, vacate_from as ending_from}
+use Rattle.arc_ops.specs.Gains.{gained, came_by, has_gained, found_dead, gained_on, named_on}
+use Rattle.arc_ops.specs.Steppers.{IsHeld}
+use Rattle.arc_ops.proofs.Moves.{gain_answers}
+use Rattle.arc_spelled.proofs.KindsKept.{gained-kind}
+use Rattle.arc_ops.specs.Begins.{phase_end}
+use Rattle.arc_ops.specs.Drops.{last_gone, dropped_on, dying_on, vacated_on}
+use Rattle.arc_ops.specs.Makes.{strong_to, made_on}
+use Rattle.arc_ops.specs.Turns.{turned_at, turned}
+use Rattle.arc_ops.specs.Takes.{FindsDead, IsGainWord, IsInlineAt as IsBareAt, IsGainAnswer, gain_takes, takes_at, takes}
 use Rattle.arc_schedule.specs.Made.{Point, Made, made_at}
-use Rattle.arc_schedule.specs.Plans.{Plan, Reaches, Gives, new_object, strong_up, strong_down, finish, vacate, making_told, told_by, up_told, down_told, finish_told, vacate_told}
+use Rattle.arc_schedule.specs.Plans.{Plan, Reaches, Gives, new_object, down, name_of, finish, vacate, making_told, told_by, up_told, down_told, finish_told, vacate_told}
 use Rattle.arc_schedule.specs.Plans.Reaches.{starts as reaches_start, makes as reaches_next}
 use Rattle.arc_schedule.specs.Plans.Starts.{first as starts_first}
-use Rattle.arc_schedule.specs.Operations.{Variables, next_name, loads, FieldsDone}
+use Rattle.arc_schedule.specs.Operations.{Holding, Variables, State, reference_to, next_name, loads, FieldsDone, SlotEnds, Drops}
 use Rattle.arc_schedule.specs.Operations.FieldsDone.{entered}
 use Rattle.arc_schedule.specs.Operations.IsCascade.{more as cascade_more, last as cascade_last}
-use Rattle.arc_schedule.specs.Operations.Drops.{more as drops_more, last as drops_last}
-use Rattle.arc_schedule.specs.Operations.Does.{makes as does_make, full as does_full, copies as does_copy}
-use Rattle.arc_schedule.proofs.Stands.{Gave, waits, begun-from, given, gives, starts-again, Waits, Task, Job, state_of, here, MadeUpTo, IsMaking, IsCopying, IsDropping, AllDone, IsFinishing, IsVacating, CascadeUpTo, IsDying, step_in, UpTo, AreServed, WorksAt, AreIn, IsIn, Stands}
-use Rattle.arc_schedule.proofs.Begins.{value-ref, put-ref, over-done, op-done, drop-asks, rest-is, begins, goes-on, replaces}
-use Rattle.arc_schedule.proofs.Tells.{idle, makes-tells, copies-tells, drops-tells, finish-tells, vacates-tells}
+use Rattle.arc_schedule.specs.Operations.SlotEnds.{bare as slot_ends}
+use Rattle.arc_schedule.specs.Operations.Drops.{more as drops_more, last as drops_last, last_unowned as drops_last_unowned}
+use Rattle.arc_schedule.specs.Operations.Does.{makes as does_make, full as does_full, copies as does_copy, unowns as does_unown, load_gives as does_load, load_finds_dead as finds_dead}
+use Rattle.arc_schedule.specs.Operations as operations
+use Rattle.arc_schedule.proofs.Stands.{Gave, waits, begun-from, given, gives, starts-again, Waits, Task, Job, kinds_here, ref, refs, state_of, AreDone, here, IsOver, MadeUpTo, IsMaking, rises_of, gain_plan, IsGaining, IsNaming, IsDropping, IsEnding, AllDone, IsFinishing, IsVacating, CascadeUpTo, IsDying, step_in, UpTo, AreServed, WorksAt, AreIn, IsIn, Stands}
+use Rattle.arc_schedule.proofs.Begins.{value-ref, put-ref, nil-in, one-in, over-done, op-done, drop-asks, gain-asks, rest-is, begins, goes-on, replaces}
+use Rattle.arc_schedule.proofs.Tells.{idle, makes-tells, gains-tells, names-tells, drops-tells, ends-tells, finish-tells, vacates-tells}
 
 -- ---- which answers the words allow
 
-up-answer : (p : CappedAttempt) (w : ℕ) → strong_up_takes p (Some w) → IsUpWordAt p.cap p.at w → IsUpAnswer (strong_up_answer p (Some w))
-up-answer p w takes fits = go p.at takes fits
+-- the words that may be given name no entry, so the plan goes on to none
+none-met : (Fits : Option Word → Type 0) → ((e : ℕ) → Fits (Some (Slow e)) → ⊥) → (entry : Option ℕ) (a : At) (w : ℕ) → IsBareAt Fits entry a w → (entry ≡ None) × (entry_met entry a (Some w) ≡ None)
+none-met Fits slow (Some e) a w fits = absurd fits
+none-met Fits slow None attempt.Start w fits = (refl, refl)
+none-met Fits slow None attempt.Loading w fits = (refl, named (unpacked w) fits)
   where
-    loaded : (o : Option Word) → IsUpWord p.cap o → IsUpAnswer (chosen (number p.layout (Count p.slot)) w (strong_up_row p.cap o))
-    loaded None fits = absurd fits
-    loaded (Some Free) fits = absurd fits
-    loaded (Some (Slow e)) fits = absurd fits
-    loaded (Some Immortal) fits = tt
-    loaded (Some (Counts c)) fits = two c.deiniting (eqb c.strong_extra p.cap) refl refl
-      where
-        two : (dead full : Bool) → c.deiniting ≡ dead → eqb c.strong_extra p.cap ≡ full →
-            IsUpAnswer (chosen (number p.layout (Count p.slot)) w (cond dead (Tell ups.Dead) (cond full (Tell ups.AtCap) (Write (packed (Counts (strong_more c)))))))
-        two true full e f = let a = fits.0 in absurd (cc)
-        two false true e f = let same = eqb-true c.strong_extra p.cap f in let below = fits.1 in absurd (omega arith)
-        two false false e f = tt
+    named : (o : Option Word) → Fits o → entry_named o ≡ None
+    named None fits = refl
+    named (Some Free) fits = refl
+    named (Some (Slow e)) fits = absurd (slow e fits)
+    named (Some Immortal) fits = refl
+    named (Some (Counts c)) fits = refl
+none-met Fits slow None (attempt.Exchanging seen new) w fits = (refl, refl)
+none-met Fits slow None attempt.Ended w fits = (refl, refl)
 
-    found : (seen : ℕ) (b : Bool) → IsUpAnswer (nexts.Done (cond b ups.Up (ups.Again (record { seen = seen; found = w }))))
-    found seen true = tt
-    found seen false = tt
+gain-slow : (gain : Gain) (list : Kind) (caps : CapNumbers) (e : ℕ) → IsGainWord gain list caps (Some (Slow e)) → ⊥
+gain-slow gain list caps e h = h
 
-    go : (a : At) → attempt_takes (StrongUpWord p) a (Some w) → IsUpWordAt p.cap a w →
-        IsUpAnswer (attempt_answer (λ v. strong_up_row p.cap (unpacked v)) (λ seen. ups.Up) ups.Again (number p.layout (Count p.slot)) a w)
-    go attempt.Start takes fits = tt
-    go attempt.Loading takes fits = loaded (unpacked w) fits
-    go (attempt.Exchanging seen new) takes fits = found seen (eqb w seen)
-    go attempt.Ended takes fits = tt
+up-bare : (gain : Gain) (p : Rise) (w : ℕ) → gain_takes gain p (Some w) → (up_turned p (Some w)).entry ≡ None
+up-bare gain p w takes =
+    let m = none-met (IsGainWord gain p.list p.caps) (gain-slow gain p.list p.caps) p.entry p.at w takes.1 in
+    ap (λ (o : Option ℕ). (turned_by up_moved p (up_in p o) (attempt_turned (up_choice p) p.at w)).entry) m.1 ∙ m.0
 
-down-answer : (p : Attempt) (w : ℕ) → IsInlineAt p.at w → IsDownAnswer (strong_down_answer p (Some w))
-down-answer p w fits = go p.at fits
+down-met : (p : Fall) (w : ℕ) → IsBareAt IsInline p.entry p.at w → (p.entry ≡ None) × (entry_met p.entry p.at (Some w) ≡ None)
+down-met p w fits = none-met IsInline (λ e h. h) p.entry p.at w fits
+
+down-bare : (p : Fall) (w : ℕ) → IsBareAt IsInline p.entry p.at w → (down_turned p (Some w)).entry ≡ None
+down-bare p w fits =
+    let m = down-met p w fits in
+    ap (λ (o : Option ℕ). (turned_by down_moved p (down_in p o) (attempt_turned (down_choice p) p.at w)).entry) m.1 ∙ m.0
+
+-- so the last reference that an inline word counts is no entry's
+abbrev HasNoEntry : Next DownAnswer → Type 0
+HasNoEntry (nexts.Done (downs.Last entry)) = entry ≡ None
+HasNoEntry _ = ⊤
+
+inline-last : (layout : Extent) (slot : ℕ) (list : Kind) (a : At) (w : ℕ) →
+    HasNoEntry (attempt_answer (down_choice (record { layout = layout; slot = slot; list = list; entry = None; at = a })) (down_end (record { layout = layout; slot = slot; list = list; entry = None; at = a })) downs.Again
+    (down_place (record { layout = layout; slot = slot; list = list; entry = None; at = a })) a w)
+inline-last layout slot list attempt.Start w = tt
+inline-last layout slot list attempt.Ended w = tt
+inline-last layout slot Weak attempt.Loading w = tt
+inline-last layout slot Strong attempt.Loading w = go (strong_down_row (unpacked w))
   where
-    loaded : (o : Option Word) → IsInline o → IsDownAnswer (chosen (number p.layout (Count p.slot)) w (strong_down_row o))
-    loaded None fits = tt
-    loaded (Some Free) fits = tt
-    loaded (Some (Slow e)) fits = absurd fits
-    loaded (Some Immortal) fits = tt
-    loaded (Some (Counts c)) fits = tt
+    go : (c : Choice StrongDownAnswer) → HasNoEntry (chosen (number layout (Count slot)) w (told_as of_strong_down c))
+    go (Write new) = tt
+    go (Tell strongs.More) = tt
+    go (Tell strongs.Last) = refl
+    go (Tell (strongs.Slow e)) = tt
+    go (Tell (strongs.Again c)) = tt
+inline-last layout slot Unowned attempt.Loading w = go (unowned_down_row (unpacked w))
+  where
+    go : (c : Choice UnownedDownAnswer) → HasNoEntry (chosen (number layout (Count slot)) w (told_as of_unowned_down c))
+    go (Write new) = tt
+    go (Tell unowneds.More) = tt
+    go (Tell unowneds.Last) = refl
+    go (Tell (unowneds.Slow e)) = tt
+    go (Tell (unowneds.Again c)) = tt
+inline-last layout slot list (attempt.Exchanging seen new) w = ended list (eqb w seen)
+  where
+    strong : (a : StrongDownAnswer) → HasNoEntry (nexts.Done (of_strong_down a))
+    strong strongs.More = tt
+    strong strongs.Last = refl
+    strong (strongs.Slow e) = tt
+    strong (strongs.Again c) = tt
 
-    ended : (b : Bool) → IsDownAnswer (nexts.Done (cond b downs.Last downs.More))
-    ended true = tt
-    ended false = tt
+    unowned : (a : UnownedDownAnswer) → HasNoEntry (nexts.Done (of_unowned_down a))
+    unowned unowneds.More = tt
+    unowned unowneds.Last = refl
+    unowned (unowneds.Slow e) = tt
+    unowned (unowneds.Again c) = tt
 
-    found : (seen : ℕ) (b : Bool) (o : Option Word) → IsDownAnswer (nexts.Done (cond b (strong_down_end o) (downs.Again (record { seen = seen; found = w }))))
-    found seen true None = tt
-    found seen true (Some Free) = tt
-    found seen true (Some (Slow e)) = tt
-    found seen true (Some Immortal) = tt
-    found seen true (Some (Counts c)) = ended (eqb c.strong_extra 0)
-    found seen false o = tt
+    ended : (list : Kind) (b : Bool) → HasNoEntry (nexts.Done (cond b (down_end_at None list seen) (downs.Again (record { seen = seen; found = w }))))
+    ended list false = tt
+    ended Strong true = strong (strong_down_end (unpacked seen))
+    ended Unowned true = unowned (unowned_down_end (unpacked seen))
+    ended Weak true = tt
 
-    go : (a : At) → IsInlineAt a w → IsDownAnswer (attempt_answer (λ v. strong_down_row (unpacked v)) (λ seen. strong_down_end (unpacked seen)) downs.Again (number p.layout (Count p.slot)) a w)
-    go attempt.Start fits = tt
-    go attempt.Loading fits = loaded (unpacked w) fits
-    go (attempt.Exchanging seen new) fits = found seen (eqb w seen) (unpacked seen)
-    go attempt.Ended fits = tt
+last-bare : (p : Fall) (w : ℕ) → IsBareAt IsInline p.entry p.at w → HasNoEntry (down_answer p (Some w))
+last-bare p w fits = go p.entry (down-met p w fits).0 (entry_met p.entry p.at (Some w)) (down-met p w fits).1
+  where
+    go : (entry : Option ℕ) → entry ≡ None → (met : Option ℕ) → met ≡ None →
+        HasNoEntry (answer_by down_place (down_in (record p { entry = entry }) met) (attempt_answer (down_choice (record p { entry = entry })) (down_end (record p { entry = entry })) downs.Again (down_place (record p { entry = entry })) p.at w))
+    go None none None unmet = inline-last p.layout p.slot p.list p.at w
+    go None none (Some e) unmet = absurd (cc)
+    go (Some e) none met unmet = absurd (cc)
 
 less-answer : (p : Attempt) (w : ℕ) → IsInlineAt p.at w → IsInlineAnswer (unowned_down_answer p (Some w))
 less-answer p w fits = go p.at fits
@@ -159,7 +213,7 @@ creation-layout l immortal name hand (reaches_next r e) = creation-layout l immo
 making-layout : (l : Extent) (immortal : Bool) (name : ObjectName) (hand : ℕ) {point : Point} {b ns : List Made} {p : Creation} {asked : Option Step} → Waits (new_object l immortal name hand) point b ns p asked → p.layout ≡ l
 making-layout l immortal name hand w = sym (ap (λ (q : Creation). q.layout) w.gave.turned) ∙ creation-layout l immortal name hand w.gave.reaches
 
-makes : {n : ℕ} (k : Task) (j : Job k) → AreServed j.ops → (i : ℕ) (t : Thread) (s : Step) (w : ℕ) (now : List Made) → WorksAt k j i n t → AreIn k.shape t.vars →
+makes : {n : ℕ} (k : Task) (j : Job k) → AreServed (kinds_here k) j.ops → (i : ℕ) (t : Thread) (s : Step) (w : ℕ) (now : List Made) → WorksAt k j i n t → AreIn k t.vars →
     (to : ℕ) (name : ObjectName) (plan : Creation) (u : IsMaking k j i to name plan t.vars t.made t.hands (Some s) now) →
     Stands k n (made_on to name (creation_turned plan (Some w)) (creation_answer plan (Some w)) (idle t)) (made_at (here k j i) s w (making_told (u.held + 1) name.class plan.at (creation_answer plan (Some w))) ∷ now)
 makes {n = n} k j served i t s w now works vars to name plan u = go plan.at u.count (given new (here k j i) u.base now plan s w u.waits)
@@ -242,48 +296,52 @@ makes {n = n} k j served i t s w now works vars to name plan u = go plan.at u.co
     go (search.Taking x seen) count g = took x seen count (eqb (bit_and w (bit_of x)) 0) g
     go (search.Counting x) count g = asks t.made t.hands None (record plan { at = search.Naming x }) (naming plan.layout plan.name x) count g
     go (search.Naming x) count g =
-        replaces k j served i (put (answers.New name) (idle t)) to (record { hand = t.hands; place = x }) after works vars count.2 within
-        (λ end x'. op-done k j i (op.New to name.class) (state_of t.vars u.before u.held) (state_of (set t.vars to (Some (record { hand = t.hands; place = x }))) t.made t.hands) u.base end u.done u.there
+        replaces k j served i (put (answers.New name) (idle t)) to (Some (strong_to t.hands x)) after works vars
+        (one-in k t.vars to (strong_to t.hands x) (record { place = count.2; kind = tt }) (sym (served.kinds_fit i (op.New to name.class) u.there)) vars) within
+        (λ end x'. op-done k j i (op.New to name.class) (state_of t.vars u.before u.held) (state_of (set t.vars to (Some (strong_to t.hands x))) t.made t.hands) u.base end u.done u.there
         (does_make count.2 (named (gives new (here k j i) u.base after _ (Slot x) refl g)) x'
-        (let v = put-ref t.vars to (Some (record { hand = t.hands; place = x })) in let n = count.0 in let m = count.1 in rw (v, n, m) refl)))
+        (let v = put-ref t.vars to (Some (strong_to t.hands x)) in let n = count.0 in let m = count.1 in rw (v, n, m) refl)))
     go search.Ended count g = absurd count
 
--- ---- a reference is copied
+-- ---- a reference is gained
 
-copies : {n : ℕ} (k : Task) (j : Job k) → AreServed j.ops → (i : ℕ) (t : Thread) (s : Step) (w : ℕ) (now : List Made) → WorksAt k j i n t → AreIn k.shape t.vars →
-    (to : ℕ) (held : Held) (plan : CappedAttempt) → IsCopying k j i to held plan t.vars t.made t.hands (Some s) now → strong_up_takes plan (Some w) → IsUpWordAt plan.cap plan.at w →
-    Stands k n (copied_on to held (strong_up_turned plan (Some w)) (strong_up_answer plan (Some w)) (idle t)) (made_at (here k j i) s w (told_by (up_told held.hand (t.hands + 1)) (strong_up_answer plan (Some w))) ∷ now)
-copies {n = n} k j served i t s w now works vars to held plan u takes fits =
-    go (strong_up_answer plan (Some w)) (up-answer plan w takes fits) (given up (here k j i) u.base now plan s w u.waits)
+-- the reference is there: a copy and an unowned reference go into their variable, and a load reads the name first
+has-gained : {n : ℕ} (k : Task) (j : Job k) → AreServed (kinds_here k) j.ops → (i : ℕ) (gain : Gain) (to from : ℕ) (held : Held) (t : Thread) (base after : List Made) → WorksAt k j i n t → AreIn k t.vars →
+    AreDone k j i (state_of t.vars t.made t.hands) base → slice_get j.ops i ≡ Some (op_of gain to from) → value t.vars from ≡ Some held → IsHeld k.shape.slots held →
+    Gives (gain_plan k gain held t.hands) (here k j i) base ups.Up after → Stands k n (has_gained gain to (gained gain held t) (came_by gain held (idle t))) after
+has-gained {n = n} k j served i gain to from held t base after works vars so_far there source inside up_gives = go gain kind_is there up_gives
   where
-    up : Plan CappedAttempt StrongUpAnswer
-    up = strong_up (extent_of k.shape) held.place k.shape.caps.strong held.hand (t.hands + 1)
-
-    after : List Made
-    after = made_at (here k j i) s w (told_by (up_told held.hand (t.hands + 1)) (strong_up_answer plan (Some w))) ∷ now
+    kind_is : list_of gain held ≡ kind_of (kinds_here k) to
+    kind_is = gained-kind (kinds_here k) gain to from held (served.kinds_fit i (op_of gain to from) there) (vars.kinds from held source)
 
     within : i < length j.ops
-    within = slice_get_within j.ops i (op.Copy to u.from) u.there
+    within = slice_get_within j.ops i (op_of gain to from) there
 
-    new : Held
-    new = record { hand = t.hands + 1; place = held.place }
+    source_of : (kind : Kind) → held.kind ≡ kind → operations.value (refs t.vars) from ≡ reference_to held.hand kind held.place
+    source_of kind is = value-ref t.vars from (Some held) source ∙ ap (λ (c : Kind). reference_to held.hand c held.place) is
 
-    copy-waits : (p : CappedAttempt) (s : Step) → Gave up (here k j i) u.base after (nexts.Step s) p → IsCopying k j i to held p t.vars t.made t.hands (Some s) after
-    copy-waits p s g = record { base = u.base; from = u.from; done = u.done; there = u.there; source = u.source; waits = waits up (here k j i) u.base after p s g; within = u.within }
+    behind : Held → State
+    behind new = state_of (set t.vars to (Some new)) t.made (t.hands + 1)
 
-    go : (a : Next StrongUpAnswer) → IsUpAnswer a → Gave up (here k j i) u.base after a (strong_up_turned plan (Some w)) →
-        Stands k n (copied_on to held (strong_up_turned plan (Some w)) a (idle t)) after
-    go (nexts.Step s) fits g = record { job = j; at = i; phases = n; phased = refl; works = works; vars_in = vars; up_to = copy-waits (strong_up_turned plan (Some w)) s g }
-    go (nexts.Done ups.Up) fits g =
-        replaces k j served i (put answers.Ok (record (idle t) { hands = t.hands + 1; event = Some (acts.Copy (Hand held.hand) (t.hands + 1)) })) to new after works vars u.within within
-        (λ end x. op-done k j i (op.Copy to u.from) (state_of t.vars t.made t.hands) (state_of (set t.vars to (Some new)) t.made (t.hands + 1)) u.base end u.done u.there
-        (does_copy (value-ref t.vars u.from (Some held) u.source) u.within (gives up (here k j i) u.base after _ ups.Up refl g) x
-        (ap (λ (vs : Variables). record { vars = vs; made = t.made; hands = t.hands + 1 }) (put-ref t.vars to (Some new)))))
-    go (nexts.Done ups.Dead) fits g = absurd fits
-    go (nexts.Done ups.AtCap) fits g = absurd fits
-    go (nexts.Done (ups.Slow e)) fits g = absurd fits
-    go (nexts.Done (ups.Again c)) fits g =
-        let same : up.start ≡ copy_from t held = rw (works.layout_is, works.shape_is) refl in
+    behind-is : (new : Held) → behind new ≡ record { vars = operations.put (refs t.vars) to (ref (Some new)); made = t.made; hands = t.hands + 1 }
+    behind-is new = ap (λ (vs : Variables). record { vars = vs; made = t.made; hands = t.hands + 1 }) (put-ref t.vars to (Some new))
+
+    go : (gain : Gain) → list_of gain held ≡ kind_of (kinds_here k) to → slice_get j.ops i ≡ Some (op_of gain to from) → Gives (gain_plan k gain held t.hands) (here k j i) base ups.Up after →
+        Stands k n (has_gained gain to (gained gain held t) (came_by gain held (idle t))) after
+    go gains.Copy kind there up_gives =
+        let new : Held = gained gains.Copy held t in
+        replaces k j served i (put answers.Ok (came_by gains.Copy held (idle t))) to (Some new) after works vars (one-in k t.vars to new (record { place = inside.place; kind = inside.kind }) kind vars) within
+        (λ end x. op-done k j i (op.Copy to from) (state_of t.vars t.made t.hands) (behind new) base end so_far there (does_copy (source_of held.kind refl) inside.place inside.kind up_gives x (behind-is new)))
+    go gains.Unown kind there up_gives =
+        let new : Held = gained gains.Unown held t in
+        let strong : held.kind ≡ Strong = vars.kinds from held source ∙ (served.kinds_fit i (op.Unown to from) there).1 in
+        replaces k j served i (put answers.Ok (came_by gains.Unown held (idle t))) to (Some new) after works vars (one-in k t.vars to new (record { place = inside.place; kind = tt }) kind vars) within
+        (λ end x. op-done k j i (op.Unown to from) (state_of t.vars t.made t.hands) (behind new) base end so_far there (does_unown (source_of Strong strong) inside.place up_gives x (behind-is new)))
+    go gains.Load kind there up_gives =
+        let new : Held = gained gains.Load held t in
+        let unowned : held.kind ≡ Unowned = vars.kinds from held source ∙ (served.kinds_fit i (op.Load to from) there).1 in
+        let plan : Plan OneStep ObjectName = name_of (extent_of k.shape) held.place in
+        let same : plan.start ≡ name_from new (came_by gains.Load held (idle t)) = rw works.layout_is refl in
         record {
           job = j;
           at = i;
@@ -291,29 +349,113 @@ copies {n = n} k j served i t s w now works vars to held plan u takes fits =
           phased = refl;
           works = works;
           vars_in = vars;
-          up_to = copy-waits _ _ (begun-from up (here k j i) u.base after (copy_from t held) (starts-again up (here k j i) u.base after _ (ups.Again c) c refl g) same);
+          up_to = record {
+            base = after;
+            ends = λ name named end g x. op-done k j i (op.Load to from) (state_of t.vars t.made t.hands) (behind new) base end so_far there (does_load (source_of Unowned unowned) inside.place up_gives g x (behind-is new));
+            waits = waits plan (here k j i) after after _ _ (begun-from plan (here k j i) after after (name_from new (came_by gains.Load held (idle t))) starts_first same);
+            inside = record { place = inside.place; kind = tt };
+            kind = kind;
+            within = within;
+          };
         }
+
+-- a load finds the object dead, and its variable becomes nil
+has-found-dead : {n : ℕ} (k : Task) (j : Job k) → AreServed (kinds_here k) j.ops → (i : ℕ) (gain : Gain) (to from : ℕ) (held : Held) (t : Thread) (base after : List Made) → FindsDead gain → WorksAt k j i n t → AreIn k t.vars →
+    AreDone k j i (state_of t.vars t.made t.hands) base → slice_get j.ops i ≡ Some (op_of gain to from) → value t.vars from ≡ Some held → IsHeld k.shape.slots held →
+    Gives (gain_plan k gain held t.hands) (here k j i) base ups.Dead after → Stands k n (found_dead to held (idle t)) after
+has-found-dead k j served i gains.Copy to from held t base after dead works vars so_far there source inside up_gives = absurd dead
+has-found-dead k j served i gains.Unown to from held t base after dead works vars so_far there source inside up_gives = absurd dead
+has-found-dead {n = n} k j served i gains.Load to from held t base after dead works vars so_far there source inside up_gives =
+    let unowned : held.kind ≡ Unowned = vars.kinds from held source ∙ (served.kinds_fit i (op.Load to from) there).1 in
+    let source_is : operations.value (refs t.vars) from ≡ reference_to held.hand Unowned held.place = value-ref t.vars from (Some held) source ∙ ap (λ (c : Kind). reference_to held.hand c held.place) unowned in
+    replaces k j served i (put answers.Dead (record (idle t) { event = Some (acts.Load held.hand gots.Dead) })) to None after works vars (nil-in k t.vars to vars) (slice_get_within j.ops i (op.Load to from) there)
+    (λ end x. op-done k j i (op.Load to from) (state_of t.vars t.made t.hands) (state_of (set t.vars to None) t.made t.hands) base end so_far there
+    (finds_dead source_is inside.place up_gives x (ap (λ (vs : Variables). record { vars = vs; made = t.made; hands = t.hands }) (put-ref t.vars to None))))
+
+gains-on : {n : ℕ} (k : Task) (j : Job k) → AreServed (kinds_here k) j.ops → (i : ℕ) (t : Thread) (s : Step) (w : ℕ) (now : List Made) → WorksAt k j i n t → AreIn k t.vars →
+    (gain : Gain) (to : ℕ) (held : Held) (plan : Rise) → IsGaining k j i gain to held plan t.vars t.made t.hands (Some s) now → gain_takes gain plan (Some w) →
+    Stands k n (gained_on gain to held (up_turned plan (Some w)) (up_answer plan (Some w)) (idle t)) (made_at (here k j i) s w (told_by (up_told (rises_of gain held.hand (t.hands + 1))) (up_answer plan (Some w))) ∷ now)
+gains-on {n = n} k j served i t s w now works vars gain to held plan u takes =
+    go (up_answer plan (Some w)) (gain_answers gain plan (Some w) takes) (given rise (here k j i) u.base now plan s w u.waits)
+  where
+    rise : Plan Rise UpAnswer
+    rise = gain_plan k gain held t.hands
+
+    after : List Made
+    after = made_at (here k j i) s w (told_by (up_told (rises_of gain held.hand (t.hands + 1))) (up_answer plan (Some w))) ∷ now
+
+    go : (a : Next UpAnswer) → IsGainAnswer gain a → Gave rise (here k j i) u.base after a (up_turned plan (Some w)) →
+        Stands k n (gained_on gain to held (up_turned plan (Some w)) a (idle t)) after
+    go (nexts.Step s) fits g = record {
+      job = j;
+      at = i;
+      phases = n;
+      phased = refl;
+      works = works;
+      vars_in = vars;
+      up_to = record { base = u.base; from = u.from; done = u.done; there = u.there; source = u.source; waits = waits rise (here k j i) u.base after _ s g; inside = u.inside; bare = up-bare gain plan w takes };
+    }
+    go (nexts.Done ups.Up) fits g = has-gained k j served i gain to u.from held t u.base after works vars u.done u.there u.source u.inside (gives rise (here k j i) u.base after _ ups.Up refl g)
+    go (nexts.Done ups.Dead) fits g = has-found-dead k j served i gain to u.from held t u.base after fits works vars u.done u.there u.source u.inside (gives rise (here k j i) u.base after _ ups.Dead refl g)
+    go (nexts.Done ups.AtCap) fits g = absurd fits
+    go (nexts.Done ups.CountFull) fits g = absurd fits
+    go (nexts.Done (ups.Again c)) fits g = gain-asks k j i gain to u.from (idle t) held after u.base works vars u.done u.there u.source (starts-again rise (here k j i) u.base after _ (ups.Again c) c refl g)
+
+-- the name of the object is read
+names-on : {n : ℕ} (k : Task) (j : Job k) → AreServed (kinds_here k) j.ops → (i : ℕ) (t : Thread) (s : Step) (w : ℕ) (now : List Made) → WorksAt k j i n t → AreIn k t.vars →
+    (to : ℕ) (held : Held) (plan : OneStep) → IsNaming k j i to held plan t.vars t.made t.hands (Some s) now →
+    Stands k n (named_on to held (one_turned plan (Some w)) (name_of_answer plan (Some w)) (idle t)) (made_at (here k j i) s w None ∷ now)
+names-on {n = n} k j served i t s w now works vars to held plan u = go (name_of_answer plan (Some w)) (given reads (here k j i) u.base now plan s w u.waits)
+  where
+    reads : Plan OneStep ObjectName
+    reads = name_of (extent_of k.shape) held.place
+
+    after : List Made
+    after = made_at (here k j i) s w None ∷ now
+
+    go : (a : Next ObjectName) → Gave reads (here k j i) u.base after a (one_turned plan (Some w)) → Stands k n (named_on to held (one_turned plan (Some w)) a (idle t)) after
+    go (nexts.Step s) g = record {
+      job = j;
+      at = i;
+      phases = n;
+      phased = refl;
+      works = works;
+      vars_in = vars;
+      up_to = record { base = u.base; ends = u.ends; waits = waits reads (here k j i) u.base after _ s g; inside = u.inside; kind = u.kind; within = u.within };
+    }
+    go (nexts.Done name) g =
+        replaces k j served i (put (answers.Got name) (idle t)) to (Some held) after works vars (one-in k t.vars to held u.inside u.kind vars) u.within
+        (λ end x. u.ends name after end (gives reads (here k j i) u.base after _ name refl g) x)
 
 -- ---- a reference is dropped
 
-drops : {n : ℕ} (k : Task) (j : Job k) → AreServed j.ops → (i : ℕ) (t : Thread) (s : Step) (w : ℕ) (now : List Made) → WorksAt k j i n t → AreIn k.shape t.vars →
-    (held : Held) (plan : Attempt) → IsDropping k j i held plan t.vars t.made t.hands (Some s) now → IsInlineAt plan.at w →
-    Stands k n (dropped_on held (strong_down_turned plan (Some w)) (strong_down_answer plan (Some w)) (idle t)) (made_at (here k j i) s w (told_by (down_told held.hand) (strong_down_answer plan (Some w))) ∷ now)
+drops : {n : ℕ} (k : Task) (j : Job k) → AreServed (kinds_here k) j.ops → (i : ℕ) (t : Thread) (s : Step) (w : ℕ) (now : List Made) → WorksAt k j i n t → AreIn k t.vars →
+    (held : Held) (plan : Fall) → IsDropping k j i held plan t.vars t.made t.hands (Some s) now → IsBareAt IsInline plan.entry plan.at w →
+    Stands k n (dropped_on held (down_turned plan (Some w)) (down_answer plan (Some w)) (idle t)) (made_at (here k j i) s w (told_by (down_told held.hand) (down_answer plan (Some w))) ∷ now)
 drops {n = n} k j served i t s w now works vars held plan u fits =
-    go (strong_down_answer plan (Some w)) (down-answer plan w fits) (given down (here k j i) u.base now plan s w u.waits)
+    go (down_answer plan (Some w)) (last-bare plan w fits) (given fall (here k j i) u.base now plan s w u.waits)
   where
-    down : Plan Attempt StrongDownAnswer
-    down = strong_down (extent_of k.shape) held.place held.hand
+    point : Point
+    point = here k j i
+
+    -- the plan for a reference of this kind
+    fall_of : Kind → Plan Fall DownAnswer
+    fall_of kind = down (extent_of k.shape) kind held.place held.hand
+
+    fall : Plan Fall DownAnswer
+    fall = fall_of held.kind
 
     after : List Made
-    after = made_at (here k j i) s w (told_by (down_told held.hand) (strong_down_answer plan (Some w))) ∷ now
+    after = made_at point s w (told_by (down_told held.hand) (down_answer plan (Some w))) ∷ now
 
-    go : (a : Next StrongDownAnswer) → IsDownAnswer a → Gave down (here k j i) u.base after a (strong_down_turned plan (Some w)) →
-        Stands k n (dropped_on held (strong_down_turned plan (Some w)) a (idle t)) after
-    go (nexts.Step s) fits g = record { job = j; at = i; phases = n; phased = refl; works = works; vars_in = vars; up_to = record { base = u.base; ends = u.ends; waits = waits down (here k j i) u.base after _ s g; within = u.within } }
-    go (nexts.Done downs.More) fits g =
-        goes-on k j served i (record (idle t) { event = Some (acts.Drop held.hand false) }) after works vars (u.ends after (drops_more u.within (gives down (here k j i) u.base after _ downs.More refl g)))
-    go (nexts.Done downs.Last) fits g = record {
+    last : Thread
+    last = record (idle t) { event = Some (acts.Drop held.hand true) }
+
+    ends_as : (kind : Kind) → held.kind ≡ kind → (end : List Made) → Drops k.shape point (reference_to held.hand kind held.place) u.base end → IsOver k j i t.vars t.made t.hands end
+    ends_as kind is end x = u.ends end (subst (λ (c : Kind). Drops k.shape point (reference_to held.hand c held.place) u.base end) (sym is) x)
+
+    gone : (kind : Kind) → held.kind ≡ kind → (entry : Option ℕ) → entry ≡ None → Gives (fall_of kind) point u.base (downs.Last entry) after → Stands k n (last_gone kind held.place last) after
+    gone Strong is entry none g = record {
       job = j;
       at = i;
       phases = n;
@@ -324,13 +466,68 @@ drops {n = n} k j served i t s w now works vars held plan u fits =
         base = after;
         layout = works.layout_is;
         shape = works.shape_is;
-        ends = λ end x. u.ends end (drops_last u.within (gives down (here k j i) u.base after _ downs.Last refl g) x);
+        ends = λ end x. ends_as Strong is end (drops_last u.inside.place g x);
         place = (refl, rw works.layout_is refl);
-        within = u.within;
+        within = u.inside.place;
       };
     }
-    go (nexts.Done (downs.Slow e)) fits g = absurd fits
-    go (nexts.Done (downs.Again c)) fits g = drop-asks k j i (idle t) held after u.base works vars u.within (starts-again down (here k j i) u.base after _ (downs.Again c) c refl g) u.ends
+    gone Unowned is entry none g =
+        let ending : Plan OneStep (Unit {0}) = vacate (extent_of k.shape) held.place in
+        let same : ending.start ≡ ending_from held.place last = rw works.layout_is refl in
+        record {
+          job = j;
+          at = i;
+          phases = n;
+          phased = refl;
+          works = works;
+          vars_in = vars;
+          up_to = record {
+            base = after;
+            ends = λ end x. ends_as Unowned is end (drops_last_unowned u.inside.place g (subst (λ (o : Option ℕ). SlotEnds k.shape point held.place o after end) (sym none) x));
+            waits = waits ending point after after _ _ (begun-from ending point after after (ending_from held.place last) starts_first same);
+          };
+        }
+    gone Weak is entry none g = absurd (subst IsCountedInline is u.inside.kind)
+
+    go : (a : Next DownAnswer) → HasNoEntry a → Gave fall point u.base after a (down_turned plan (Some w)) → Stands k n (dropped_on held (down_turned plan (Some w)) a (idle t)) after
+    go (nexts.Step s) bare g = record {
+      job = j;
+      at = i;
+      phases = n;
+      phased = refl;
+      works = works;
+      vars_in = vars;
+      up_to = record { base = u.base; ends = u.ends; waits = waits fall point u.base after _ s g; inside = u.inside; bare = down-bare plan w fits };
+    }
+    go (nexts.Done (downs.More entry)) bare g =
+        goes-on k j served i (record (idle t) { event = Some (acts.Drop held.hand false) }) after works vars
+        (u.ends after (drops_more u.inside.place u.inside.kind (gives fall point u.base after _ (downs.More entry) refl g)))
+    go (nexts.Done (downs.Last entry)) bare g = gone held.kind refl entry bare (gives fall point u.base after _ (downs.Last entry) refl g)
+    go (nexts.Done (downs.Again c)) bare g = drop-asks k j i (idle t) held after u.base works vars u.inside (starts-again fall point u.base after _ (downs.Again c) c refl g) u.ends
+
+-- the slot ends of an object whose last unowned reference went
+slot-ends : {n : ℕ} (k : Task) (j : Job k) → AreServed (kinds_here k) j.ops → (i : ℕ) (t : Thread) (s : Step) (w : ℕ) (now : List Made) → WorksAt k j i n t → AreIn k t.vars →
+    (slot : ℕ) (plan : OneStep) → IsEnding k j i slot plan t.vars t.made t.hands (Some s) now →
+    Stands k n (vacated_on slot (one_turned plan (Some w)) (vacate_answer plan (Some w)) (idle t)) (made_at (here k j i) s w (told_by (vacate_told slot) (vacate_answer plan (Some w))) ∷ now)
+slot-ends {n = n} k j served i t s w now works vars slot plan u = go (vacate_answer plan (Some w)) (given ending (here k j i) u.base now plan s w u.waits)
+  where
+    ending : Plan OneStep (Unit {0})
+    ending = vacate (extent_of k.shape) slot
+
+    after : List Made
+    after = made_at (here k j i) s w (told_by (vacate_told slot) (vacate_answer plan (Some w))) ∷ now
+
+    go : (a : Next (Unit {0})) → Gave ending (here k j i) u.base after a (one_turned plan (Some w)) → Stands k n (vacated_on slot (one_turned plan (Some w)) a (idle t)) after
+    go (nexts.Step s) g = record {
+      job = j;
+      at = i;
+      phases = n;
+      phased = refl;
+      works = works;
+      vars_in = vars;
+      up_to = record { base = u.base; ends = u.ends; waits = waits ending (here k j i) u.base after _ s g };
+    }
+    go (nexts.Done a) g = goes-on k j served i (record (idle t) { event = Some (acts.Vacate slot) }) after works vars (u.ends after (slot_ends (gives ending (here k j i) u.base after _ tt refl g)))
 
 -- ---- an object dies
 
@@ -345,7 +542,7 @@ all-done shape point slot isa base now bare d =
     let none : length (class_at shape (isa_name_of isa).class).fields ≡ 0 = no_fields shape.classes (isa_name_of isa).class (recursion_from_All (λ (c : ObjectClass). c.fields ≡ []) shape.classes bare) in
     record { isa = isa; done = rw none d }
 
-dies-on : {n : ℕ} (k : Task) (j : Job k) → AreServed j.ops → HasNoFields k.shape → (i : ℕ) (t : Thread) (s : Step) (w : ℕ) (now : List Made) → WorksAt k j i n t → AreIn k.shape t.vars →
+dies-on : {n : ℕ} (k : Task) (j : Job k) → AreServed (kinds_here k) j.ops → HasNoFields k.shape → (i : ℕ) (t : Thread) (s : Step) (w : ℕ) (now : List Made) → WorksAt k j i n t → AreIn k t.vars →
     (c : CascadeState) → IsDying k j i c t.vars t.made t.hands (Some s) now → cascade_takes c (Some w) →
     Stands k n (dying_on (cascade_turned c (Some w)) (cascade_answer c (Some w)) (record (idle t) { event = (cascade_turned c (Some w)).event }))
     (made_at (here k j i) s w (dying_on (cascade_turned c (Some w)) (cascade_answer c (Some w)) (record (idle t) { event = (cascade_turned c (Some w)).event })).event ∷ now)
@@ -489,7 +686,7 @@ dies-on {n = n} k j served bare i t s w now works vars c u takes = go c.at u.pla
 -- ---- the stepper
 
 -- Each word that it is given is that of a step of the operation under way, with the event that it tells.
-pub keeps : (k : Task) (n : ℕ) (t : Thread) (s : Step) (w : ℕ) (now : List Made) (st : Stands k n t now) → AreServed st.job.ops → HasNoFields k.shape → step_in t.asked ≡ Some s → takes t (Some w) →
+pub keeps : (k : Task) (n : ℕ) (t : Thread) (s : Step) (w : ℕ) (now : List Made) (st : Stands k n t now) → AreServed (kinds_here k) st.job.ops → HasNoFields k.shape → step_in t.asked ≡ Some s → takes t (Some w) →
     Stands k n (turned t (Some w)) (made_at (here k st.job st.at) s w (turned t (Some w)).event ∷ now)
 keeps k n t s w now st served bare asked takes = go t.doing st.phased st.up_to takes
   where
@@ -505,37 +702,47 @@ keeps k n t s w now st served bare asked takes = go t.doing st.phased st.up_to t
     works-in : st.phases ≡ n → WorksAt k j i n t
     works-in e = subst (λ (m : ℕ). WorksAt k j i m t) e st.works
 
-    go : (d : Doing) → IsIn n st.phases d → UpTo k j i t.vars t.made t.hands t.asked now d → takes_at (Some w) d → Left (turned_at (Some w) d (idle t)) (turned_at (Some w) d (idle t)).event
+    go : (d : Doing) → IsIn n st.phases d → UpTo k j i t.vars t.made t.hands t.asked now d → takes_at t.shape (Some w) d → Left (turned_at (Some w) d (idle t)) (turned_at (Some w) d (idle t)).event
     go Ready phased u takes = absurd (cc)
     go (Making to name plan) phased u takes =
         let a : IsMaking k j i to name plan t.vars t.made t.hands (Some s) now = rw asked at u in
         subst (λ (e : Option Act). Left (made_on to name (creation_turned plan (Some w)) (creation_answer plan (Some w)) (idle t)) e)
         (sym (makes-tells t w to name plan plan.at k.shape.slots a.before a.held a.count)) (makes k j served i t s w now (works-in phased) st.vars_in to name plan a)
-    go (Copying to held plan) phased u takes =
-        subst (λ (e : Option Act). Left (copied_on to held (strong_up_turned plan (Some w)) (strong_up_answer plan (Some w)) (idle t)) e)
-        (sym (copies-tells t to held (strong_up_turned plan (Some w)) (strong_up_answer plan (Some w))))
-        (copies k j served i t s w now (works-in phased) st.vars_in to held plan (rw asked at u) takes.0 takes.1)
+    go (Gaining gain to held plan) phased u takes =
+        subst (λ (e : Option Act). Left (gained_on gain to held (up_turned plan (Some w)) (up_answer plan (Some w)) (idle t)) e)
+        (sym (gains-tells t gain to held (up_turned plan (Some w)) (up_answer plan (Some w)) (gain_answers gain plan (Some w) takes)))
+        (gains-on k j served i t s w now (works-in phased) st.vars_in gain to held plan (rw asked at u) takes)
+    go (Naming to held plan) phased u takes =
+        subst (λ (e : Option Act). Left (named_on to held (one_turned plan (Some w)) (name_of_answer plan (Some w)) (idle t)) e)
+        (sym (names-tells t to held (one_turned plan (Some w)) (name_of_answer plan (Some w))))
+        (names-on k j served i t s w now (works-in phased) st.vars_in to held plan (rw asked at u))
     go (Dropping held plan) phased u takes =
-        subst (λ (e : Option Act). Left (dropped_on held (strong_down_turned plan (Some w)) (strong_down_answer plan (Some w)) (idle t)) e)
-        (sym (drops-tells t held (strong_down_turned plan (Some w)) (strong_down_answer plan (Some w))))
+        subst (λ (e : Option Act). Left (dropped_on held (down_turned plan (Some w)) (down_answer plan (Some w)) (idle t)) e)
+        (sym (drops-tells t held (down_turned plan (Some w)) (down_answer plan (Some w))))
         (drops k j served i t s w now (works-in phased) st.vars_in held plan (rw asked at u) takes.1)
+    go (Vacating slot plan) phased u takes =
+        subst (λ (e : Option Act). Left (vacated_on slot (one_turned plan (Some w)) (vacate_answer plan (Some w)) (idle t)) e)
+        (sym (ends-tells t slot (one_turned plan (Some w)) (vacate_answer plan (Some w))))
+        (slot-ends k j served i t s w now (works-in phased) st.vars_in slot plan (rw asked at u))
     go (Dying c) phased u takes = dies-on k j served bare i t s w now (works-in phased) st.vars_in c (rw asked at u) takes
     go Ended phased u takes = absurd takes
 
 -- Its next phase begins without a step.
-pub begins-phase : (k : Task) (n : ℕ) (t : Thread) (now : List Made) (st : Stands k n t now) → AreServed st.job.ops → takes t None → t.asked ≡ moves.PhaseEnd → Stands k (n + 1) (turned t None) now
+pub begins-phase : (k : Task) (n : ℕ) (t : Thread) (now : List Made) (st : Stands k n t now) → AreServed (kinds_here k) st.job.ops → takes t None → t.asked ≡ moves.PhaseEnd → Stands k (n + 1) (turned t None) now
 begins-phase k n t now st served takes asked = go t.doing st.phased st.up_to takes
   where
     none : step_in t.asked ≡ None
     none = ap step_in asked
 
-    go : (d : Doing) → IsIn n st.phases d → UpTo k st.job st.at t.vars t.made t.hands t.asked now d → takes_at None d → Stands k (n + 1) (turned_at None d (idle t)) now
+    go : (d : Doing) → IsIn n st.phases d → UpTo k st.job st.at t.vars t.made t.hands t.asked now d → takes_at t.shape None d → Stands k (n + 1) (turned_at None d (idle t)) now
     go Ready phased u takes =
         begins k st.job served (drop t.index (take (phase_end t) t.program)) t.index st.at st.at (idle t) now (subst (λ (m : ℕ). WorksAt k st.job st.at m t) phased st.works) st.vars_in
         st.works.index_is (omega arith)
         (rest-is k st.job st.at t.phases t.program t.phase t.index st.works.phases_is st.works.program_is st.works.phase_is st.works.index_is) u.1
     go (Making to name plan) phased u takes = let e = u.waits.asked_is in let n = none in absurd (cc)
-    go (Copying to held plan) phased u takes = let e = u.waits.asked_is in let n = none in absurd (cc)
+    go (Gaining gain to held plan) phased u takes = let e = u.waits.asked_is in let n = none in absurd (cc)
+    go (Naming to held plan) phased u takes = let e = u.waits.asked_is in let n = none in absurd (cc)
+    go (Vacating slot plan) phased u takes = let e = u.waits.asked_is in let n = none in absurd (cc)
     go (Dropping held plan) phased u takes = let e = u.waits.asked_is in let n = none in absurd (cc)
     go (Dying c) phased u takes = dying c.at u.place
       where

@@ -3,7 +3,7 @@ use Rattle.std.proofs.Common.{◌≡◌, ℕ, zero, suc, ◌+◌, ◌-◌, ◌<�
 use Rattle.std.proofs.lemmas.Bool.{eqb-true}
 use Rattle.std.proofs.lemmas.Option.{same_Some}
 use Rattle.std.proofs.lemmas.List.{length-map}
-use Rattle.std.proofs.lemmas.List.Elements.{All-replicate}
+use Rattle.std.proofs.lemmas.List.Elements.{All-replicate, All-from_recursion, recursion_from_All}
 use Rattle.std.specs.Prelude.{slice_get, replicate, All}
 use Rattle.std.specs.List.{AllByRecursion}
 use Rattle.arc_rule.specs.declared.step.Step.{Step}
@@ -12,12 +12,17 @@ use Rattle.arc_script.specs.declared.script.Op.{Op}
 use Rattle.arc_script.specs.declared.script.ThreadDecl.{ThreadDecl}
 use Rattle.arc_script.specs.declared.script.Script.{Script}
 use Rattle.arc_script.specs.OneList.{in_one_list}
-use Rattle.arc_script.specs.Valid.{IsScript, IsThread, Nested}
+use Rattle.arc_script.specs.Valid.{IsScript, IsThread, IsOp, Nested}
 use Rattle.arc_ops.specs.declared.stepper.Move.TheVariants as moves
 use Rattle.arc_ops.proofs.Blocks.{nested_forth}
 use Rattle.arc_ops.specs.Programs.{GoesForth, declared_of, phases_in, phases_of, count_of_vars, vars_of}
-use Rattle.arc_ops.specs.Served.{IsServed, IsServedThread, IsServedOp}
-use Rattle.arc_ops.specs.Thread.{Thread, HeldFits, stepper_of, takes, turned}
+use Rattle.arc_ops.specs.declared.stepper.Held.{Held}
+use Rattle.arc_ops.specs.Served.{IsServed, IsServedThread, IsServedVar, IsServedOp}
+use Rattle.arc_spelled.proofs.Declared.{op-kinds}
+use Rattle.arc_ops.specs.Thread.{Thread, stepper_of, value}
+use Rattle.arc_ops.specs.Turns.{turned}
+use Rattle.arc_ops.specs.Takes.{takes}
+use Rattle.arc_ops.specs.Steppers.{HeldFits}
 use Rattle.arc_replays.specs.Stages.{Stage, has_step, awaits_phase, IsNone, new_threads, begun_thread, begun_threads}
 use Rattle.arc_schedule.specs.Made.{Made, own}
 use Rattle.arc_schedule.specs.Operations.{State, Variables}
@@ -25,17 +30,12 @@ use Rattle.arc_schedule.specs.Threads.{PhasesDone}
 use Rattle.arc_schedule.specs.Threads.OpsDone.{none as ops_none}
 use Rattle.arc_schedule.specs.Threads.PhasesDone.{none as phases_none}
 use Rattle.arc_schedule.proofs.Lists.{all-there}
-use Rattle.arc_schedule.proofs.Stands.{Task, Job, AreServed, refs, state_of, here, Stands}
+use Rattle.arc_schedule.proofs.Stands.{Task, Job, kinds_here, AreServed, refs, state_of, here, Stands}
 use Rattle.arc_schedule.proofs.Keeps.{begins-phase}
 use Rattle.arc_schedule.proofs.Asks.{waits-for-phase, has-ended, ended-stays}
 use Rattle.arc_schedule.proofs.Stages.{task_of, AllStand, IsFirst}
 
 -- ---- what is served
-
-nested-there : (script : Script) (ts : List ThreadDecl) (i : ℕ) (decl : ThreadDecl) → AllByRecursion (IsThread script.classes script.globals) ts → slice_get ts i ≡ Some decl → AllByRecursion (Nested 8 0) decl.phases
-nested-there script [] i decl h e = absurd (cc)
-nested-there script (t ∷ ts) zero decl h e = let same : t ≡ decl = cc in subst (λ (d : ThreadDecl). AllByRecursion (Nested 8 0) d.phases) same h.0.nested
-nested-there script (t ∷ ts) (suc i) decl h e = nested-there script ts i decl h.1 e
 
 phase-nested : (phases : List (List Op)) (p : ℕ) (ops : List Op) → AllByRecursion (Nested 8 0) phases → slice_get phases p ≡ Some ops → Nested 8 0 ops
 phase-nested [] p ops h e = absurd (cc)
@@ -48,11 +48,23 @@ forth ops nested i o here =
     let end : 0 + length ops ≡ length ops = omega arith in
     subst (λ (e : ℕ). GoesForth i e o) end (subst (λ (n : ℕ). GoesForth n (0 + length ops) o) place (nested_forth nested i o here))
 
-pub job-served : (script : Script) → IsScript script → IsServed script → (i : ℕ) (decl : ThreadDecl) → slice_get script.threads i ≡ Some decl → (p : ℕ) (ops : List Op) → slice_get decl.phases p ≡ Some ops → AreServed ops
-job-served script valid served i decl there p ops here = record {
-  served = all-there (All IsServedOp) decl.phases p ops (all-there IsServedThread script.threads i decl served.threads there).ops here;
-  forth = forth ops (phase-nested decl.phases p ops (nested-there script script.threads i decl valid.threads there) here);
+pub job-served : (script : Script) (some : 0 < script.shape.slots) → IsScript script → IsServed script → (i : ℕ) (decl : ThreadDecl) → slice_get script.threads i ≡ Some decl → (p : ℕ) (ops : List Op) → slice_get decl.phases p ≡ Some ops →
+    AreServed (kinds_here (task_of script some i decl)) ops
+job-served script some valid served i decl there p ops here = record {
+  served = all-there (All IsServedOp) decl.phases p ops thread.ops here;
+  kinds_fit = λ x o at. op-kinds script.classes script.globals decl.vars (recursion_from_All IsServedVar decl.vars thread.vars) o
+      (among (IsOp script.classes script.globals decl.vars) ops x o (among (AllByRecursion (IsOp script.classes script.globals decl.vars)) decl.phases p ops declared_so.ops here) at);
+  forth = forth ops (phase-nested decl.phases p ops declared_so.nested here);
 }
+  where
+    among : {X : Type 0} (P : X → Type 0) (xs : List X) (i : ℕ) (x : X) → AllByRecursion P xs → slice_get xs i ≡ Some x → P x
+    among P xs i x all at = all-there P xs i x (All-from_recursion P xs all) at
+
+    thread : IsServedThread decl
+    thread = all-there IsServedThread script.threads i decl served.threads there
+
+    declared_so : IsThread script.classes script.globals decl
+    declared_so = among (IsThread script.classes script.globals) script.threads i decl valid.threads there
 
 -- ---- before the first phase
 
@@ -68,6 +80,11 @@ new-many script (suc n) from = ap suc (new-many script n (from + 1))
 refs-nil : (n : ℕ) → refs (replicate n None) ≡ replicate n None
 refs-nil zero = refl
 refs-nil (suc n) = ap (λ (vs : Variables). None ∷ vs) (refs-nil n)
+
+none-there : (n v : ℕ) (h : Held) → value (replicate n None) v ≡ Some h → ⊥
+none-there zero v h e = absurd (cc)
+none-there (suc n) zero h e = absurd (cc)
+none-there (suc n) (suc v) h e = none-there n v h e
 
 declared : (script : Script) (i : ℕ) (decl : ThreadDecl) → slice_get script.threads i ≡ Some decl → declared_of script (i + 1) ≡ Some decl
 declared script i decl there =
@@ -99,7 +116,7 @@ new-stands script some i decl there phases = record {
     index_is = refl;
     begun_is = refl;
   };
-  vars_in = All-replicate (HeldFits script.shape.slots) (vars_of script (i + 1)) None tt;
+  vars_in = record { held = All-replicate (HeldFits script.shape.slots) (vars_of script (i + 1)) None tt; kinds = λ v h e. absurd (none-there (vars_of script (i + 1)) v h e) };
   up_to = (refl, ops_none);
 }
   where
@@ -172,7 +189,7 @@ begun-stands script valid served some s ms stand quiet may i decl u there get = 
         which true e =
             let is : u ≡ turned t None = x.2 ∙ (rw e refl) in
             subst (λ (v : Thread). Stands k (s.begun + 1) v (own (i + 1) ms)) (sym is)
-            (begins-phase k s.begun t (own (i + 1) ms) st (job-served script valid served i decl there st.job.phase st.job.ops st.job.there) (may (i + 1) t (omega arith) there_is e) (waits-for-phase t e))
+            (begins-phase k s.begun t (own (i + 1) ms) st (job-served script some valid served i decl there st.job.phase st.job.ops st.job.there) (may (i + 1) t (omega arith) there_is e) (waits-for-phase t e))
         which false e =
             let is : u ≡ t = x.2 ∙ (rw e refl) in
             subst (λ (v : Thread). Stands k (s.begun + 1) v (own (i + 1) ms)) (sym is)

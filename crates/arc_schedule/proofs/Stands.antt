@@ -1,8 +1,9 @@
 -- What a stepper stands for: the steps made so far are those of its thread's operations up to where it is.
-use Rattle.std.proofs.Common.{◌≡◌, ℕ, ◌+◌, ◌<◌, ◌≤◌, Bool, true, false, cond, ltb, List, ◌∷◌, length, map, Option, Some, None, refl, sym, subst}
+use Rattle.std.proofs.Common.{◌≡◌, ℕ, ◌+◌, ◌<◌, ◌≤◌, Bool, true, false, cond, ltb, List, ◌∷◌, length, map, set, Option, Some, None, refl, sym, subst}
 use Rattle.std.proofs.lemmas.Option.{same_Some}
 use Rattle.std.specs.Prelude.{slice_get, take, All, ⊤}
 use Rattle.arc_model.specs.declared.event.ObjectName.{ObjectName}
+use Rattle.arc_model.specs.declared.shape.Kind.{Kind}
 use Rattle.arc_model.specs.Shapes.{HeapShape, class_at}
 use Rattle.arc_model.specs.Spelling.{field_count}
 use Rattle.arc_rule.specs.Extents.{Extent}
@@ -17,7 +18,10 @@ use Rattle.arc_rule.specs.declared.step.Changed.{Changed}
 use Rattle.arc_plan.specs.declared.slots.Making.{Making as Search}
 use Rattle.arc_plan.specs.declared.slots.Making.TheVariants as search
 use Rattle.arc_plan.specs.declared.unowned.UnownedDownAnswer.TheVariants as unowneds
-use Rattle.arc_plan.specs.Attempts.{Attempt, CappedAttempt}
+use Rattle.arc_plan.specs.Attempts.{Attempt}
+use Rattle.arc_side.specs.declared.up.UpAnswer.{UpAnswer}
+use Rattle.arc_side.specs.Ups.{Rise}
+use Rattle.arc_side.specs.Downs.{Fall}
 use Rattle.arc_plan.specs.Slots.{Creation, OneStep}
 use Rattle.arc_cells.specs.declared.cascade.At.{At as CascadeAt}
 use Rattle.arc_cells.specs.declared.cascade.At.TheVariants as at
@@ -28,17 +32,22 @@ use Rattle.arc_script.specs.declared.script.Op.TheVariants as op
 use Rattle.arc_script.specs.OneList.{in_one_list, numbered}
 use Rattle.arc_ops.specs.declared.stepper.Held.{Held}
 use Rattle.arc_ops.specs.declared.stepper.Doing.{Doing}
-use Rattle.arc_ops.specs.declared.stepper.Doing.TheVariants.{Ready, Making, Copying, Dropping, Dying, Ended}
+use Rattle.arc_ops.specs.declared.stepper.Doing.TheVariants.{Ready, Making, Gaining, Naming, Dropping, Dying, Vacating, Ended}
 use Rattle.arc_ops.specs.declared.stepper.Move.{Move}
 use Rattle.arc_ops.specs.declared.stepper.Move.TheVariants as moves
-use Rattle.arc_ops.specs.Programs.{GoesForth, ops_in_first}
+use Rattle.arc_ops.specs.declared.gain.Gain.{Gain}
+use Rattle.arc_ops.specs.declared.gain.Gain.TheVariants as gains
+use Rattle.arc_ops.specs.Plans.{op_of, list_of}
+use Rattle.arc_ops.specs.Programs.{GoesForth, KindsFit, ops_in_first, kinds_in, kind_of}
 use Rattle.arc_ops.specs.Served.{IsServedOp}
-use Rattle.arc_ops.specs.Thread.{Thread, value, HeldFits}
+use Rattle.arc_ops.specs.Thread.{Thread, value}
+use Rattle.arc_ops.specs.Steppers.{IsHeld, HeldFits}
+use Rattle.arc_spelled.specs.StepperStands.{AreOfKinds}
 use Rattle.arc_schedule.specs.Made.{Point, Made, made_at}
-use Rattle.arc_schedule.specs.Plans.{Plan, Reaches, Starts, Gives, new_object, strong_up, strong_down, finish, vacate}
+use Rattle.arc_schedule.specs.Plans.{Plan, Rises, Reaches, Starts, Gives, new_object, up, down, name_of, finish, vacate}
 use Rattle.arc_schedule.specs.Plans.Reaches.{starts as reaches_start, makes as reaches_next}
 use Rattle.arc_schedule.specs.Plans.Starts.{again}
-use Rattle.arc_schedule.specs.Operations.{State, Holding, Variables, strong_to, next_name, loads, stores, FieldsDone, IsCascade, Drops}
+use Rattle.arc_schedule.specs.Operations.{State, Holding, Variables, reference_to, next_name, copy_acts, unown_acts, load_acts, loads, stores, FieldsDone, IsCascade, SlotEnds, Drops}
 use Rattle.arc_schedule.specs.Operations as operations
 use Rattle.arc_schedule.specs.Threads.{point_of, OpsDone, PhasesDone, ScopeEnds}
 
@@ -100,9 +109,14 @@ pub record Job (k : Task) : Type 0 where
   pub base : List Made
   pub before : PhasesDone k.shape k.thread k.decl phase first base
 
--- the operations of a phase are served, and its blocks go forth within it
-pub record AreServed (ops : List Op) : Type 0 where
+-- the kinds of its variables
+abbrev pub kinds_here : Task → List Kind
+kinds_here k = kinds_in (Some k.decl)
+
+-- the operations of a phase are served, on variables of their kinds, and its blocks go forth within it
+pub record AreServed (kinds : List Kind) (ops : List Op) : Type 0 where
   pub served : All IsServedOp ops
+  pub kinds_fit : (i : ℕ) (o : Op) → slice_get ops i ≡ Some o → KindsFit kinds o
   pub forth : (i : ℕ) (o : Op) → slice_get ops i ≡ Some o → GoesForth i (length ops) o
 
 -- how many operations stand before it
@@ -111,7 +125,7 @@ start_of k j = ops_in_first j.phase k.decl.phases
 
 abbrev pub ref : Option Held → Option Holding
 ref None = None
-ref (Some h) = strong_to h.hand h.place
+ref (Some h) = reference_to h.hand h.kind h.place
 
 abbrev pub refs : List (Option Held) → Variables
 refs vars = map ref vars
@@ -163,20 +177,48 @@ pub record IsMaking (k : Task) (j : Job k) (i to : ℕ) (name : ObjectName) (pla
   pub waits : Waits (new_object (extent_of k.shape) (class_at k.shape name.class).immortal name (held + 1)) (here k j i) base now plan asked
   pub count : MadeUpTo k.shape.slots before held made hands plan.at
 
-pub record IsCopying (k : Task) (j : Job k) (i to : ℕ) (held : Held) (plan : CappedAttempt) (vars : List (Option Held)) (made hands : ℕ) (asked : Option Step) (now : List Made) : Type 0 where
+-- which events a gain has
+abbrev pub rises_of : Gain → (hand next : ℕ) → Rises
+rises_of gains.Copy hand next = copy_acts hand next
+rises_of gains.Unown hand next = unown_acts hand next
+rises_of gains.Load hand next = load_acts hand next
+
+-- the plan of a gain, whose reference comes into the next hand
+abbrev pub gain_plan : Task → Gain → Held → (hands : ℕ) → Plan Rise UpAnswer
+gain_plan k gain held hands = up (extent_of k.shape) k.shape.caps (list_of gain held) held.place (rises_of gain held.hand (hands + 1))
+
+pub record IsGaining (k : Task) (j : Job k) (i : ℕ) (gain : Gain) (to : ℕ) (held : Held) (plan : Rise) (vars : List (Option Held)) (made hands : ℕ) (asked : Option Step) (now : List Made) : Type 0 where
   pub base : List Made
   pub from : ℕ
   pub done : AreDone k j i (state_of vars made hands) base
-  pub there : slice_get j.ops i ≡ Some (op.Copy to from)
+  pub there : slice_get j.ops i ≡ Some (op_of gain to from)
   pub source : value vars from ≡ Some held
-  pub waits : Waits (strong_up (extent_of k.shape) held.place k.shape.caps.strong held.hand (hands + 1)) (here k j i) base now plan asked
-  pub within : held.place < k.shape.slots
+  pub waits : Waits (gain_plan k gain held hands) (here k j i) base now plan asked
+  pub inside : IsHeld k.shape.slots held
+  pub bare : plan.entry ≡ None
 
-pub record IsDropping (k : Task) (j : Job k) (i : ℕ) (held : Held) (plan : Attempt) (vars : List (Option Held)) (made hands : ℕ) (asked : Option Step) (now : List Made) : Type 0 where
+-- the name of the object is read, and then what the variable held is dropped
+pub record IsNaming (k : Task) (j : Job k) (i to : ℕ) (held : Held) (plan : OneStep) (vars : List (Option Held)) (made hands : ℕ) (asked : Option Step) (now : List Made) : Type 0 where
   pub base : List Made
-  pub ends : (after : List Made) → Drops k.shape (here k j i) (strong_to held.hand held.place) base after → IsOver k j i vars made hands after
-  pub waits : Waits (strong_down (extent_of k.shape) held.place held.hand) (here k j i) base now plan asked
-  pub within : held.place < k.shape.slots
+  pub ends : (name : ObjectName) (named after : List Made) → Gives (name_of (extent_of k.shape) held.place) (here k j i) base name named → Drops k.shape (here k j i) (operations.value (refs vars) to) named after →
+      AreDone k j (i + 1) (state_of (set vars to (Some held)) made hands) after
+  pub waits : Waits (name_of (extent_of k.shape) held.place) (here k j i) base now plan asked
+  pub inside : IsHeld k.shape.slots held
+  pub kind : held.kind ≡ kind_of (kinds_here k) to
+  pub within : i < length j.ops
+
+pub record IsDropping (k : Task) (j : Job k) (i : ℕ) (held : Held) (plan : Fall) (vars : List (Option Held)) (made hands : ℕ) (asked : Option Step) (now : List Made) : Type 0 where
+  pub base : List Made
+  pub ends : (after : List Made) → Drops k.shape (here k j i) (ref (Some held)) base after → IsOver k j i vars made hands after
+  pub waits : Waits (down (extent_of k.shape) held.kind held.place held.hand) (here k j i) base now plan asked
+  pub inside : IsHeld k.shape.slots held
+  pub bare : plan.entry ≡ None
+
+-- the slot of an object ends whose last unowned reference went
+pub record IsEnding (k : Task) (j : Job k) (i slot : ℕ) (plan : OneStep) (vars : List (Option Held)) (made hands : ℕ) (asked : Option Step) (now : List Made) : Type 0 where
+  pub base : List Made
+  pub ends : (after : List Made) → SlotEnds k.shape (here k j i) slot None base after → IsOver k j i vars made hands after
+  pub waits : Waits (vacate (extent_of k.shape) slot) (here k j i) base now plan asked
 
 -- ---- a deinit
 
@@ -233,9 +275,11 @@ step_in _ = None
 abbrev pub UpTo : (k : Task) → Job k → ℕ → List (Option Held) → (made hands : ℕ) → Move → List Made → Doing → Type 0
 UpTo k j i vars made hands asked now Ready = (asked ≡ moves.PhaseEnd) × AreDone k j i (state_of vars made hands) now
 UpTo k j i vars made hands asked now (Making to name plan) = IsMaking k j i to name plan vars made hands (step_in asked) now
-UpTo k j i vars made hands asked now (Copying to held plan) = IsCopying k j i to held plan vars made hands (step_in asked) now
+UpTo k j i vars made hands asked now (Gaining gain to held plan) = IsGaining k j i gain to held plan vars made hands (step_in asked) now
+UpTo k j i vars made hands asked now (Naming to held plan) = IsNaming k j i to held plan vars made hands (step_in asked) now
 UpTo k j i vars made hands asked now (Dropping held plan) = IsDropping k j i held plan vars made hands (step_in asked) now
 UpTo k j i vars made hands asked now (Dying c) = IsDying k j i c vars made hands (step_in asked) now
+UpTo k j i vars made hands asked now (Vacating slot plan) = IsEnding k j i slot plan vars made hands (step_in asked) now
 UpTo k j i vars made hands asked now Ended = (asked ≡ moves.Ended) × IsWhole k now
 
 -- the stepper is the thread's, at operation i of the phase, which is the last of so many that have begun
@@ -252,8 +296,10 @@ pub record Works (k : Task) (j : Job k) (i n : ℕ) (layout : Extent) (shape : H
 abbrev pub WorksAt : (k : Task) → Job k → (i n : ℕ) → Thread → Type 0
 WorksAt k j i n t = Works k j i n t.layout t.shape t.thread t.phases t.program t.phase t.index
 
-abbrev pub AreIn : HeapShape → List (Option Held) → Type 0
-AreIn shape vars = All (HeldFits shape.slots) vars
+-- what the variables hold is served, lies in the heap, and is of their kinds
+pub record AreIn (k : Task) (vars : List (Option Held)) : Type 0 where
+  pub held : All (HeldFits k.shape.slots) vars
+  pub kinds : AreOfKinds (kinds_here k) vars
 
 -- a thread that waits for its next phase is in one that hasn't begun yet
 abbrev pub IsIn : (begun phases : ℕ) → Doing → Type 0
@@ -268,5 +314,5 @@ pub record Stands (k : Task) (begun : ℕ) (t : Thread) (now : List Made) : Type
   pub phases : ℕ
   pub phased : IsIn begun phases t.doing
   pub works : WorksAt k job at phases t
-  pub vars_in : AreIn k.shape t.vars
+  pub vars_in : AreIn k t.vars
   pub up_to : UpTo k job at t.vars t.made t.hands t.asked now t.doing

@@ -1,6 +1,8 @@
--- Two threads of one phase, in the order of their schedule; an operation whose event no step tells alone; and blocks that are run and passed over.
+-- Two threads of one phase, in the order of their schedule; an operation whose event no step tells alone; blocks that are run and passed over;
+-- and a load of an unowned reference, to an object that lives and to one whose deinit has begun.
 use Rattle.std.proofs.Common.{◌≡◌, ℕ, zero, suc, Bool, true, false, [], ◌∷◌, Some, None, refl, sym, subst, arith}
 use Rattle.arc_model.specs.declared.event.Act.TheVariants as acts
+use Rattle.arc_bits.specs.Words.{unpacked}
 use Rattle.arc_model.specs.Shapes.{class_at}
 use Rattle.arc_rule.specs.Isa.{isa_word_of}
 use Rattle.arc_plan.specs.declared.slots.NewObjectAnswer.TheVariants.{Slot}
@@ -14,10 +16,10 @@ use Rattle.arc_schedule.specs.Orders.{is_in}
 use Rattle.arc_schedule.specs.Orders.InOrder.{makes, runs_out, ends}
 use Rattle.arc_schedule.specs.Plans.Reaches.{starts as reaches_start, makes as reaches_next}
 use Rattle.arc_schedule.specs.Plans.Starts.{first as starts_first}
-use Rattle.arc_schedule.specs.Operations.Does.{makes as does_make}
+use Rattle.arc_schedule.specs.Operations.Does.{makes as does_make, load_gives, load_finds_dead}
 use Rattle.arc_schedule.specs.Operations.Drops.{nothing as drops_nothing}
 use Rattle.arc_schedule.specs.Threads.OpsDone.{none as ops_none, one as ops_one, block as ops_block}
-use Rattle.arc_schedule.specs.Worked.{by, look, one_slot, nothing_yet, first_of, PlacesComeFirst, AccessesEndFirst, OperationsTell, BlocksAreRun}
+use Rattle.arc_schedule.specs.Worked.{by, look, one_slot, nothing_yet, first_of, count_word, raised, PlacesComeFirst, AccessesEndFirst, OperationsTell, BlocksAreRun, LoadsGive, LoadsFindDead}
 
 pub places_come_first : PlacesComeFirst
 places_come_first =
@@ -52,3 +54,33 @@ operations_tell class =
 
 pub blocks_are_run : BlocksAreRun
 blocks_are_run class = ops_block (ops_one (ops_block ops_none refl refl refl (omega arith)) refl (operations_tell class)) refl refl refl (omega arith)
+
+pub loads_give : LoadsGive
+unfolding unpacked
+loads_give =
+    load_gives {hand = 1} {name = next_name (first_of 1) nothing_yet 0} {mid = raised} refl (omega arith)
+    (record {
+      started = [];
+      starts = starts_first;
+      answers = record { at = _; last = Some (count_word 0 2 false); reaches = reaches_next {found = count_word 0 2 false} (reaches_next {found = count_word 0 2 false} reaches_start refl) refl; answers = refl };
+      unchanged = refl;
+    })
+    (record {
+      started = raised;
+      starts = starts_first;
+      answers = record { at = _; last = Some (isa_word_of (next_name (first_of 1) nothing_yet 0)); reaches = reaches_next {found = isa_word_of (next_name (first_of 1) nothing_yet 0)} reaches_start refl; answers = refl };
+      unchanged = refl;
+    })
+    drops_nothing refl
+
+pub loads_find_dead : LoadsFindDead
+unfolding unpacked
+loads_find_dead =
+    load_finds_dead {hand = 1} refl (omega arith)
+    (record {
+      started = [];
+      starts = starts_first;
+      answers = record { at = _; last = Some (count_word 0 1 true); reaches = reaches_next {found = count_word 0 1 true} reaches_start refl; answers = refl };
+      unchanged = refl;
+    })
+    drops_nothing refl

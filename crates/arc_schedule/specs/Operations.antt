@@ -1,9 +1,12 @@
--- Which steps an operation makes, and what the thread holds behind it. So far objects are made, strong references copied, moved and
--- dropped, and objects deinited whose fields are nil; what isn't served yet has no case. The beginning of a block makes no step.
+-- Which steps an operation makes, and what the thread holds behind it. So far objects are made, strong and unowned references copied, formed,
+-- loaded, moved and dropped, and objects deinited whose fields are nil; what isn't served yet has no case. The beginning of a block makes no step.
 use Rattle.std.specs.Prelude.{ℕ, ◌≡◌, ◌<◌, ◌+◌, List, ◌∷◌, slice_index_or, slice_set, if◌then◌else◌, is_some, Option, Some, None}
+use Rattle.arc_model.specs.declared.event.Act.TheVariants as acts
+use Rattle.arc_model.specs.declared.event.Got.TheVariants as got
 use Rattle.arc_model.specs.declared.event.ObjectName.{ObjectName}
+use Rattle.arc_model.specs.declared.event.Origin.TheVariants as origins
 use Rattle.arc_model.specs.declared.shape.Kind.{Kind}
-use Rattle.arc_model.specs.declared.shape.Kind.TheVariants.{Strong}
+use Rattle.arc_model.specs.declared.shape.Kind.TheVariants.{Strong, Unowned}
 use Rattle.arc_model.specs.Shapes.{HeapShape, class_at}
 use Rattle.arc_model.specs.Spelling.{field_count}
 use Rattle.arc_rule.specs.Isa.{isa_name_of}
@@ -12,13 +15,14 @@ use Rattle.arc_rule.specs.declared.layout.Place.{Place}
 use Rattle.arc_rule.specs.declared.layout.Place.TheVariants.{Isa, Next, Field}
 use Rattle.arc_rule.specs.declared.step.Step.TheVariants.{Load, Store}
 use Rattle.arc_plan.specs.declared.slots.NewObjectAnswer.TheVariants.{Slot, NoSlot}
-use Rattle.arc_plan.specs.declared.strong.StrongUpAnswer.TheVariants as ups
-use Rattle.arc_plan.specs.declared.strong.StrongDownAnswer.TheVariants as strongs
 use Rattle.arc_plan.specs.declared.unowned.UnownedDownAnswer.TheVariants as unowneds
+use Rattle.arc_side.specs.declared.up.UpAnswer.TheVariants as ups
+use Rattle.arc_side.specs.declared.down.DownAnswer.TheVariants as downs
+use Rattle.arc_side.specs.Inline.{IsCountedInline}
 use Rattle.arc_script.specs.declared.script.Op.{Op}
 use Rattle.arc_script.specs.declared.script.Op.TheVariants as op
 use Rattle.arc_schedule.specs.Made.{Point, Made, made_at}
-use Rattle.arc_schedule.specs.Plans.{Gives, new_object, strong_up, strong_down, finish, vacate}
+use Rattle.arc_schedule.specs.Plans.{Rises, Gives, new_object, up, down, name_of, finish, vacate}
 
 -- a reference in a thread's hands: its number among those that came into them, its kind, and the slot, for a weak one the entry, that
 -- it leads to
@@ -31,8 +35,14 @@ pub record Holding : Type 0 where
 abbrev pub Variables : Type 0
 Variables = List (Option Holding)
 
+abbrev pub reference_to : (hand : ℕ) → Kind → (slot : ℕ) → Option Holding
+reference_to hand kind slot = Some (record { hand = hand; kind = kind; place = slot })
+
 abbrev pub strong_to : (hand slot : ℕ) → Option Holding
-strong_to hand slot = Some (record { hand = hand; kind = Strong; place = slot })
+strong_to hand slot = reference_to hand Strong slot
+
+abbrev pub unowned_to : (hand slot : ℕ) → Option Holding
+unowned_to hand slot = reference_to hand Unowned slot
 
 abbrev pub value : Variables → ℕ → Option Holding
 value vars v = slice_index_or vars v None
@@ -67,17 +77,47 @@ pub data IsCascade (shape : HeapShape) (point : Point) (slot : ℕ) (b : List Ma
       Gives (finish (extent_of shape) slot) point (loads shape point (Next slot) 0 ∷ ns) unowneds.Last mid →
       Gives (vacate (extent_of shape) slot) point mid tt after → IsCascade shape point slot b after
 
--- A reference is given up: none makes no step, and the last strong one deinits its object.
+-- The slot of an object that has no entry ends: it is vacated.
+pub data SlotEnds (shape : HeapShape) (point : Point) (slot : ℕ) : (entry : Option ℕ) → (b after : List Made) → Type 0 where
+  bare : {b after : List Made} → Gives (vacate (extent_of shape) slot) point b tt after → SlotEnds shape point slot None b after
+
+-- A reference is given up: none makes no step, the last strong one deinits its object, and behind the last unowned one its slot ends.
 pub data Drops (shape : HeapShape) (point : Point) : Option Holding → (b after : List Made) → Type 0 where
   nothing : {b : List Made} → Drops shape point None b b
-  more : {hand slot : ℕ} {b after : List Made} → slot < shape.slots → Gives (strong_down (extent_of shape) slot hand) point b strongs.More after →
-      Drops shape point (strong_to hand slot) b after
-  last : {hand slot : ℕ} {b mid after : List Made} → slot < shape.slots → Gives (strong_down (extent_of shape) slot hand) point b strongs.Last mid →
+  more : {hand slot : ℕ} {kind : Kind} {entry : Option ℕ} {b after : List Made} → slot < shape.slots → IsCountedInline kind →
+      Gives (down (extent_of shape) kind slot hand) point b (downs.More entry) after → Drops shape point (reference_to hand kind slot) b after
+  last : {hand slot : ℕ} {entry : Option ℕ} {b mid after : List Made} → slot < shape.slots → Gives (down (extent_of shape) Strong slot hand) point b (downs.Last entry) mid →
       IsCascade shape point slot mid after → Drops shape point (strong_to hand slot) b after
+  last_unowned : {hand slot : ℕ} {entry : Option ℕ} {b mid after : List Made} → slot < shape.slots → Gives (down (extent_of shape) Unowned slot hand) point b (downs.Last entry) mid →
+      SlotEnds shape point slot entry mid after → Drops shape point (unowned_to hand slot) b after
 
 -- the name of the next object, of this class
 abbrev pub next_name : Point → State → (class : ℕ) → ObjectName
 next_name point state class = record { class = class; thread = point.thread; number = state.made + 1 }
+
+-- an operation that forms a reference for one variable from that in another
+abbrev pub forms : Op → Option (ℕ × ℕ)
+forms (op.Copy to from) = Some (to, from)
+forms (op.Unown to of) = Some (to, of)
+forms (op.Load to of) = Some (to, of)
+forms _ = None
+
+-- the events of a copy, of a reference that becomes an unowned one as well, and of a load
+abbrev pub copy_acts : (hand next : ℕ) → Rises
+copy_acts hand next = record { got = Some (acts.Copy (origins.Hand hand) next); dead = None }
+
+abbrev pub unown_acts : (hand next : ℕ) → Rises
+unown_acts hand next = record { got = Some (acts.UnownedOf hand next); dead = None }
+
+abbrev pub load_acts : (hand next : ℕ) → Rises
+load_acts hand next = record { got = Some (acts.Load hand (got.Hand next)); dead = Some (acts.Load hand got.Dead) }
+
+-- the state with a new reference in a variable
+abbrev pub with_new : State → (to : ℕ) → Kind → (slot : ℕ) → State
+with_new state to kind slot = record state { vars = put state.vars to (reference_to (state.hands + 1) kind slot); hands = state.hands + 1 }
+
+abbrev pub with_nil : State → (to : ℕ) → State
+with_nil state to = record state { vars = put state.vars to None }
 
 -- An operation, from the state and the steps before it to those after it. What its variable held before is dropped last.
 pub data Does (shape : HeapShape) (point : Point) : Op → (state : State) (b : List Made) (new : State) (after : List Made) → Type 0 where
@@ -87,17 +127,28 @@ pub data Does (shape : HeapShape) (point : Point) : Op → (state : State) (b : 
       Does shape point (op.New to class) state b new after
   full : {to class : ℕ} {state new : State} {b after : List Made} →
       Gives (new_object (extent_of shape) (class_at shape class).immortal (next_name point state class) (state.hands + 1)) point b NoSlot after → new ≡ state → Does shape point (op.New to class) state b new after
-  copies : {to from slot hand : ℕ} {state new : State} {b mid after : List Made} → value state.vars from ≡ strong_to hand slot → slot < shape.slots →
-      Gives (strong_up (extent_of shape) slot shape.caps.strong hand (state.hands + 1)) point b ups.Up mid → Drops shape point (value state.vars to) mid after →
-      new ≡ record state { vars = put state.vars to (strong_to (state.hands + 1) slot); hands = state.hands + 1 } → Does shape point (op.Copy to from) state b new after
-  copies_nil : {to from : ℕ} {state new : State} {b after : List Made} → value state.vars from ≡ None → Drops shape point (value state.vars to) b after →
-      new ≡ record state { vars = put state.vars to None } → Does shape point (op.Copy to from) state b new after
+  copies : {to from slot hand : ℕ} {kind : Kind} {state new : State} {b mid after : List Made} → value state.vars from ≡ reference_to hand kind slot → slot < shape.slots → IsCountedInline kind →
+      Gives (up (extent_of shape) shape.caps kind slot (copy_acts hand (state.hands + 1))) point b ups.Up mid → Drops shape point (value state.vars to) mid after →
+      new ≡ with_new state to kind slot → Does shape point (op.Copy to from) state b new after
+  unowns : {to of slot hand : ℕ} {state new : State} {b mid after : List Made} → value state.vars of ≡ strong_to hand slot → slot < shape.slots →
+      Gives (up (extent_of shape) shape.caps Unowned slot (unown_acts hand (state.hands + 1))) point b ups.Up mid → Drops shape point (value state.vars to) mid after →
+      new ≡ with_new state to Unowned slot → Does shape point (op.Unown to of) state b new after
+  -- behind the reference the object's name is read
+  load_gives : {to of slot hand : ℕ} {name : ObjectName} {state new : State} {b mid named after : List Made} → value state.vars of ≡ unowned_to hand slot → slot < shape.slots →
+      Gives (up (extent_of shape) shape.caps Strong slot (load_acts hand (state.hands + 1))) point b ups.Up mid → Gives (name_of (extent_of shape) slot) point mid name named →
+      Drops shape point (value state.vars to) named after → new ≡ with_new state to Strong slot → Does shape point (op.Load to of) state b new after
+  load_finds_dead : {to of slot hand : ℕ} {state new : State} {b mid after : List Made} → value state.vars of ≡ unowned_to hand slot → slot < shape.slots →
+      Gives (up (extent_of shape) shape.caps Strong slot (load_acts hand (state.hands + 1))) point b ups.Dead mid → Drops shape point (value state.vars to) mid after →
+      new ≡ with_nil state to → Does shape point (op.Load to of) state b new after
+  -- of nil no reference is formed
+  forms_nil : {o : Op} {to from : ℕ} {state new : State} {b after : List Made} → forms o ≡ Some (to, from) → value state.vars from ≡ None → Drops shape point (value state.vars to) b after →
+      new ≡ with_nil state to → Does shape point o state b new after
   -- a move makes no step of its own
   moves : {to from : ℕ} {held : Holding} {state new : State} {b after : List Made} → value state.vars from ≡ Some held → Drops shape point (value state.vars to) b after →
       new ≡ record state { vars = put (put state.vars to (Some held)) from None } → Does shape point (op.Move to from) state b new after
   moves_nil : {to from : ℕ} {state new : State} {b after : List Made} → value state.vars from ≡ None → Drops shape point (value state.vars to) b after →
-      new ≡ record state { vars = put state.vars to None } → Does shape point (op.Move to from) state b new after
-  drops : {v : ℕ} {state new : State} {b after : List Made} → Drops shape point (value state.vars v) b after → new ≡ record state { vars = put state.vars v None } →
+      new ≡ with_nil state to → Does shape point (op.Move to from) state b new after
+  drops : {v : ℕ} {state new : State} {b after : List Made} → Drops shape point (value state.vars v) b after → new ≡ with_nil state v →
       Does shape point (op.Drop v) state b new after
 
 -- where the thread goes on that comes to a block at this place: in the block where that is run, else behind it

@@ -3,27 +3,29 @@ use Rattle.std.specs.Prelude.{ℕ, ◌≡◌, Bool, true, false, List, ◌∷◌
 use Rattle.arc_model.specs.declared.event.Act.{Act}
 use Rattle.arc_model.specs.declared.event.Act.TheVariants as acts
 use Rattle.arc_model.specs.declared.event.ObjectName.{ObjectName}
-use Rattle.arc_model.specs.declared.event.Origin.TheVariants.{Hand}
+use Rattle.arc_model.specs.declared.shape.Kind.{Kind}
+use Rattle.arc_model.specs.Shapes.{CapNumbers}
 use Rattle.arc_rule.specs.Extents.{Extent}
 use Rattle.arc_rule.specs.declared.step.Step.{Step}
 use Rattle.arc_rule.specs.declared.step.Changed.{Changed}
 use Rattle.arc_rule.specs.declared.plan.Next.{Next}
 use Rattle.arc_rule.specs.declared.plan.Next.TheVariants as nexts
-use Rattle.arc_plan.specs.declared.attempt.At.TheVariants as attempt
+use Rattle.arc_rule.specs.declared.attempt.At.TheVariants as attempt
 use Rattle.arc_plan.specs.declared.slots.Making.{Making}
 use Rattle.arc_plan.specs.declared.slots.Making.TheVariants as makings
 use Rattle.arc_plan.specs.declared.slots.Once.TheVariants as onces
 use Rattle.arc_plan.specs.declared.slots.NewObjectAnswer.{NewObjectAnswer}
-use Rattle.arc_plan.specs.declared.strong.StrongUpAnswer.{StrongUpAnswer}
-use Rattle.arc_plan.specs.declared.strong.StrongUpAnswer.TheVariants as ups
-use Rattle.arc_plan.specs.declared.strong.StrongDownAnswer.{StrongDownAnswer}
-use Rattle.arc_plan.specs.declared.strong.StrongDownAnswer.TheVariants as downs
 use Rattle.arc_plan.specs.declared.unowned.UnownedDownAnswer.{UnownedDownAnswer}
 use Rattle.arc_plan.specs.declared.unowned.UnownedDownAnswer.TheVariants as unowneds
-use Rattle.arc_plan.specs.Attempts.{Attempt, CappedAttempt}
-use Rattle.arc_plan.specs.Slots.{Creation, OneStep, creation_turned, creation_answer, creation_change, one_turned, vacate_answer, no_change}
-use Rattle.arc_plan.specs.Strong.{strong_up_turned, strong_up_answer, strong_up_change, strong_down_turned, strong_down_answer, strong_down_change}
+use Rattle.arc_plan.specs.Attempts.{Attempt}
+use Rattle.arc_plan.specs.Slots.{Creation, OneStep, creation_turned, creation_answer, creation_change, one_turned, vacate_answer, name_of_answer, no_change}
 use Rattle.arc_plan.specs.Unowned.{unowned_down_turned, unowned_down_answer, unowned_down_change}
+use Rattle.arc_side.specs.declared.up.UpAnswer.{UpAnswer}
+use Rattle.arc_side.specs.declared.up.UpAnswer.TheVariants as ups
+use Rattle.arc_side.specs.declared.down.DownAnswer.{DownAnswer}
+use Rattle.arc_side.specs.declared.down.DownAnswer.TheVariants as downs
+use Rattle.arc_side.specs.Ups.{Rise, up_turned, up_answer, up_change}
+use Rattle.arc_side.specs.Downs.{Fall, down_turned, down_answer, down_change}
 use Rattle.arc_schedule.specs.Made.{Point, Made, made_at}
 
 -- A plan from its start: what it asks for or answers once it is given what its step before gave back, which answers say that a
@@ -84,33 +86,49 @@ new_object l immortal name hand = record {
   tells = λ p found. making_told hand name.class p.at (creation_answer p (Some found));
 }
 
-abbrev pub up_told : (from hand : ℕ) → StrongUpAnswer → Option Act
-up_told from hand ups.Up = Some (acts.Copy (Hand from) hand)
-up_told from hand _ = None
+-- which events an operation has whose reference is one more in a list: that it is there, and that the object is dead
+pub record Rises : Type 0 where
+  pub got : Option Act
+  pub dead : Option Act
 
--- one strong reference more: the new hand is a copy of the other one
-abbrev pub strong_up : Extent → (slot cap from hand : ℕ) → Plan CappedAttempt StrongUpAnswer
-strong_up l slot cap from hand = record {
-  start = record { layout = l; slot = slot; cap = cap; at = attempt.Start };
-  turned = strong_up_turned;
-  answer = strong_up_answer;
-  changed = strong_up_change;
-  tells = λ p found. told_by (up_told from hand) (strong_up_answer p (Some found));
+abbrev pub up_told : Rises → UpAnswer → Option Act
+up_told acts ups.Up = acts.got
+up_told acts ups.Dead = acts.dead
+up_told acts _ = None
+
+-- one reference more in the list of the object in the slot, wherever it is counted
+abbrev pub up : Extent → CapNumbers → (list : Kind) → (slot : ℕ) → Rises → Plan Rise UpAnswer
+up l caps list slot acts = record {
+  start = record { layout = l; slot = slot; list = list; caps = caps; entry = None; at = attempt.Start };
+  turned = up_turned;
+  answer = up_answer;
+  changed = up_change;
+  tells = λ p found. told_by (up_told acts) (up_answer p (Some found));
 }
 
-abbrev pub down_told : (hand : ℕ) → StrongDownAnswer → Option Act
-down_told hand downs.More = Some (acts.Drop hand false)
-down_told hand downs.Last = Some (acts.Drop hand true)
-down_told hand _ = None
+abbrev pub down_told : (hand : ℕ) → DownAnswer → Option Act
+down_told hand (downs.More entry) = Some (acts.Drop hand false)
+down_told hand (downs.Last entry) = Some (acts.Drop hand true)
+down_told hand (downs.Again changed) = None
 
--- one strong reference fewer: the hand gives its own up
-abbrev pub strong_down : Extent → (slot hand : ℕ) → Plan Attempt StrongDownAnswer
-strong_down l slot hand = record {
-  start = record { layout = l; slot = slot; at = attempt.Start };
-  turned = strong_down_turned;
-  answer = strong_down_answer;
-  changed = strong_down_change;
-  tells = λ p found. told_by (down_told hand) (strong_down_answer p (Some found));
+-- one reference fewer in the list of the object in the slot, wherever it is counted: the hand gives its own up
+abbrev pub down : Extent → (list : Kind) → (slot hand : ℕ) → Plan Fall DownAnswer
+down l list slot hand = record {
+  start = record { layout = l; slot = slot; list = list; entry = None; at = attempt.Start };
+  turned = down_turned;
+  answer = down_answer;
+  changed = down_change;
+  tells = λ p found. told_by (down_told hand) (down_answer p (Some found));
+}
+
+-- the name of the object in the slot
+abbrev pub name_of : Extent → (slot : ℕ) → Plan OneStep ObjectName
+name_of l slot = record {
+  start = record { layout = l; slot = slot; at = onces.Start };
+  turned = one_turned;
+  answer = name_of_answer;
+  changed = no_change;
+  tells = λ p found. None;
 }
 
 abbrev pub finish_told : (slot : ℕ) → UnownedDownAnswer → Option Act

@@ -1,6 +1,10 @@
--- Two threads of one phase, in the order of their schedule; an operation whose event no step tells alone; and blocks that are run and passed over.
-use Rattle.std.specs.Prelude.{ℕ, false, List, [], ◌∷◌, Some, None}
+-- Two threads of one phase, in the order of their schedule; an operation whose event no step tells alone; blocks that are run and passed over;
+-- and a load of an unowned reference, to an object that lives and to one whose deinit has begun.
+use Rattle.std.specs.Prelude.{ℕ, Bool, true, false, List, [], ◌∷◌, Some, None}
 use Rattle.arc_model.specs.declared.event.Act.TheVariants as acts
+use Rattle.arc_model.specs.declared.event.Got.TheVariants as got
+use Rattle.arc_bits.specs.Words.{packed}
+use Rattle.arc_bits.specs.declared.packing.Word.TheVariants.{Counts}
 use Rattle.arc_model.specs.Shapes.{HeapShape, ObjectClass}
 use Rattle.arc_rule.specs.Extents.{Extent}
 use Rattle.arc_rule.specs.declared.step.Step.{Step}
@@ -8,7 +12,7 @@ use Rattle.arc_rule.specs.declared.step.Step.TheVariants.{Load, Exchange, Store,
 use Rattle.arc_rule.specs.Isa.{isa_word_of}
 use Rattle.arc_script.specs.declared.script.Op.TheVariants as op
 use Rattle.arc_schedule.specs.Made.{Point, Made, made_at}
-use Rattle.arc_schedule.specs.Operations.{State, strong_to, next_name, Does}
+use Rattle.arc_schedule.specs.Operations.{State, strong_to, unowned_to, next_name, Does}
 use Rattle.arc_schedule.specs.Threads.{point_of, OpsDone}
 use Rattle.arc_schedule.specs.Orders.{InOrder}
 
@@ -37,7 +41,7 @@ abbrev pub plain : ObjectClass
 plain = record { fields = []; immortal = false }
 
 abbrev pub one_slot : HeapShape
-one_slot = record { slots = 1; entries = 1; caps = record { strong = 1; unowned = 1; wide = 1 }; classes = plain ∷ plain ∷ []; globals = [] }
+one_slot = record { slots = 1; entries = 1; caps = record { strong = 1; unowned = 2; wide = 2 }; classes = plain ∷ plain ∷ []; globals = [] }
 
 abbrev pub nothing_yet : State
 nothing_yet = record { vars = None ∷ []; made = 0; hands = 0 }
@@ -63,3 +67,28 @@ OperationsTell = (class : ℕ) → Does one_slot (first_of 1) (op.New 0 class) n
 -- holds the object, so that the second block is passed over, without a step.
 abbrev pub BlocksAreRun : Type 0
 BlocksAreRun = (class : ℕ) → OpsDone one_slot 1 0 (op.IfNil 0 2 ∷ op.New 0 class ∷ op.IfNil 0 4 ∷ op.Drop 0 ∷ []) nothing_yet [] 4 with_object (made_first class)
+
+-- ---- loads
+
+-- the second variable has an unowned reference to the object in the slot
+abbrev pub with_unowned : State
+with_unowned = record { vars = None ∷ unowned_to 1 0 ∷ []; made = 0; hands = 1 }
+
+abbrev pub with_both : State
+with_both = record { vars = strong_to 2 0 ∷ unowned_to 1 0 ∷ []; made = 0; hands = 2 }
+
+abbrev pub count_word : (strong_extra unowned : ℕ) → (deiniting : Bool) → ℕ
+count_word strong_extra unowned deiniting = packed (Counts (record { strong_extra = strong_extra; unowned = unowned; deiniting = deiniting }))
+
+-- the strong references count one more: the event is that of the exchange
+abbrev pub raised : List Made
+raised =
+    made_at (first_of 1) (Exchange 1 (count_word 0 2 false) (count_word 1 2 false)) (count_word 0 2 false) (Some (acts.Load 1 (got.Hand 2))) ∷ made_at (first_of 1) (Load 1) (count_word 0 2 false) None ∷ []
+
+-- The object lives. Its name is read behind the exchange, by a step without an event, and the first variable has the new strong reference.
+abbrev pub LoadsGive : Type 0
+LoadsGive = Does one_slot (first_of 1) (op.Load 0 1) with_unowned [] with_both (made_at (first_of 1) (Load 2) (isa_word_of (next_name (first_of 1) nothing_yet 0)) None ∷ raised)
+
+-- Its deinit has begun. The load of the count is the only step, and has the event; the first variable is nil.
+abbrev pub LoadsFindDead : Type 0
+LoadsFindDead = Does one_slot (first_of 1) (op.Load 0 1) with_unowned [] with_unowned (made_at (first_of 1) (Load 1) (count_word 0 1 true) (Some (acts.Load 1 got.Dead)) ∷ [])

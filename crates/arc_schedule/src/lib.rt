@@ -2,7 +2,7 @@
 #![tactic(auto)]
 
 ghost use Rattle.arc_schedule.specs.Law.{ReplaysAreScheduleRuns};
-ghost use Rattle.arc_schedule.specs.Worked.{PlacesComeFirst, AccessesEndFirst, OperationsTell, BlocksAreRun};
+ghost use Rattle.arc_schedule.specs.Worked.{PlacesComeFirst, AccessesEndFirst, OperationsTell, BlocksAreRun, LoadsGive, LoadsFindDead};
 
 /// The steps of a replay that came to its end are a schedule run of its script: the words go from all 0 by what each step means, each
 /// thread's steps are those of its operations, phase by phase, and their order is that of the phases and of the schedule. They are as many
@@ -13,11 +13,14 @@ pub fn replays_are_schedule_runs()
 {}
 
 /// Two worked orders of two threads: the schedule's places come first, and where they run out a thread inside an access ends its operation
-/// before the threads go on in the order of their numbers. A worked operation, whose event is no function of the step and the word. And
-/// worked blocks, one that is run and one that is passed over.
+/// before the threads go on in the order of their numbers. A worked operation, whose event is no function of the step and the word. Worked
+/// blocks, one that is run and one that is passed over. And worked loads of an unowned reference: the object lives, so its name is read
+/// behind the exchange that has the event; and its deinit has begun, which the first step tells.
 pub fn schedules_are_followed()
     ensures places { PlacesComeFirst }
     ensures accesses { AccessesEndFirst }
     ensures events { OperationsTell }
     ensures blocks { BlocksAreRun }
+    ensures loads { LoadsGive }
+    ensures loads_dead { LoadsFindDead }
 {}

@@ -9,14 +9,14 @@ use Rattle.arc_rule.specs.declared.step.Changed.{Changed}
 use Rattle.arc_rule.specs.declared.plan.Next.{Next}
 use Rattle.arc_rule.specs.Extents.{Extent}
 use Rattle.arc_rule.specs.Places.{number}
-use Rattle.arc_plan.specs.declared.attempt.At.{At}
-use Rattle.arc_plan.specs.declared.attempt.Choice.{Choice}
-use Rattle.arc_plan.specs.declared.attempt.Choice.TheVariants.{Tell, Write}
-use Rattle.arc_plan.specs.Attempts.{takes_at, turned_at, answer_at}
-use Rattle.arc_side.specs.declared.up.EntryUpAnswer.{EntryUpAnswer}
-use Rattle.arc_side.specs.declared.up.EntryUpAnswer.TheVariants as ups
-use Rattle.arc_side.specs.declared.down.EntryDownAnswer.{EntryDownAnswer}
-use Rattle.arc_side.specs.declared.down.EntryDownAnswer.TheVariants as downs
+use Rattle.arc_rule.specs.declared.attempt.At.{At}
+use Rattle.arc_rule.specs.declared.attempt.Choice.{Choice}
+use Rattle.arc_rule.specs.declared.attempt.Choice.TheVariants.{Tell, Write}
+use Rattle.arc_rule.specs.Attempts.{takes_at, turned_at, answer_at}
+use Rattle.arc_side.specs.declared.entry_up.EntryUpAnswer.{EntryUpAnswer}
+use Rattle.arc_side.specs.declared.entry_up.EntryUpAnswer.TheVariants as ups
+use Rattle.arc_side.specs.declared.entry_down.EntryDownAnswer.{EntryDownAnswer}
+use Rattle.arc_side.specs.declared.entry_down.EntryDownAnswer.TheVariants as downs
 
 -- the word of an entry that counts the list
 abbrev pub count_place : Kind → ℕ → Place

@@ -1,11 +1,27 @@
-//! Plans on the counts of an entry: a reference more, a reference fewer.
+//! Plans of references that an entry counts, or an inline word or an entry: a reference more, a reference fewer; and the plans by which
+//! an entry is claimed, published and given back.
 #![tactic(auto)]
 
+mod claim;
 mod count;
 mod down;
+mod entry_down;
+mod entry_up;
+mod give_back;
+mod inline;
+mod publish;
 #[cfg(test)]
 mod tests;
 mod up;
+mod weak_load;
+mod weak_of;
 
-pub use down::{EntryDown, EntryDownAnswer};
-pub use up::{EntryUp, EntryUpAnswer};
+pub use claim::{Claim, ClaimAnswer};
+pub use down::{Down, DownAnswer};
+pub use entry_down::{EntryDown, EntryDownAnswer};
+pub use entry_up::{EntryUp, EntryUpAnswer};
+pub use give_back::GiveBack;
+pub use publish::{Publish, PublishAnswer};
+pub use up::{Up, UpAnswer};
+pub use weak_load::{Reads, WeakLoad, WeakLoadAnswer};
+pub use weak_of::{WeakOf, WeakOfAnswer};

@@ -1,55 +1,65 @@
-//! One reference more, by a count of an entry.
+//! One reference more, strong or unowned, wherever it is counted.
 
-ghost use Rattle.std.specs.Prelude.{◌≡◌, ◌≤◌};
-ghost use Rattle.arc_rule.specs.Places.{IsPlace, number};
-ghost use Rattle.arc_plan.specs.declared.attempt.At.TheVariants.{Start};
-ghost use Rattle.arc_plan.specs.Attempts.{asked_at, left_at, rests_at};
-ghost use Rattle.arc_side.specs.Entries.{count_place, EntryUpWord, entry_up_row, entry_up_takes, entry_up_turned, entry_up_answer, entry_up_change};
+ghost use Rattle.std.specs.Prelude.{◌≡◌, Some, None};
+ghost use Rattle.arc_rule.specs.Attempts.{told_as, TellsNoChange};
+ghost use Rattle.arc_plan.specs.Strong.{strong_up_change};
+ghost use Rattle.arc_plan.specs.Unowned.{unowned_up_change};
+ghost use Rattle.arc_side.specs.Entries.{entry_up_change};
+ghost use Rattle.arc_rule.specs.Places.{IsPlace};
+ghost use Rattle.arc_rule.specs.declared.layout.Place.TheVariants.{Count};
+ghost use Rattle.arc_rule.specs.declared.attempt.At.TheVariants.{Start};
+ghost use Rattle.arc_side.specs.declared.up.UpAnswer.TheVariants as ups;
+ghost use Rattle.arc_side.specs.Inline.{IsCountedInline, inline_leaves};
+ghost use Rattle.arc_side.specs.Ups.{strong_rise, unowned_rise, entry_rise, of_strong_up, of_unowned_up, of_entry_up, UpWord, up_choice, up_onward, up_moved, up_place, up_change};
 
 use crate::count::count_of;
-use arc_model::Kind;
-use arc_plan::attempt::{At, Choice};
-use arc_rule::{Changed, Layout, Next, Plan, Step};
+use crate::entry_up::{EntryUp, EntryUpAnswer};
+use crate::inline::entry_met;
+use arc_model::{Caps, Kind};
+use arc_plan::{StrongUp, StrongUpAnswer, UnownedUp, UnownedUpAnswer};
+use arc_rule::{At, Changed, Choice, Layout, Row};
 use std::alloc::AllocError;
 use std::marker::Model;
 
-/// What one more reference in an entry comes to.
+/// What one more reference comes to.
 #[derive(Clone, Copy, Debug, PartialEq, Eq)]
-pub enum EntryUpAnswer {
+pub enum UpAnswer {
     Up,
-    /// The strong count was 0: deinit has begun.
-    Zero,
+    /// A strong one was asked for, and the object was deiniting or its strong count in the entry was 0.
+    Dead,
+    /// The count stands at the cap of an inline word.
+    AtCap,
     /// The count stands at the greatest of an entry.
     CountFull,
     /// The word has changed in the meantime.
     Again(Changed),
 }
 
-/// One reference more, by an entry's count of a list: one load and one exchange.
+/// One strong or unowned reference more, by the inline word of a slot, and where that names an entry by the entry's count: at most three
+/// steps. A retain as in Swift's runtime (RefCount.h), whose slow path goes on at the side table.
 #[derive(Debug)]
-pub struct EntryUp {
+pub struct Up {
     layout: Layout,
-    entry: u32,
+    slot: u32,
     list: Kind,
-    wide: u32,
+    caps: Caps,
+    entry: Option<u32>,
     at: At,
 }
 
-impl Model for EntryUp {
-    ghost use Rattle.std.specs.Prelude.{◌≤◌};
-    ghost use Rattle.arc_side.specs.Entries.{EntryRise, count_place};
-    ghost use Rattle.arc_rule.specs.Places.{IsPlace};
+impl Model for Up {
+    ghost use Rattle.arc_side.specs.Ups.{Rise, IsRise};
 
-    ghost Value = { EntryRise };
+    ghost Value = { Rise };
 
-    ghost view = { λ p. record { layout = p.layout; entry = p.entry; list = p.list; wide = p.wide; at = p.at } };
+    ghost view = { λ p. record { layout = p.layout; slot = p.slot; list = p.list; caps = p.caps; entry = p.entry; at = p.at } };
 
-    ghost invariant = { λ p. IsPlace p.layout (count_place p.list p.entry) × (1 ≤ p.wide) };
+    ghost invariant = { λ p. IsRise (record { layout = p.layout; slot = p.slot; list = p.list; caps = p.caps; entry = p.entry; at = p.at }) };
 
-    ghost inverse = { λ p. record { layout = p.layout; entry = p.entry; list = p.list; wide = p.wide; at = p.at } };
+    ghost inverse = { λ p. record { layout = p.layout; slot = p.slot; list = p.list; caps = p.caps; entry = p.entry; at = p.at } };
 }
 
-impl Clone for EntryUp {
+impl Clone for Up {
     ghost is_clone = { λ old new. new ≡ old };
 
     fn clone(&self) -> Result<Self, AllocError> {
@@ -57,86 +67,158 @@ impl Clone for EntryUp {
     }
 }
 
-impl Copy for EntryUp {}
+impl Copy for Up {}
 
-impl EntryUp {
-    /// One more in this list of the object that has the entry. `wide` is the greatest count of an entry, 1 to 4,294,967,295.
-    pub fn start(layout: &Layout, entry: u32, list: Kind, wide: u32) -> EntryUp
-        requires entry { IsPlace layout.now (count_place list entry) }
-        requires wide { 1 ≤ wide }
-        ensures { result ≡ record { layout = layout.now; entry = entry; list = list; wide = wide; at = Start } }
+impl Up {
+    /// One more in this list, strong or unowned, of the object in the slot.
+    pub fn start(layout: &Layout, slot: u32, list: Kind, caps: Caps) -> Up
+        requires slot { IsPlace layout.now (Count slot) }
+        requires list { IsCountedInline list }
+        ensures { result ≡ record { layout = layout.now; slot = slot; list = list; caps = caps; entry = None; at = Start } }
     {
-        EntryUp {
+        Up {
             layout: *layout,
-            entry,
+            slot,
             list,
-            wide,
+            caps,
+            entry: None,
             at: At::Start,
         }
     }
 
-    fn choice(&self, word: u64) -> Choice<EntryUpAnswer>
-        requires { EntryUpWord self.now word }
-        ensures { result ≡ entry_up_row self.now.list self.now.wide word }
+    fn in_strong(&self) -> StrongUp
+        requires { self.now.entry ≡ None }
+        ensures { result ≡ strong_rise self.now }
     {
-        if self.list == Kind::Strong && word == 0 {
-            return Choice::Tell(EntryUpAnswer::Zero);
-        }
-        if word == u64::from(self.wide) {
-            return Choice::Tell(EntryUpAnswer::CountFull);
-        }
-        Choice::Write(word + 1)
+        let mut part = StrongUp::start(&self.layout, self.slot, self.caps.strong());
+        part.move_to(self.at);
+        part
+    }
+
+    fn in_unowned(&self) -> UnownedUp
+        requires { self.now.entry ≡ None }
+        ensures { result ≡ unowned_rise self.now }
+    {
+        let mut part = UnownedUp::start(&self.layout, self.slot, self.caps.unowned());
+        part.move_to(self.at);
+        part
+    }
+
+    fn in_entry(&self, entry: u32) -> EntryUp
+        requires { self.now.entry ≡ Some entry }
+        ensures { result ≡ entry_rise self.now entry }
+    {
+        let mut part = EntryUp::start(&self.layout, entry, self.list, self.caps.wide());
+        part.move_to(self.at);
+        part
     }
 }
 
-impl Plan for EntryUp {
-    type Answer = EntryUpAnswer;
+fn of_strong(choice: Choice<StrongUpAnswer>) -> Choice<UpAnswer>
+    requires silent { TellsNoChange strong_up_change choice }
+    ensures choice { result ≡ told_as of_strong_up choice }
+    ensures silent { TellsNoChange up_change result }
+{
+    match choice {
+        Choice::Write(new) => Choice::Write(new),
+        Choice::Tell(StrongUpAnswer::Up) => Choice::Tell(UpAnswer::Up),
+        Choice::Tell(StrongUpAnswer::Slow(_)) => Choice::Tell(UpAnswer::Dead),
+        Choice::Tell(StrongUpAnswer::Dead) => Choice::Tell(UpAnswer::Dead),
+        Choice::Tell(StrongUpAnswer::AtCap) => Choice::Tell(UpAnswer::AtCap),
+        Choice::Tell(StrongUpAnswer::Again(_)) => unreachable!(),
+    }
+}
 
-    ghost takes = { entry_up_takes };
+fn of_unowned(choice: Choice<UnownedUpAnswer>) -> Choice<UpAnswer>
+    requires silent { TellsNoChange unowned_up_change choice }
+    ensures choice { result ≡ told_as of_unowned_up choice }
+    ensures silent { TellsNoChange up_change result }
+{
+    match choice {
+        Choice::Write(new) => Choice::Write(new),
+        Choice::Tell(UnownedUpAnswer::Up) => Choice::Tell(UpAnswer::Up),
+        Choice::Tell(UnownedUpAnswer::Slow(_)) => Choice::Tell(UpAnswer::AtCap),
+        Choice::Tell(UnownedUpAnswer::AtCap) => Choice::Tell(UpAnswer::AtCap),
+        Choice::Tell(UnownedUpAnswer::Again(_)) => unreachable!(),
+    }
+}
 
-    ghost turned = { entry_up_turned };
+fn of_entry(choice: Choice<EntryUpAnswer>) -> Choice<UpAnswer>
+    requires silent { TellsNoChange entry_up_change choice }
+    ensures choice { result ≡ told_as of_entry_up choice }
+    ensures silent { TellsNoChange up_change result }
+{
+    match choice {
+        Choice::Write(new) => Choice::Write(new),
+        Choice::Tell(EntryUpAnswer::Up) => Choice::Tell(UpAnswer::Up),
+        Choice::Tell(EntryUpAnswer::Zero) => Choice::Tell(UpAnswer::Dead),
+        Choice::Tell(EntryUpAnswer::CountFull) => Choice::Tell(UpAnswer::CountFull),
+        Choice::Tell(EntryUpAnswer::Again(_)) => unreachable!(),
+    }
+}
 
-    ghost answer = { entry_up_answer };
+impl Row for Up {
+    type Answer = UpAnswer;
 
-    ghost asked = { λ p. asked_at (number p.layout (count_place p.list p.entry)) p.at };
+    ghost at = { λ p. p.at };
 
-    ghost left = { λ p. left_at p.at };
+    ghost moved = { up_moved };
 
-    ghost rests = { λ p. rests_at (number p.layout (count_place p.list p.entry)) p.at };
+    ghost place = { up_place };
 
-    ghost changed = { entry_up_change };
+    ghost fits = { UpWord };
 
-    fn next(&mut self, last: Option<u64>) -> Next<EntryUpAnswer> {
-        let place = count_of(&self.layout, self.entry, self.list);
-        let word = last.unwrap_or(0);
-        match self.at {
-            At::Start => {
-                self.at = At::Loading;
-                Next::Step(Step::Load { place })
-            }
-            At::Loading => match self.choice(word) {
-                Choice::Tell(answer) => {
-                    self.at = At::Ended;
-                    Next::Done(answer)
-                }
-                Choice::Write(new) => {
-                    self.at = At::Exchanging { seen: word, new };
-                    Next::Step(Step::Exchange {
-                        place,
-                        old: word,
-                        new,
-                    })
-                }
-            },
-            At::Exchanging { seen, new: _ } => {
-                self.at = At::Ended;
-                Next::Done(if word == seen {
-                    EntryUpAnswer::Up
-                } else {
-                    EntryUpAnswer::Again(Changed { seen, found: word })
-                })
-            }
-            At::Ended => unreachable!(),
+    ghost choice = { up_choice };
+
+    ghost after = { λ p seen. ups.Up };
+
+    ghost again = { ups.Again };
+
+    ghost onward = { up_onward };
+
+    ghost load_leaves = { λ p. inline_leaves p.entry };
+
+    ghost exchange_leaves = { λ p. 0 };
+
+    ghost changes = { up_change };
+
+    fn at(&self) -> At {
+        self.at
+    }
+
+    fn move_to(&mut self, to: At) {
+        self.at = to;
+    }
+
+    fn place(&self) -> u32 {
+        match self.entry {
+            None => self.layout.count_of(self.slot),
+            Some(entry) => count_of(&self.layout, entry, self.list),
         }
+    }
+
+    fn choice(&self, word: u64) -> Choice<UpAnswer> {
+        match (self.entry, self.list) {
+            (Some(entry), _) => of_entry(self.in_entry(entry).choice(word)),
+            (None, Kind::Strong) => of_strong(self.in_strong().choice(word)),
+            (None, Kind::Unowned) => of_unowned(self.in_unowned().choice(word)),
+            (None, Kind::Weak) => unreachable!(),
+        }
+    }
+
+    fn after(&self, _seen: u64) -> UpAnswer {
+        UpAnswer::Up
+    }
+
+    fn again(words: Changed) -> UpAnswer {
+        UpAnswer::Again(words)
+    }
+
+    fn onward(&self, last: Option<u64>) -> Option<Up> {
+        let entry = entry_met(self.entry, self.at, last)?;
+        Some(Up {
+            entry: Some(entry),
+            ..*self
+        })
     }
 }

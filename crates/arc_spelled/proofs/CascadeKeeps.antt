@@ -25,13 +25,14 @@ use Rattle.arc_rule.specs.declared.step.Step.TheVariants.{Exchange}
 use Rattle.arc_rule.specs.declared.step.Intent.{Intent}
 use Rattle.arc_rule.specs.declared.plan.Next.{Next}
 use Rattle.arc_rule.specs.declared.plan.Next.TheVariants as nexts
-use Rattle.arc_plan.specs.declared.attempt.At.{At as AttemptAt}
-use Rattle.arc_plan.specs.declared.attempt.At.TheVariants as attempt
+use Rattle.arc_rule.specs.declared.attempt.At.{At as AttemptAt}
+use Rattle.arc_rule.specs.declared.attempt.At.TheVariants as attempt
 use Rattle.arc_plan.specs.declared.slots.Once.{Once}
 use Rattle.arc_plan.specs.declared.slots.Once.TheVariants as onces
 use Rattle.arc_plan.specs.declared.unowned.UnownedDownAnswer.{UnownedDownAnswer}
 use Rattle.arc_plan.specs.declared.unowned.UnownedDownAnswer.TheVariants as downs
-use Rattle.arc_plan.specs.Attempts.{Attempt, IsCountWord, exchanging, chosen, takes_at as attempt_takes, turned_at as attempt_turned, answer_at as attempt_answer}
+use Rattle.arc_plan.specs.Attempts.{Attempt, IsCountWord}
+use Rattle.arc_rule.specs.Attempts.{exchanging, chosen, takes_at as attempt_takes, turned_at as attempt_turned, answer_at as attempt_answer}
 use Rattle.arc_plan.specs.Unowned.{UnownedDownWord, unowned_down_row, unowned_down_end}
 use Rattle.arc_plan.specs.Slots.{OneStep, once_takes, once_turned, once_answer, vacating}
 use Rattle.arc_cells.specs.declared.cascade.At.{At}
@@ -43,6 +44,8 @@ use Rattle.arc_programs.specs.Programs.{made_of}
 use Rattle.arc_programs.specs.ProgramsLines.{lines_of, number_of}
 use Rattle.arc_spelled.specs.Shown.{Shows}
 use Rattle.arc_spelled.specs.Shown.ReadsName.{nothing as read_nothing, name as read_name}
+use Rattle.arc_spelled.specs.Shown.IsNamedFor.{deinit}
+use Rattle.arc_spelled.specs.Shown.TakesLast.{finish}
 use Rattle.arc_spelled.specs.Shown.FindsNoEntry.{nothing as found_nothing, no_entry}
 use Rattle.arc_spelled.specs.CascadeStands.{asked_by, with_deinit, AllDone, IsFinished, AwaitsExchange, CascadeUpTo, CascadeStandsFor, IsSameObject, CascadesBegin, CascadesGoOn}
 
@@ -93,7 +96,7 @@ naming : (c : CascadeState) (asked : Option (Step × Intent)) (last : Option ℕ
 naming c asked None base now u fits = absurd fits
 naming c asked (Some w) base now u fits = record {
   found = Name c.slot (isa_name_of w) ∷ now;
-  shows = record { read = Name c.slot (isa_name_of w) ∷ now; reads = read_name u.1 refl; finds = found_nothing };
+  shows = record { read = Name c.slot (isa_name_of w) ∷ now; reads = read_name u.1 deinit refl; finds = found_nothing };
   stands = rw u.0 named;
   same = record { layout = refl; shape = refl; slot = refl };
   done = λ e. absurd (cc);
@@ -105,17 +108,11 @@ naming c asked (Some w) base now u fits = record {
 abbrev Finishes : CascadeState → Option (Step × Intent) → Option ℕ → (base now : List Note) → Attempt → Next UnownedDownAnswer → Type 0
 Finishes c asked last base now p a = CascadeComes c (finish_turned (record c { at = Ended; event = None }) p a) (finish_says c a) asked last base now
 
-attempts : (c : CascadeState) (asked : Option (Step × Intent)) (last : Option ℕ) (base now : List Note) (p : Attempt) (step : Step) → p.layout ≡ c.layout → p.slot ≡ c.slot → AwaitsExchange c (Some (step, intents.Deinit c.slot)) p.at → AllDone c.shape c.slot base now →
+attempts : (c : CascadeState) (asked : Option (Step × Intent)) (last : Option ℕ) (base now : List Note) (p : Attempt) (step : Step) → p.layout ≡ c.layout → p.slot ≡ c.slot → AwaitsExchange c.layout c.slot (intents.Deinit c.slot) (Some (step, intents.Deinit c.slot)) p.at → AllDone c.shape c.slot base now →
     Finishes c asked last base now p (nexts.Step step)
 attempts c asked last base now p step layout slot awaits all =
     asks_on c (finish_turned (record c { at = Ended; event = None }) p (nexts.Step step)) step _ asked last base now refl (record { layout = refl; shape = refl; slot = refl })
-    (record { layout = layout; slot = slot; awaits = awaits' p.at awaits }, all)
-  where
-    awaits' : (a : AttemptAt) → AwaitsExchange c (Some (step, intents.Deinit c.slot)) a → AwaitsExchange (finish_turned (record c { at = Ended; event = None }) p (nexts.Step step)) (Some (step, intents.Deinit c.slot)) a
-    awaits' attempt.Start w = w
-    awaits' attempt.Loading w = w
-    awaits' (attempt.Exchanging seen new) w = w
-    awaits' attempt.Ended w = w
+    (record { layout_is = layout; slot_is = slot; awaits = awaits }, all)
 
 -- an unowned reference is left
 leaves_more : (c : CascadeState) (asked : Option (Step × Intent)) (last : Option ℕ) (base now : List Note) (p : Attempt) → AllDone c.shape c.slot base now → Finishes c asked last base now p (nexts.Done downs.More)
@@ -134,7 +131,7 @@ leaves_none : (c : CascadeState) (asked : Option (Step × Intent)) (w new : ℕ)
     asked ≡ Some (Exchange (number c.layout (Count c.slot)) w new, intents.Deinit c.slot) → unpacked w ≡ Some (Counts counts) → AllDone c.shape c.slot base now → Finishes c asked (Some w) base now p (nexts.Done downs.Last)
 leaves_none c asked w new counts base now p asks holds all = record {
   found = Entry c.slot None ∷ Did (Finish c.slot true) ∷ now;
-  shows = record { read = now; reads = read_nothing; finds = no_entry refl asks refl holds };
+  shows = record { read = now; reads = read_nothing; finds = no_entry refl asks finish refl holds };
   stands = record { before = now; all_done = all; now_is = refl };
   same = record { layout = refl; shape = refl; slot = refl };
   done = λ e. absurd (cc);
@@ -176,7 +173,7 @@ loaded c asked w base now p layout slot all (Some (Counts k)) fits in_line =
     attempts c asked (Some w) base now (record p { at = exchanging w (unowned_down_row (Some (Counts k))) }) _ layout slot (rw layout (rw slot refl)) all
 
 finishing : (c : CascadeState) (asked : Option (Step × Intent)) (last : Option ℕ) (base now : List Note) (p : Attempt) → p.layout ≡ c.layout → p.slot ≡ c.slot → AllDone c.shape c.slot base now → (a : AttemptAt) →
-    AwaitsExchange c asked a → attempt_takes (UnownedDownWord p) a last → IsInlineAt a (unwrap_or last 0) →
+    AwaitsExchange c.layout c.slot (intents.Deinit c.slot) asked a → attempt_takes (UnownedDownWord p) a last → IsInlineAt a (unwrap_or last 0) →
     Finishes c asked last base now (plan_at p a (unwrap_or last 0)) (says_at p a (unwrap_or last 0))
 finishing c asked last base now p layout slot all attempt.Start awaits takes in_line = attempts c asked last base now (record p { at = attempt.Loading }) _ layout slot tt all
 finishing c asked None base now p layout slot all attempt.Loading awaits takes in_line = absurd takes
@@ -186,7 +183,7 @@ finishing c asked (Some w) base now p layout slot all (attempt.Exchanging seen n
   where
     go : (b : Bool) → eqb w seen ≡ b → Finishes c asked (Some w) base now (record p { at = attempt.Ended }) (nexts.Done (cond b (unowned_down_end (unpacked seen)) (downs.Again (record { seen = seen; found = w }))))
     go true e = let same = eqb-true w seen e in rw (sym same) (exchanged c asked w new base now (record p { at = attempt.Ended }) (rw same awaits) all)
-    go false e = asks_on c _ _ _ asked (Some w) base now refl (record { layout = refl; shape = refl; slot = refl }) (record { layout = refl; slot = refl; awaits = tt }, all)
+    go false e = asks_on c _ _ _ asked (Some w) base now refl (record { layout = refl; shape = refl; slot = refl }) (record { layout_is = refl; slot_is = refl; awaits = tt }, all)
 finishing c asked last base now p layout slot all attempt.Ended awaits takes in_line = absurd takes
 
 vacates : (c : CascadeState) (asked : Option (Step × Intent)) (last : Option ℕ) (base now : List Note) (p : OneStep) → IsFinished c.shape c.slot base now → (a : Once) → once_takes (λ w. Unit {0}) a last →
@@ -215,8 +212,8 @@ cascade_comes c asked last base now bare u takes = go c.at u takes
     go Entering u takes = asks_on c _ _ _ asked last base now refl (record { layout = refl; shape = refl; slot = refl }) (u, refl)
     go Naming u takes = naming c asked last base now u takes
     go (Named name) u takes = asks_on c _ _ _ asked last base now refl (record { layout = refl; shape = refl; slot = refl }) (all_done c.shape c.slot name base now bare u)
-    go Leaving u takes = asks_on c _ _ _ asked last base now refl (record { layout = refl; shape = refl; slot = refl }) (record { layout = refl; slot = refl; awaits = tt }, u)
-    go (Finishing p) u takes = finishing c asked last base now p u.0.layout u.0.slot u.1 p.at u.0.awaits takes.0 takes.1
+    go Leaving u takes = asks_on c _ _ _ asked last base now refl (record { layout = refl; shape = refl; slot = refl }) (record { layout_is = refl; slot_is = refl; awaits = tt }, u)
+    go (Finishing p) u takes = finishing c asked last base now p u.0.layout_is u.0.slot_is u.1 p.at u.0.awaits takes.0 takes.1
     go (Vacating p) u takes = vacates c asked last base now p u p.at takes
     go Ended u takes = absurd takes
 

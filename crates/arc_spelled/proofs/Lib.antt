@@ -1,4 +1,10 @@
 pub mod CascadeKeeps
+pub mod KindsKept
 pub mod StepperSteps
+pub mod Turning
+pub mod Makes
+pub mod Gains
+pub mod Drops
 pub mod StepperKeeps
+pub mod Declared
 pub mod SteppersSpell

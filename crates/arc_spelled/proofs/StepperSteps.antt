@@ -3,16 +3,14 @@ use Rattle.std.proofs.Common.{◌≡◌, ◌≢◌, ℕ, zero, suc, ◌+◌, ◌
 use Rattle.std.proofs.lemmas.Bool.{ltb-true, ltb-false, lt-ltb, cases_lt}
 use Rattle.std.proofs.Math.ListN.{get_or-map}
 use Rattle.std.proofs.lemmas.List.{map-set, set-get_or, length-set, length-append, length-map, length-take, length-take-le, take_all, take-append-le, reverse-append, get_or-set_same, get_or-set_other, drop_all}
-use Rattle.std.proofs.lemmas.List.Elements.{All-get_or}
 use Rattle.std.proofs.lemmas.List.Quantifiers.{position-Some}
 use Rattle.std.proofs.lemmas.List.Sums.{prefix_len_passes}
-use Rattle.std.proofs.lemmas.Option.{slice_get_within, get_or_from_slice_get}
+use Rattle.std.proofs.lemmas.Option.{slice_get_within}
 use Rattle.std.specs.Prelude.{slice_get, position, flat_map, is_some}
 use Rattle.std.specs.List.{prefix_len}
 use Rattle.arc_model.specs.declared.answer.Answer.{Answer}
 use Rattle.arc_model.specs.declared.answer.Answer.TheVariants as answers
 use Rattle.arc_model.specs.declared.event.Act.{Act}
-use Rattle.arc_model.specs.declared.shape.Kind.TheVariants.{Strong}
 use Rattle.arc_model.specs.Spelling.{Note, acts_of, IsDrop}
 use Rattle.arc_model.specs.Spelling.Note.{Line, Operation}
 use Rattle.arc_rule.specs.Extents.{Extent}
@@ -21,32 +19,39 @@ use Rattle.arc_rule.specs.declared.step.Intent.{Intent}
 use Rattle.arc_script.specs.declared.answer.Line.{Line as Told}
 use Rattle.arc_script.specs.declared.script.Op.{Op}
 use Rattle.arc_script.specs.declared.script.Op.TheVariants as op
+use Rattle.arc_side.specs.Inline.{IsCountedInline}
 use Rattle.arc_script.specs.Valid.{begins_block}
 use Rattle.arc_script.proofs.OneList.{length_in_one}
 use Rattle.arc_programs.specs.Variables.{Variables, put as put_var}
 use Rattle.arc_programs.specs.Variables as programs
 use Rattle.arc_programs.specs.Programs.{IsFromNil, IsAnswered, ScopeEnds, goes_on as programs_go_on}
 use Rattle.arc_programs.specs.Programs.OpsDone.{block}
-use Rattle.arc_programs.specs.Programs.IsFromNil.{copy as copy_from_nil, move as move_from_nil}
+use Rattle.arc_programs.specs.Programs.IsFromNil.{copy as copy_from_nil, unown as unown_from_nil, load as load_from_nil, move as move_from_nil}
 use Rattle.arc_programs.specs.Programs.IsAnswered.{from_nil as takes_nil, moved as moves_held}
 use Rattle.arc_programs.specs.Programs.ScopeEnds.{begins as scope_starts, dropped as var_dropped}
 use Rattle.arc_programs.specs.ProgramsLines.{lines_of, number_of, told}
 use Rattle.arc_programs.proofs.ProgramsSteps.{IsNext, answers_last, drops_last, drop_of, drop_of_nil, scope_goes_on}
 use Rattle.arc_ops.specs.declared.stepper.Held.{Held}
+use Rattle.arc_ops.specs.declared.gain.Gain.{Gain}
+use Rattle.arc_ops.specs.declared.gain.Gain.TheVariants as gains
 use Rattle.arc_ops.specs.declared.stepper.Doing.TheVariants.{Ready, Ended}
 use Rattle.arc_ops.specs.declared.stepper.Move.TheVariants as moves
 use Rattle.arc_ops.specs.Kept.{Kept, with_line}
-use Rattle.arc_ops.specs.Programs.{ordinal, ops_in_first}
+use Rattle.arc_ops.specs.Programs.{ordinal, ops_in_first, kind_of, KindsFit}
 use Rattle.arc_ops.proofs.Passed.{goes_forth}
 use Rattle.arc_ops.proofs.Counts.{first_few, first_all}
 use Rattle.arc_ops.specs.Served.{IsServedOp}
-use Rattle.arc_ops.specs.Thread.{Thread, value, is_held, put, set_var, skipped, drop_begun, begun_nil, begun_copy, moved, begun_move, begun_drop, begun_op, block_goes_on, phase_over, begun_at, begun, scope_drop, scope_at, scope_begun, next_op, replaced_old, replaced}
+use Rattle.arc_ops.specs.Thread.{Thread, value, is_held, put, set_var}
+use Rattle.arc_ops.specs.Plans.{drop_begun, op_of}
+use Rattle.arc_ops.specs.Begins.{skipped, begun_nil, begun_gain, moved, begun_move, begun_drop, begun_op, block_goes_on, phase_over, begun_at, begun, scope_drop, scope_at, scope_begun, next_op}
+use Rattle.arc_ops.specs.Drops.{replaced_old, replaced}
 use Rattle.arc_ops.specs.Thread as thread
 use Rattle.arc_spelled.specs.Shown.{ReadsName, FindsNoEntry, Says, Adds, with_act, with_event}
 use Rattle.arc_spelled.specs.Shown.ReadsName.{nothing as read_nothing, name as read_name}
 use Rattle.arc_spelled.specs.Shown.FindsNoEntry.{nothing as found_nothing, no_entry}
 use Rattle.arc_spelled.specs.Shown.Says.{nothing, line, operation}
-use Rattle.arc_spelled.specs.StepperStands.{Work, IsServedWork, strong_held, held_in, variables, AreDone, IsInScope, IsOverIf, IsOver, DropEnds, WorksOn, first_lines, IsCounted, number_at, IsOfPhaseIf, IsOfPhase, StandsFor}
+use Rattle.arc_spelled.specs.StepperStands.{Work, IsServedWork, held_of, held_in, variables, AreOfKinds, AreDone, IsInScope, IsOverIf, IsOver, DropEnds, WorksOn, first_lines, IsCounted, number_at, IsOfPhaseIf, IsOfPhase, StandsFor}
+use Rattle.arc_spelled.proofs.KindsKept.{holds-at, FitsKind, fits-some, kinds-set, kinds-nil, counted-in}
 
 -- ---- variables
 
@@ -115,13 +120,24 @@ pub counted-operation : (w : Work) (hands made : ℕ) (kept : Kept) (n : ℕ) (n
 counted-operation w hands made kept n now c = record { hands_are = c.hands_are; made_is = c.made_is; lines_are = c.lines_are }
 
 -- the line of an operation that is done at once
-skipped-line : (w : Work) (t : Thread) (a : Answer) (now : List Note) → WorksOn w t.layout t.shape t.thread t.phases t.program → IsCounted w t.hands t.made t.kept (Operation (ordinal w.program t.index) ∷ now) →
+skipped-line : (w : Work) (t : Thread) (a : Answer) (now : List Note) → WorksOn w t.layout t.shape t.thread t.phases t.program t.vars → IsCounted w t.hands t.made t.kept (Operation (ordinal w.program t.index) ∷ now) →
     IsCounted w t.hands t.made (with_line (record { operation = ordinal t.program t.index; answer = a }) t.kept) (Line a ∷ Operation (ordinal w.program t.index) ∷ now)
 skipped-line w t a now works c = counted-line w t.hands t.made t.kept (ordinal t.program t.index) a (Operation (ordinal w.program t.index) ∷ now) (ap (λ (p : List Op). ordinal p t.index) works.program_is) c
 
 -- the number that the stepper gives a line is that of the notes
-pub number-here : (w : Work) (t : Thread) (now : List Note) → WorksOn w t.layout t.shape t.thread t.phases t.program → number_of now ≡ number_at w t.index → thread.number_of t ≡ number_of now
+pub number-here : (w : Work) (t : Thread) (now : List Note) → WorksOn w t.layout t.shape t.thread t.phases t.program t.vars → number_of now ≡ number_at w t.index → thread.number_of t ≡ number_of now
 number-here w t now works e = ap (λ (p : List Op). cond (ltb t.index (length p)) (ordinal p t.index) 0) works.program_is ∙ sym e
+
+-- it works on the same over other variables
+pub works-over : (w : Work) (t : Thread) {vars : List (Option Held)} → WorksOn w t.layout t.shape t.thread t.phases t.program t.vars → AreOfKinds w.kinds vars → WorksOn w t.layout t.shape t.thread t.phases t.program vars
+works-over w t works kinds = record {
+  layout_is = works.layout_is;
+  shape_is = works.shape_is;
+  thread_is = works.thread_is;
+  phases_is = works.phases_is;
+  program_is = works.program_is;
+  kinds = kinds;
+}
 
 -- ---- notes that are added
 
@@ -141,11 +157,11 @@ acts-with (Some a) ns = refl
 
 acts-read : {layout : Extent} {asked : Option (Step × Intent)} {last : Option ℕ} {b ns : List Note} → ReadsName layout asked last b ns → acts_of ns ≡ acts_of b
 acts-read read_nothing = refl
-acts-read (read_name a l) = refl
+acts-read (read_name a n l) = refl
 
 acts-found : {layout : Extent} {asked : Option (Step × Intent)} {last : Option ℕ} {e : Option Act} {b ns : List Note} → FindsNoEntry layout asked last e b ns → acts_of ns ≡ acts_of b
 acts-found found_nothing = refl
-acts-found (no_entry a l w c) = refl
+acts-found (no_entry a l n w c) = refl
 
 -- the event that is told is the newest of the events
 pub acts-added : {layout : Extent} {asked : Option (Step × Intent)} {last : Option ℕ} {b ns : List Note} (e : Option Act) → Adds layout asked last e b ns → acts_of ns ≡ with_event e (acts_of b)
@@ -171,7 +187,7 @@ pub over-done : (w : Work) (i : ℕ) (vars : List (Option Held)) (now : List Not
 over-done w i vars now within d = rw (lt-ltb i (length w.program) within) d
 
 served-at : (w : Work) (i : ℕ) (o : Op) → IsServedWork w → slice_get w.program i ≡ Some o → IsServedOp o
-served-at w i o served there = subst IsServedOp (get_or_from_slice_get w.program i o o there) (All-get_or IsServedOp w.program i o (slice_get_within w.program i o there) served.ops)
+served-at w i o served there = holds-at IsServedOp w.program i o served.ops there
 
 get-drop_suc : {X : Type 0} (xs rest : List X) (i : ℕ) (x : X) → x ∷ rest ≡ drop i xs → (slice_get xs i ≡ Some x) × (rest ≡ drop (suc i) xs)
 get-drop_suc [] rest zero x e = absurd (cc)
@@ -188,21 +204,28 @@ nothing-left (y ∷ xs) zero e = absurd (cc)
 nothing-left (y ∷ xs) (suc i) e = let h = nothing-left xs i e in omega arith
 
 -- a drop begins
-pub drop-asks : (w : Work) (t : Thread) (held : Held) (now : List Note) → WorksOn w t.layout t.shape t.thread t.phases t.program → IsCounted w t.hands t.made t.kept now → number_of now ≡ number_at w t.index →
-    IsOfPhase w t.phase t.index → DropEnds w t.index held t.vars now → StandsFor w (drop_begun held t) now
-drop-asks w t held now works counts number phase ends = record { works = works; in_phase = phase; counts = counts; number = number; asks = tt; up_to = ends }
+pub drop-asks : (w : Work) (t : Thread) (held : Held) (now : List Note) → WorksOn w t.layout t.shape t.thread t.phases t.program t.vars → IsCounted w t.hands t.made t.kept now → number_of now ≡ number_at w t.index →
+    IsOfPhase w t.phase t.index → IsCountedInline held.kind → DropEnds w t.index held t.vars now → StandsFor w (drop_begun held t) now
+drop-asks w t held now works counts number phase counted ends = record {
+  works = works;
+  in_phase = phase;
+  counts = counts;
+  number = number;
+  asks = tt;
+  up_to = record { counted = counted; releasing = record { layout_is = works.layout_is; slot_is = refl; awaits = tt }; ends = ends };
+}
 
 -- ---- the end of the scope
 
-scopes : (w : Work) (t : Thread) (now : List Note) → WorksOn w t.layout t.shape t.thread t.phases t.program → IsCounted w t.hands t.made t.kept now → ltb t.index (length w.program) ≡ false → number_of now ≡ 0 →
+scopes : (w : Work) → IsServedWork w → (t : Thread) (now : List Note) → WorksOn w t.layout t.shape t.thread t.phases t.program t.vars → IsCounted w t.hands t.made t.kept now → ltb t.index (length w.program) ≡ false → number_of now ≡ 0 →
     length w.phases ≤ t.phase + 1 → IsInScope w t.vars now → Comes w (scope_begun t) t.event now
-scopes w t now works counts past number last s = go (position is_held t.vars) refl
+scopes w served t now works counts past number last s = go (position is_held t.vars) refl
   where
     number_is : number_of now ≡ number_at w t.index
     number_is = rw past number
 
     held : (v : ℕ) (h : Held) → value t.vars v ≡ Some h → v < length t.vars → ((u : ℕ) → u < v → is_held (value t.vars u) ≡ false) → Comes w (drop_begun h (set_var v None t)) t.event now
-    held v h e within before = record { after = now; says = nothing; event = refl; stands = drop-asks w (set_var v None t) h now works counts number_is (rw past last) (λ after x. rw past (over after x)) }
+    held v h e within before = record { after = now; says = nothing; event = refl; stands = drop-asks w (set_var v None t) h now (works-over w t works (kinds-nil w.kinds t.vars v works.kinds)) counts number_is (rw past last) (counted-in w served t.vars v h works.kinds e) (λ after x. rw past (over after x)) }
       where
         above : s.below ≤ v
         above = at (cases_lt v s.below)
@@ -221,7 +244,7 @@ scopes w t now works counts past number last s = go (position is_held t.vars) re
             at (inl lower) = let differ : u ≢ v = λ e. (let same : u ≡ v = e in omega arith) in get_or-set_other t.vars v u None None differ ∙ others u lower
             at (inr upper) = let same : u ≡ v = omega arith in rw same (get_or-set_same t.vars v None None within)
 
-        over : (after : List Note) → IsDrop w.shape Strong h.place h.hand now after → IsInScope w (set t.vars v None) after
+        over : (after : List Note) → IsDrop w.shape h.kind h.place h.hand now after → IsInScope w (set t.vars v None) after
         over after x =
             let many : length (set t.vars v None) ≡ length t.vars = length-set t.vars v None in
             let all : length (variables t.vars) ≡ length t.vars = length-map t.vars held_in in
@@ -293,7 +316,7 @@ is-here w t o rest r =
     record { there = here.0; within = below; in_phase = rw (lt-ltb t.index (length w.program) below) here.1; before_end = let h = here.1 in omega arith; behind = g.1 }
 
 -- the operations of the phase are done: it waits for the next phase, or the scope ends
-ends-phase : (w : Work) → IsServedWork w → (at : ℕ) (t : Thread) (now : List Note) → WorksOn w t.layout t.shape t.thread t.phases t.program → IsCounted w t.hands t.made t.kept now →
+ends-phase : (w : Work) → IsServedWork w → (at : ℕ) (t : Thread) (now : List Note) → WorksOn w t.layout t.shape t.thread t.phases t.program t.vars → IsCounted w t.hands t.made t.kept now →
     [] ≡ drop at (take (ops_in_first (t.phase + 1) w.phases) w.program) → at ≤ t.index → t.index ≤ ops_in_first (t.phase + 1) w.phases → AreDone w t.index t.vars now → Comes w (phase_over t) t.event now
 ends-phase w served at t now works counts r past_it before d = subst P (sym works.phases_is) (go (ltb (t.phase + 1) (length w.phases)) refl)
   where
@@ -313,7 +336,7 @@ ends-phase w served at t now works counts r past_it before d = subst P (sym work
 
     ending : length w.phases ≤ t.phase + 1 → Comes w (scope_begun t) t.event now
     ending last = comes-after w (scope_begun t) t.event now (Operation 0 ∷ now) (operation nothing)
-        (scopes w t (Operation 0 ∷ now) works (counted-operation w t.hands t.made t.kept 0 now counts) (past (ltb t.index (length w.program)) refl) refl last (record {
+        (scopes w served t (Operation 0 ∷ now) works (counted-operation w t.hands t.made t.kept 0 now counts) (past (ltb t.index (length w.program)) refl) refl last (record {
           first = variables t.vars;
           worked = now;
           ops = rw (← over) d;
@@ -354,11 +377,11 @@ opens w t now o rest here counts d = record {
 }
 
 -- a nil reference is taken for a variable
-from-nil : (w : Work) (t : Thread) (now : List Note) (o : Op) (rest : List Op) (to : ℕ) (go : Thread → Thread) → WorksOn w t.layout t.shape t.thread t.phases t.program → IsHere w t o rest → Opens w t now o →
+from-nil : (w : Work) → IsServedWork w → (t : Thread) (now : List Note) (o : Op) (rest : List Op) (to : ℕ) (go : Thread → Thread) → WorksOn w t.layout t.shape t.thread t.phases t.program t.vars → IsHere w t o rest → Opens w t now o →
     IsFromNil (variables t.vars) o to →
     (AreDone w (t.index + 1) t.vars (Line answers.Nil ∷ Operation (ordinal w.program t.index) ∷ now) → Comes w (go (skipped answers.Nil t)) t.event (Line answers.Nil ∷ Operation (ordinal w.program t.index) ∷ now)) →
     Comes w (begun_nil to (value t.vars to) t go) t.event now
-from-nil w t now o rest to go works here x nil skip = at (value t.vars to) refl
+from-nil w served t now o rest to go works here x nil skip = at (value t.vars to) refl
   where
     answered : (old : Option Held) → value t.vars to ≡ old →
         IsAnswered w.thread w.came o (variables t.vars) (Operation (ordinal w.program t.index) ∷ now) (put_var (variables t.vars) to None) answers.Nil (held_in old) (Operation (ordinal w.program t.index) ∷ now)
@@ -369,23 +392,28 @@ from-nil w t now o rest to go works here x nil skip = at (value t.vars to) refl
       after = Line answers.Nil ∷ Operation (ordinal w.program t.index) ∷ now;
       says = line (operation nothing);
       event = refl;
-      stands = drop-asks w (set_var to None (put answers.Nil (record t { first = true }))) old (Line answers.Nil ∷ Operation (ordinal w.program t.index) ∷ now) works
+      stands = drop-asks w (set_var to None (put answers.Nil (record t { first = true }))) old (Line answers.Nil ∷ Operation (ordinal w.program t.index) ∷ now) (works-over w t works (kinds-nil w.kinds t.vars to works.kinds))
           (counted-line w t.hands t.made t.kept (thread.number_of t) answers.Nil (Operation (ordinal w.program t.index) ∷ now) (number-here w t (Operation (ordinal w.program t.index) ∷ now) works x.number) x.opened)
-          x.number here.in_phase
+          x.number here.in_phase (counted-in w served t.vars to old works.kinds e)
           (λ after y. over-done w t.index (set t.vars to None) after here.within (rw (put-held t.vars to None) (drops_last x.next (answered (Some old) e) y)));
     }
     at None e =
         let same : put_var (variables t.vars) to None ≡ variables t.vars = put-nil (variables t.vars) to (value-held t.vars to None e) in
         comes-after w (go (skipped answers.Nil t)) t.event now (Line answers.Nil ∷ Operation (ordinal w.program t.index) ∷ now) (line (operation nothing)) (skip (rw same at (answers_last x.next (answered None e))))
 
--- a reference is copied
-copying : (w : Work) (t : Thread) (now : List Note) (to from : ℕ) (rest : List Op) (go : Thread → Thread) → WorksOn w t.layout t.shape t.thread t.phases t.program → IsHere w t (op.Copy to from) rest →
-    Opens w t now (op.Copy to from) → AreDone w t.index t.vars now →
+-- a reference is gained from that in another variable
+gaining : (w : Work) → IsServedWork w → (t : Thread) (now : List Note) (gain : Gain) (to of : ℕ) (rest : List Op) (go : Thread → Thread) → WorksOn w t.layout t.shape t.thread t.phases t.program t.vars → IsHere w t (op_of gain to of) rest →
+    Opens w t now (op_of gain to of) → AreDone w t.index t.vars now →
     (AreDone w (t.index + 1) t.vars (Line answers.Nil ∷ Operation (ordinal w.program t.index) ∷ now) → Comes w (go (skipped answers.Nil t)) t.event (Line answers.Nil ∷ Operation (ordinal w.program t.index) ∷ now)) →
-    Comes w (begun_copy to (value t.vars from) (value t.vars to) t go) t.event now
-copying w t now to from rest go works here x d skip = at (value t.vars from) refl
+    Comes w (begun_gain gain to (value t.vars of) (value t.vars to) t go) t.event now
+gaining w served t now gain to of rest go works here x d skip = at (value t.vars of) refl
   where
-    at : (source : Option Held) → value t.vars from ≡ source → Comes w (begun_copy to source (value t.vars to) t go) t.event now
+    nil : (g : Gain) → programs.value (variables t.vars) of ≡ None → IsFromNil (variables t.vars) (op_of g to of) to
+    nil gains.Copy e = copy_from_nil e
+    nil gains.Unown e = unown_from_nil e
+    nil gains.Load e = load_from_nil e
+
+    at : (source : Option Held) → value t.vars of ≡ source → Comes w (begun_gain gain to source (value t.vars to) t go) t.event now
     at (Some h) e = record {
       after = Operation (ordinal w.program t.index) ∷ now;
       says = operation nothing;
@@ -396,25 +424,30 @@ copying w t now to from rest go works here x d skip = at (value t.vars from) ref
         counts = x.opened;
         number = x.number;
         asks = tt;
-        up_to = record { from = from; begun = record { base = now; done = d; there = here.there; now_is = refl }; source = e };
+        up_to = record { of = of; begun = record { base = now; done = d; there = here.there; now_is = refl }; source = e };
       };
     }
-    at None e = from-nil w t now (op.Copy to from) rest to go works here x (copy_from_nil (value-held t.vars from None e)) skip
+    at None e = from-nil w served t now (op_of gain to of) rest to go works here x (nil gain (value-held t.vars of None e)) skip
 
 -- a reference is moved
-moving : (w : Work) (t : Thread) (now : List Note) (to from : ℕ) (rest : List Op) (go : Thread → Thread) → WorksOn w t.layout t.shape t.thread t.phases t.program → IsHere w t (op.Move to from) rest →
+moving : (w : Work) → IsServedWork w → (t : Thread) (now : List Note) (to from : ℕ) (rest : List Op) (go : Thread → Thread) → WorksOn w t.layout t.shape t.thread t.phases t.program t.vars → IsHere w t (op.Move to from) rest →
     Opens w t now (op.Move to from) →
     (AreDone w (t.index + 1) t.vars (Line answers.Nil ∷ Operation (ordinal w.program t.index) ∷ now) → Comes w (go (skipped answers.Nil t)) t.event (Line answers.Nil ∷ Operation (ordinal w.program t.index) ∷ now)) →
-    ((held : Held) → AreDone w (t.index + 1) (set (set t.vars to (Some held)) from None) (Line answers.Ok ∷ Operation (ordinal w.program t.index) ∷ now) →
+    ((held : Held) → AreOfKinds w.kinds (set (set t.vars to (Some held)) from None) → AreDone w (t.index + 1) (set (set t.vars to (Some held)) from None) (Line answers.Ok ∷ Operation (ordinal w.program t.index) ∷ now) →
     Comes w (go (moved to from held (skipped answers.Ok t))) t.event (Line answers.Ok ∷ Operation (ordinal w.program t.index) ∷ now)) →
     Comes w (begun_move to from (value t.vars from) (value t.vars to) t go) t.event now
-moving w t now to from rest go works here x skip move = at (value t.vars from) refl
+moving w served t now to from rest go works here x skip move = at (value t.vars from) refl
   where
-    replaced_vars : (h : Held) → variables (set (set t.vars to (Some h)) from None) ≡ put_var (put_var (variables t.vars) to (Some (strong_held h))) from None
+    kinds : (h : Held) → value t.vars from ≡ Some h → AreOfKinds w.kinds (set (set t.vars to (Some h)) from None)
+    kinds h e =
+        let fits : h.kind ≡ kind_of w.kinds to = works.kinds from h e ∙ sym (holds-at (KindsFit w.kinds) w.program t.index (op.Move to from) served.kinds_fit here.there) in
+        kinds-nil w.kinds (set t.vars to (Some h)) from (kinds-set w.kinds t.vars to (Some h) (fits-some w.kinds to h fits) works.kinds)
+
+    replaced_vars : (h : Held) → variables (set (set t.vars to (Some h)) from None) ≡ put_var (put_var (variables t.vars) to (Some (held_of h))) from None
     replaced_vars h = put-held (set t.vars to (Some h)) from None ∙ ap (λ vs. put_var vs from None) (put-held t.vars to (Some h))
 
     answered : (h : Held) (old : Option Held) → value t.vars from ≡ Some h → value t.vars to ≡ old →
-        IsAnswered w.thread w.came (op.Move to from) (variables t.vars) (Operation (ordinal w.program t.index) ∷ now) (put_var (put_var (variables t.vars) to (Some (strong_held h))) from None) answers.Ok (held_in old)
+        IsAnswered w.thread w.came (op.Move to from) (variables t.vars) (Operation (ordinal w.program t.index) ∷ now) (put_var (put_var (variables t.vars) to (Some (held_of h))) from None) answers.Ok (held_in old)
         (Operation (ordinal w.program t.index) ∷ now)
     answered h old e f = moves_held (value-held t.vars from (Some h) e) (record { replaced = refl; old = sym (value-held t.vars to old f) }) refl refl
 
@@ -423,42 +456,42 @@ moving w t now to from rest go works here x skip move = at (value t.vars from) r
       after = Line answers.Ok ∷ Operation (ordinal w.program t.index) ∷ now;
       says = line (operation nothing);
       event = refl;
-      stands = drop-asks w (moved to from h (put answers.Ok (record t { first = true }))) old (Line answers.Ok ∷ Operation (ordinal w.program t.index) ∷ now) works
+      stands = drop-asks w (moved to from h (put answers.Ok (record t { first = true }))) old (Line answers.Ok ∷ Operation (ordinal w.program t.index) ∷ now) (works-over w t works (kinds h e))
           (counted-line w t.hands t.made t.kept (thread.number_of t) answers.Ok (Operation (ordinal w.program t.index) ∷ now) (number-here w t (Operation (ordinal w.program t.index) ∷ now) works x.number) x.opened)
-          x.number here.in_phase
+          x.number here.in_phase (counted-in w served t.vars to old works.kinds f)
           (λ after y. over-done w t.index (set (set t.vars to (Some h)) from None) after here.within (rw (replaced_vars h) (drops_last x.next (answered h (Some old) e f) y)));
     }
     to_place h None e f =
         comes-after w (go (moved to from h (skipped answers.Ok t))) t.event now (Line answers.Ok ∷ Operation (ordinal w.program t.index) ∷ now) (line (operation nothing))
-        (move h (rw (replaced_vars h) (answers_last x.next (answered h None e f))))
+        (move h (kinds h e) (rw (replaced_vars h) (answers_last x.next (answered h None e f))))
 
     at : (source : Option Held) → value t.vars from ≡ source → Comes w (begun_move to from source (value t.vars to) t go) t.event now
     at (Some h) e = to_place h (value t.vars to) e refl
-    at None e = from-nil w t now (op.Move to from) rest to go works here x (move_from_nil (value-held t.vars from None e)) skip
+    at None e = from-nil w served t now (op.Move to from) rest to go works here x (move_from_nil (value-held t.vars from None e)) skip
 
 -- a reference is dropped
-dropping : (w : Work) (t : Thread) (now : List Note) (v : ℕ) (rest : List Op) (go : Thread → Thread) → WorksOn w t.layout t.shape t.thread t.phases t.program → IsHere w t (op.Drop v) rest → Opens w t now (op.Drop v) →
+dropping : (w : Work) → IsServedWork w → (t : Thread) (now : List Note) (v : ℕ) (rest : List Op) (go : Thread → Thread) → WorksOn w t.layout t.shape t.thread t.phases t.program t.vars → IsHere w t (op.Drop v) rest → Opens w t now (op.Drop v) →
     (AreDone w (t.index + 1) t.vars (Line answers.Nil ∷ Operation (ordinal w.program t.index) ∷ now) → Comes w (go (skipped answers.Nil t)) t.event (Line answers.Nil ∷ Operation (ordinal w.program t.index) ∷ now)) →
     Comes w (begun_drop v (value t.vars v) t go) t.event now
-dropping w t now v rest go works here x skip = at (value t.vars v) refl
+dropping w served t now v rest go works here x skip = at (value t.vars v) refl
   where
     at : (old : Option Held) → value t.vars v ≡ old → Comes w (begun_drop v old t go) t.event now
     at (Some old) e = record {
       after = Line answers.Ok ∷ Operation (ordinal w.program t.index) ∷ now;
       says = line (operation nothing);
       event = refl;
-      stands = drop-asks w (set_var v None (put answers.Ok (record t { first = true }))) old (Line answers.Ok ∷ Operation (ordinal w.program t.index) ∷ now) works
+      stands = drop-asks w (set_var v None (put answers.Ok (record t { first = true }))) old (Line answers.Ok ∷ Operation (ordinal w.program t.index) ∷ now) (works-over w t works (kinds-nil w.kinds t.vars v works.kinds))
           (counted-line w t.hands t.made t.kept (thread.number_of t) answers.Ok (Operation (ordinal w.program t.index) ∷ now) (number-here w t (Operation (ordinal w.program t.index) ∷ now) works x.number) x.opened)
-          x.number here.in_phase
+          x.number here.in_phase (counted-in w served t.vars v old works.kinds e)
           (λ after y. over-done w t.index (set t.vars v None) after here.within
-          (rw (put-held t.vars v None) (drops_last x.next (drop_of w.thread v w.came (strong_held old) (variables t.vars) (Operation (ordinal w.program t.index) ∷ now) (value-held t.vars v (Some old) e)) y)));
+          (rw (put-held t.vars v None) (drops_last x.next (drop_of w.thread v w.came (held_of old) (variables t.vars) (Operation (ordinal w.program t.index) ∷ now) (value-held t.vars v (Some old) e)) y)));
     }
     at None e = comes-after w (go (skipped answers.Nil t)) t.event now (Line answers.Nil ∷ Operation (ordinal w.program t.index) ∷ now) (line (operation nothing))
         (skip (answers_last x.next (drop_of_nil w.thread v w.came (variables t.vars) (Operation (ordinal w.program t.index) ∷ now) (value-held t.vars v None e))))
 
 -- what goes on behind an operation of the phase
 abbrev GoesOnBehind : Work → ℕ → List Op → ℕ → Type 0
-GoesOnBehind w at rest phase = (u : Thread) (ns : List Note) → WorksOn w u.layout u.shape u.thread u.phases u.program → IsCounted w u.hands u.made u.kept ns → u.phase ≡ phase →
+GoesOnBehind w at rest phase = (u : Thread) (ns : List Note) → WorksOn w u.layout u.shape u.thread u.phases u.program u.vars → IsCounted w u.hands u.made u.kept ns → u.phase ≡ phase →
     at + 1 ≤ u.index → u.index ≤ ops_in_first (phase + 1) w.phases → AreDone w u.index u.vars ns → Comes w (begun_at (at + 1) rest u) u.event ns
 
 -- a variable holds a reference for the stepper exactly where it does for the notes
@@ -470,7 +503,7 @@ same-held vars v = ap is_some (value-held vars v (value vars v) refl) ∙ go (va
     go (Some h) = refl
 
 -- a block begins: the thread goes on in it, or behind it
-comes-to-block : (w : Work) → IsServedWork w → (at : ℕ) (o : Op) (rest : List Op) (t : Thread) (now : List Note) → WorksOn w t.layout t.shape t.thread t.phases t.program → IsCounted w t.hands t.made t.kept now → at ≡ t.index →
+comes-to-block : (w : Work) → IsServedWork w → (at : ℕ) (o : Op) (rest : List Op) (t : Thread) (now : List Note) → WorksOn w t.layout t.shape t.thread t.phases t.program t.vars → IsCounted w t.hands t.made t.kept now → at ≡ t.index →
     IsHere w t o rest → AreDone w t.index t.vars now → GoesOnBehind w at rest t.phase → begins_block o ≡ true → (n : ℕ) → block_goes_on t.vars t.index o ≡ Some n → n ≡ programs_go_on (variables t.vars) t.index o →
     Comes w (begun_at (at + 1) rest (record t { index = n })) t.event now
 comes-to-block w served at o rest t now works counts place here d on begins n goes same =
@@ -480,8 +513,16 @@ comes-to-block w served at o rest t now works counts place here d on begins n go
     let past = forth.0 in
     on (record t { index = n }) now works counts refl (omega (arith, past, place)) forth.1 (block d here.there begins same past)
 
+-- an operation begins that gains a reference
+comes-to-gain : (w : Work) → IsServedWork w → (at : ℕ) (gain : Gain) (to of : ℕ) (rest : List Op) (t : Thread) (now : List Note) → WorksOn w t.layout t.shape t.thread t.phases t.program t.vars → IsCounted w t.hands t.made t.kept now → at ≡ t.index →
+    IsHere w t (op_of gain to of) rest → AreDone w t.index t.vars now → GoesOnBehind w at rest t.phase → Comes w (begun_gain gain to (value t.vars of) (value t.vars to) t (λ behind. begun_at (at + 1) rest behind)) t.event now
+comes-to-gain w served at gain to of rest t now works counts place here d on =
+    let x = opens w t now (op_of gain to of) rest here counts d in
+    gaining w served t now gain to of rest (λ behind. begun_at (at + 1) rest behind) works here x d
+    (λ done. on (skipped answers.Nil t) (Line answers.Nil ∷ Operation (ordinal w.program t.index) ∷ now) works (skipped-line w t answers.Nil now works x.opened) refl (omega (arith, place)) here.before_end done)
+
 -- the operation begins where the thread stands
-comes-to : (w : Work) → IsServedWork w → (at : ℕ) (o : Op) (rest : List Op) (t : Thread) (now : List Note) → WorksOn w t.layout t.shape t.thread t.phases t.program → IsCounted w t.hands t.made t.kept now → at ≡ t.index →
+comes-to : (w : Work) → IsServedWork w → (at : ℕ) (o : Op) (rest : List Op) (t : Thread) (now : List Note) → WorksOn w t.layout t.shape t.thread t.phases t.program t.vars → IsCounted w t.hands t.made t.kept now → at ≡ t.index →
     IsHere w t o rest → AreDone w t.index t.vars now → GoesOnBehind w at rest t.phase → Comes w (begun_op o t (λ behind. begun_at (at + 1) rest behind)) t.event now
 comes-to w served at (op.New to class) rest t now works counts place here d on = record {
   after = Operation (ordinal w.program t.index) ∷ now;
@@ -499,31 +540,28 @@ comes-to w served at (op.New to class) rest t now works counts place here d on =
     };
   };
 }
-comes-to w served at (op.Copy to from) rest t now works counts place here d on =
-    let x = opens w t now (op.Copy to from) rest here counts d in
-    copying w t now to from rest (λ behind. begun_at (at + 1) rest behind) works here x d
-    (λ done. on (skipped answers.Nil t) (Line answers.Nil ∷ Operation (ordinal w.program t.index) ∷ now) works (skipped-line w t answers.Nil now works x.opened) refl (omega (arith, place)) here.before_end done)
+comes-to w served at (op.Copy to from) rest t now works counts place here d on = comes-to-gain w served at gains.Copy to from rest t now works counts place here d on
+comes-to w served at (op.Unown to of) rest t now works counts place here d on = comes-to-gain w served at gains.Unown to of rest t now works counts place here d on
+comes-to w served at (op.Load to of) rest t now works counts place here d on = comes-to-gain w served at gains.Load to of rest t now works counts place here d on
 comes-to w served at (op.Move to from) rest t now works counts place here d on =
     let x = opens w t now (op.Move to from) rest here counts d in
-    moving w t now to from rest (λ behind. begun_at (at + 1) rest behind) works here x
+    moving w served t now to from rest (λ behind. begun_at (at + 1) rest behind) works here x
     (λ done. on (skipped answers.Nil t) (Line answers.Nil ∷ Operation (ordinal w.program t.index) ∷ now) works (skipped-line w t answers.Nil now works x.opened) refl (omega (arith, place)) here.before_end done)
-    (λ held done. on (moved to from held (skipped answers.Ok t)) (Line answers.Ok ∷ Operation (ordinal w.program t.index) ∷ now) works (skipped-line w t answers.Ok now works x.opened) refl (omega (arith, place)) here.before_end done)
+    (λ held kinds done. on (moved to from held (skipped answers.Ok t)) (Line answers.Ok ∷ Operation (ordinal w.program t.index) ∷ now) (works-over w t works kinds) (skipped-line w t answers.Ok now works x.opened) refl (omega (arith, place)) here.before_end done)
 comes-to w served at (op.Drop v) rest t now works counts place here d on =
     let x = opens w t now (op.Drop v) rest here counts d in
-    dropping w t now v rest (λ behind. begun_at (at + 1) rest behind) works here x
+    dropping w served t now v rest (λ behind. begun_at (at + 1) rest behind) works here x
     (λ done. on (skipped answers.Nil t) (Line answers.Nil ∷ Operation (ordinal w.program t.index) ∷ now) works (skipped-line w t answers.Nil now works x.opened) refl (omega (arith, place)) here.before_end done)
 comes-to w served at (op.IfNil v to) rest t now works counts place here d on =
     comes-to-block w served at (op.IfNil v to) rest t now works counts place here d on refl (cond (is_held (value t.vars v)) to (t.index + 1)) refl (ap (λ (b : Bool). cond b to (t.index + 1)) (sym (same-held t.vars v)))
 comes-to w served at (op.IfSome v to) rest t now works counts place here d on =
     comes-to-block w served at (op.IfSome v to) rest t now works counts place here d on refl (cond (is_held (value t.vars v)) (t.index + 1) to) refl (ap (λ (b : Bool). cond b (t.index + 1) to) (sym (same-held t.vars v)))
-comes-to w served at (op.Unown to of) rest t now works counts place here d on = absurd (served-at w t.index (op.Unown to of) served here.there)
 comes-to w served at (op.Weak to of) rest t now works counts place here d on = absurd (served-at w t.index (op.Weak to of) served here.there)
-comes-to w served at (op.Load to of) rest t now works counts place here d on = absurd (served-at w t.index (op.Load to of) served here.there)
 comes-to w served at (op.Get to cell) rest t now works counts place here d on = absurd (served-at w t.index (op.Get to cell) served here.there)
 comes-to w served at (op.Set cell from) rest t now works counts place here d on = absurd (served-at w t.index (op.Set cell from) served here.there)
 
 -- the thread has gone past the operation, or it begins
-passes-or-comes : (w : Work) → IsServedWork w → (at : ℕ) (o : Op) (rest : List Op) (t : Thread) (now : List Note) → WorksOn w t.layout t.shape t.thread t.phases t.program → IsCounted w t.hands t.made t.kept now →
+passes-or-comes : (w : Work) → IsServedWork w → (at : ℕ) (o : Op) (rest : List Op) (t : Thread) (now : List Note) → WorksOn w t.layout t.shape t.thread t.phases t.program t.vars → IsCounted w t.hands t.made t.kept now →
     o ∷ rest ≡ drop at (take (ops_in_first (t.phase + 1) w.phases) w.program) → at ≤ t.index → t.index ≤ ops_in_first (t.phase + 1) w.phases → AreDone w t.index t.vars now → GoesOnBehind w at rest t.phase → Comes w (begun_at at (o ∷ rest) t) t.event now
 passes-or-comes w served at o rest t now works counts r past before d on = go (ltb at t.index) refl
   where
@@ -536,7 +574,7 @@ passes-or-comes w served at o rest t now works counts r past before d on = go (l
         comes-to w served at o rest t now works counts place (is-here w t o rest (subst P place r)) d on
 
 -- the first operation of the rest of the phase that asks for a step begins, or the phase is over
-pub begins : (w : Work) → IsServedWork w → (at : ℕ) (rest : List Op) (t : Thread) (now : List Note) → WorksOn w t.layout t.shape t.thread t.phases t.program → IsCounted w t.hands t.made t.kept now →
+pub begins : (w : Work) → IsServedWork w → (at : ℕ) (rest : List Op) (t : Thread) (now : List Note) → WorksOn w t.layout t.shape t.thread t.phases t.program t.vars → IsCounted w t.hands t.made t.kept now →
     rest ≡ drop at (take (ops_in_first (t.phase + 1) w.phases) w.program) → at ≤ t.index → t.index ≤ ops_in_first (t.phase + 1) w.phases → AreDone w t.index t.vars now → Comes w (begun_at at rest t) t.event now
 begins w served at [] t now works counts r past before d = ends-phase w served at t now works counts r past before d
 begins w served at (o ∷ rest) t now works counts r past before d =
@@ -549,7 +587,7 @@ begins w served at (o ∷ rest) t now works counts r past before d =
     d_u)
 
 -- what was under way is over
-pub goes-on : (w : Work) → IsServedWork w → (t : Thread) (now : List Note) → WorksOn w t.layout t.shape t.thread t.phases t.program → IsCounted w t.hands t.made t.kept now →
+pub goes-on : (w : Work) → IsServedWork w → (t : Thread) (now : List Note) → WorksOn w t.layout t.shape t.thread t.phases t.program t.vars → IsCounted w t.hands t.made t.kept now →
     number_of now ≡ number_at w t.index → IsOfPhase w t.phase t.index → IsOver w t.index t.vars now → Comes w (next_op t) t.event now
 goes-on w served t now works counts number phase over =
     let P : List Op → Type 0 = λ (p : List Op). Comes w (begun (record t { doing = Ended; index = cond (ltb t.index (length p)) (t.index + 1) t.index })) t.event now in
@@ -584,14 +622,14 @@ goes-on w served t now works counts number phase over =
         last : (b : Bool) → ltb (t.phase + 1) (length w.phases) ≡ b →
             Comes w (cond b (record t { doing = Ready; asked = moves.PhaseEnd; phase = t.phase + 1 }) (scope_begun (record t { doing = Ended; index = t.index }))) t.event now
         last true f = let more = ltb-true (t.phase + 1) (length w.phases) f in absurd (omega arith)
-        last false f = scopes w (record t { doing = Ended; index = t.index }) now works counts e number phase over
+        last false f = scopes w served (record t { doing = Ended; index = t.index }) now works counts e number phase over
 
--- the destination has its new reference, and what it held is dropped last
-pub replaces : (w : Work) → IsServedWork w → (t : Thread) (to : ℕ) (held : Held) (o : Op) (answer : Answer) (base ns : List Note) → WorksOn w t.layout t.shape t.thread t.phases t.program →
-    IsCounted w t.hands t.made t.kept (Line answer ∷ ns) → number_of ns ≡ number_at w t.index → IsOfPhase w t.phase t.index → AreDone w t.index t.vars base → slice_get w.program t.index ≡ Some o →
-    IsAnswered w.thread w.came o (variables t.vars) (Operation (ordinal w.program t.index) ∷ base) (put_var (variables t.vars) to (Some (strong_held held))) answer (programs.value (variables t.vars) to) ns →
-    Comes w (replaced to held t) t.event (Line answer ∷ ns)
-replaces w served t to held o answer base ns works counts number phase done there answered = go (value t.vars to) refl
+-- the destination has its new value, and what it held is dropped last
+pub replaces : (w : Work) → IsServedWork w → (t : Thread) (to : ℕ) (new : Option Held) (o : Op) (answer : Answer) (base ns : List Note) → WorksOn w t.layout t.shape t.thread t.phases t.program t.vars →
+    IsCounted w t.hands t.made t.kept (Line answer ∷ ns) → number_of ns ≡ number_at w t.index → IsOfPhase w t.phase t.index → AreDone w t.index t.vars base → slice_get w.program t.index ≡ Some o → FitsKind w.kinds to new →
+    IsAnswered w.thread w.came o (variables t.vars) (Operation (ordinal w.program t.index) ∷ base) (put_var (variables t.vars) to (held_in new)) answer (programs.value (variables t.vars) to) ns →
+    Comes w (replaced to new t) t.event (Line answer ∷ ns)
+replaces w served t to new o answer base ns works counts number phase done there fits answered = go (value t.vars to) refl
   where
     within : t.index < length w.program
     within = slice_get_within w.program t.index o there
@@ -599,14 +637,17 @@ replaces w served t to held o answer base ns works counts number phase done ther
     next : IsNext w.shape w.thread w.came w.program w.count t.index o (variables t.vars) base
     next = record { done = done; there = there }
 
-    go : (old : Option Held) → value t.vars to ≡ old → Comes w (replaced_old old (set_var to (Some held) t)) t.event (Line answer ∷ ns)
+    works_then : WorksOn w t.layout t.shape t.thread t.phases t.program (set t.vars to new)
+    works_then = works-over w t works (kinds-set w.kinds t.vars to new fits works.kinds)
+
+    go : (old : Option Held) → value t.vars to ≡ old → Comes w (replaced_old old (set_var to new t)) t.event (Line answer ∷ ns)
     go None e =
-        let d : AreDone w (t.index + 1) (set t.vars to (Some held)) (Line answer ∷ ns) = rw (put-held t.vars to (Some held)) (answers_last next (rw (value-held t.vars to None e) at answered)) in
-        goes-on w served (set_var to (Some held) t) (Line answer ∷ ns) works counts number phase (over-done w t.index (set t.vars to (Some held)) (Line answer ∷ ns) within d)
+        let d : AreDone w (t.index + 1) (set t.vars to new) (Line answer ∷ ns) = rw (put-held t.vars to new) (answers_last next (rw (value-held t.vars to None e) at answered)) in
+        goes-on w served (set_var to new t) (Line answer ∷ ns) works_then counts number phase (over-done w t.index (set t.vars to new) (Line answer ∷ ns) within d)
     go (Some old) e = record {
       after = Line answer ∷ ns;
       says = nothing;
       event = refl;
-      stands = drop-asks w (set_var to (Some held) t) old (Line answer ∷ ns) works counts number phase
-          (λ after x. over-done w t.index (set t.vars to (Some held)) after within (rw (put-held t.vars to (Some held)) (drops_last next (rw (value-held t.vars to (Some old) e) at answered) x)));
+      stands = drop-asks w (set_var to new t) old (Line answer ∷ ns) works_then counts number phase (counted-in w served t.vars to old works.kinds e)
+          (λ after x. over-done w t.index (set t.vars to new) after within (rw (put-held t.vars to new) (drops_last next (rw (value-held t.vars to (Some old) e) at answered) x)));
     }

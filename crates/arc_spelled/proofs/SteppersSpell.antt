@@ -1,12 +1,11 @@
 -- A thread's stepper begins with no note, and its notes spell the thread's program where it has ended.
-use Rattle.std.proofs.Common.{◌≡◌, ℕ, zero, suc, ◌-◌, ◌<◌, ◌≤◌, Bool, true, false, cond, eqb, List, [], ◌∷◌, ◌++◌, length, replicate, take, Option, Some, None, refl, sym, ap, subst, ◌∙◌, arith}
+use Rattle.std.proofs.Common.{◌≡◌, ℕ, zero, suc, ◌-◌, ◌<◌, ◌≤◌, Bool, true, false, cond, eqb, List, [], ◌∷◌, length, replicate, take, Option, Some, None, refl, ap, subst, ◌∙◌, arith}
 use Rattle.std.proofs.Math.Seq.{take-nil}
 use Rattle.std.proofs.lemmas.Bool.{eqb-true}
 use Rattle.std.proofs.lemmas.List.{take_all}
-use Rattle.std.proofs.lemmas.List.Elements.{All-get_or, All-from_recursion, recursion_from_All}
+use Rattle.std.proofs.lemmas.List.Elements.{All-get_or}
 use Rattle.std.proofs.lemmas.Option.{slice_get_within, get_or_from_slice_get}
-use Rattle.std.specs.Prelude.{slice_get, All, flat_map}
-use Rattle.std.specs.List.{AllByRecursion}
+use Rattle.std.specs.Prelude.{slice_get, All}
 use Rattle.arc_model.specs.declared.answer.Answer.{Answer}
 use Rattle.arc_model.specs.Shapes.{HeapShape}
 use Rattle.arc_model.specs.Spelling.{Note}
@@ -19,12 +18,11 @@ use Rattle.arc_rule.specs.Extents.{Extent}
 use Rattle.arc_rule.specs.declared.step.Step.{Step}
 use Rattle.arc_rule.specs.declared.step.Intent.{Intent}
 use Rattle.arc_script.specs.declared.script.Op.{Op}
+use Rattle.arc_model.specs.declared.shape.Kind.{Kind}
 use Rattle.arc_script.specs.declared.script.ThreadDecl.{ThreadDecl}
 use Rattle.arc_script.specs.declared.script.Script.{Script}
-use Rattle.arc_script.specs.declared.script.Op.TheVariants as op
 use Rattle.arc_script.specs.Valid.{IsScript}
-use Rattle.arc_script.specs.OneList.{in_one_list, moved_behind}
-use Rattle.arc_script.proofs.OneList.{all_in_one}
+use Rattle.arc_script.specs.OneList.{in_one_list}
 use Rattle.arc_ops.proofs.Made.{blocks_fit}
 use Rattle.arc_programs.specs.Variables.{Variables, Held, all_nil}
 use Rattle.arc_programs.specs.Programs.{Hands, IsAnswered, OpsDone, ScopeEnds, IsProgram}
@@ -35,54 +33,34 @@ use Rattle.arc_programs.specs.Programs.GlobalsCleared.{begins as end_begins}
 use Rattle.arc_programs.specs.ProgramsLines.{told}
 use Rattle.arc_programs.specs.ProgramsTied.{Spells}
 use Rattle.arc_programs.specs.ProgramsTied.Spells.{thread, end}
+use Rattle.arc_ops.specs.declared.stepper.Held.{Held as HeldByStepper}
 use Rattle.arc_ops.specs.declared.stepper.Doing.{Doing}
-use Rattle.arc_ops.specs.declared.stepper.Doing.TheVariants.{Ready, Making, Copying, Dropping, Dying, Ended}
+use Rattle.arc_ops.specs.declared.stepper.Doing.TheVariants.{Ready, Making, Gaining, Naming, Dropping, Dying, Vacating, Ended}
 use Rattle.arc_ops.specs.declared.stepper.Move.TheVariants as moves
-use Rattle.arc_ops.specs.Programs.{phases_in, program_of, ops_in_first, count_of_vars, vars_of, room_in}
+use Rattle.arc_ops.specs.Programs.{phases_in, program_of, ops_in_first, count_of_vars, vars_of, kinds_of, room_in}
 use Rattle.arc_ops.specs.Kept.{Kept}
-use Rattle.arc_ops.specs.Served.{IsServed, IsServedThread, IsServedOp}
-use Rattle.arc_ops.specs.Thread.{Thread}
+use Rattle.arc_ops.specs.Served.{IsServed, IsServedOp}
+use Rattle.arc_ops.specs.Thread.{Thread, value}
 use Rattle.arc_spelled.specs.Shown.{ReadsName, FindsNoEntry, Says, with_act}
 use Rattle.arc_spelled.specs.Shown.ReadsName.{nothing as read_nothing, name as read_name}
 use Rattle.arc_spelled.specs.Shown.FindsNoEntry.{nothing as found_nothing, no_entry as found_no_entry}
 use Rattle.arc_spelled.specs.Shown.Says.{nothing as said_nothing, line, operation}
-use Rattle.arc_spelled.specs.StepperStands.{Work, IsServedWork, variables, AreDone, StepperUpTo, IsInPhase, Asks, StandsFor}
+use Rattle.arc_spelled.specs.StepperStands.{Work, IsServedWork, variables, AreOfKinds, AreDone, StepperUpTo, IsInPhase, Asks, StandsFor}
 use Rattle.arc_spelled.specs.Spelled.{work_of, SteppersBegin, SteppersGoOn, EndedSteppersSpell, ReadySteppersHaveDone, with_event_of, WordsHold, AddedNotesAreTied}
+use Rattle.arc_spelled.proofs.Declared.{program-served, kinds-served, program-kinds}
 use Rattle.arc_spelled.proofs.StepperKeeps.{stepper_goes_on}
 
 -- ---- what a script's thread works on is served
 
-moved-served : (n : ℕ) (o : Op) → IsServedOp o → IsServedOp (moved_behind n o)
-moved-served n (op.New to class) h = h
-moved-served n (op.Copy to from) h = h
-moved-served n (op.Move to from) h = h
-moved-served n (op.Drop v) h = h
-moved-served n (op.Unown to of) h = h
-moved-served n (op.Weak to of) h = h
-moved-served n (op.Load to of) h = h
-moved-served n (op.Get to c) h = h
-moved-served n (op.Set c from) h = h
-moved-served n (op.IfNil v to) h = h
-moved-served n (op.IfSome v to) h = h
-
-phases-served : (phases : List (List Op)) → AllByRecursion (All IsServedOp) phases → AllByRecursion (λ (ops : List Op). AllByRecursion IsServedOp ops) phases
-phases-served [] h = tt
-phases-served (ops ∷ rest) h = (recursion_from_All IsServedOp ops h.0, phases-served rest h.1)
-
-thread-served : (ts : List ThreadDecl) (i : ℕ) → AllByRecursion IsServedThread ts → AllByRecursion IsServedOp (in_one_list 0 (phases_in (slice_get ts i)))
-thread-served [] i h = tt
-thread-served (t ∷ ts) zero h = all_in_one IsServedOp moved-served 0 t.phases (phases-served t.phases (recursion_from_All (All IsServedOp) t.phases h.0.ops))
-thread-served (t ∷ ts) (suc i) h = thread-served ts i h.1
-
-program-served : (s : Script) (p : ℕ) → IsServed s → All IsServedOp (program_of s p)
-program-served s p served = All-from_recursion IsServedOp (program_of s p) (go (eqb p 0))
-  where
-    go : (b : Bool) → AllByRecursion IsServedOp (in_one_list 0 (phases_in (cond b None (slice_get s.threads (p - 1)))))
-    go true = tt
-    go false = thread-served s.threads (p - 1) (recursion_from_All IsServedThread s.threads served.threads)
-
 pub served-work : (s : Script) (p : ℕ) (came : Hands) → IsScript s → IsServed s → IsServedWork (work_of s p came)
-served-work s p came valid served = record { whole = refl; blocks = blocks_fit s p valid; ops = program-served s p served; without_fields = served.without_fields }
+served-work s p came valid served = record {
+  whole = refl;
+  blocks = blocks_fit s p valid;
+  ops = program-served s p served;
+  kinds = kinds-served s p served;
+  kinds_fit = program-kinds s p valid served;
+  without_fields = served.without_fields;
+}
 
 -- ---- a new stepper
 
@@ -90,9 +68,18 @@ all-nil : (n : ℕ) → variables (replicate n None) ≡ all_nil n
 all-nil zero = refl
 all-nil (suc n) = ap (λ (vs : Variables). None ∷ vs) (all-nil n)
 
+-- variables that are nil have no reference of another kind
+no-value : (n v : ℕ) (h : HeldByStepper) → value (replicate n None) v ≡ Some h → ⊥
+no-value zero v h e = absurd (cc)
+no-value (suc n) zero h e = absurd (cc)
+no-value (suc n) (suc v) h e = no-value n v h e
+
+none-held : (kinds : List Kind) (n : ℕ) → AreOfKinds kinds (replicate n None)
+none-held kinds n v h e = absurd (no-value n v h e)
+
 pub steppers_begin : SteppersBegin
 steppers_begin script p came = record {
-  works = record { layout_is = refl; shape_is = refl; thread_is = refl; phases_is = refl; program_is = refl };
+  works = record { layout_is = refl; shape_is = refl; thread_is = refl; phases_is = refl; program_is = refl; kinds = none-held (kinds_of script p) (vars_of script p) };
   in_phase = refl;
   counts = record { hands_are = refl; made_is = refl; lines_are = rw take-nil refl };
   number = tt;
@@ -110,12 +97,12 @@ any-answered : {p : ℕ} {came : Hands} {o : Op} {vars vars' : Variables} {answe
 any-answered any s (made k n r) = made k n r
 any-answered any s (full v) = full v
 any-answered any s (copied e k g r) = copied e k g r
-any-answered any s (unowned_formed e k g r) = absurd s
+any-answered any s (unowned_formed e k g r) = unowned_formed e k g r
 any-answered any s (weak_formed e k g r) = absurd s
-any-answered any s (loaded e u k g r) = absurd s
-any-answered any s (found_dead e u g r) = absurd s
-any-answered any s (weakly_loaded e u k g r) = absurd s
-any-answered any s (found_nil e u g r) = absurd s
+any-answered any s (loaded e u k g r) = loaded e u k g r
+any-answered any s (found_dead e u g r) = found_dead e u g r
+any-answered any s (weakly_loaded e u k g r) = weakly_loaded e u k g r
+any-answered any s (found_nil e u g r) = found_nil e u g r
 any-answered any s (looked e r) = absurd s
 any-answered any s (got e k c g r) = absurd s
 any-answered any s (put_in_nil e h v) = absurd s
@@ -145,7 +132,9 @@ at-end w t now s e = go t.doing (rw e at s.asks) s.up_to
     go : (d : Doing) → Asks d moves.Ended → StepperUpTo w t.index t.vars t.asked now d → IsProgram w.shape w.thread w.came w.program w.count now
     go Ready a u = absurd (cc)
     go (Making to name plan) a u = absurd a
-    go (Copying to held plan) a u = absurd a
+    go (Gaining gain to from plan) a u = absurd a
+    go (Naming to held plan) a u = absurd a
+    go (Vacating slot plan) a u = absurd a
     go (Dropping held plan) a u = absurd a
     go (Dying c) a u = absurd a
     go Ended a u = u
@@ -210,7 +199,9 @@ between w t now s e = go t.doing (rw e at s.asks) s.in_phase s.up_to
     go : (d : Doing) → Asks d moves.PhaseEnd → IsInPhase w t.phase t.index d → StepperUpTo w t.index t.vars t.asked now d → AreDone w (ops_in_first t.phase w.phases) t.vars now
     go Ready a i u = rw i at u
     go (Making to name plan) a i u = absurd a
-    go (Copying to held plan) a i u = absurd a
+    go (Gaining gain to from plan) a i u = absurd a
+    go (Naming to held plan) a i u = absurd a
+    go (Vacating slot plan) a i u = absurd a
     go (Dropping held plan) a i u = absurd a
     go (Dying c) a i u = absurd a
     go Ended a i u = absurd (cc)
@@ -223,7 +214,7 @@ ready_steppers_have_done script p came any t now served s e = any-done any (prog
 tied-read : (causes : Causes) (shape : HeapShape) (layout : Extent) (asked : Option (Step × Intent)) (last : Option ℕ) (p : ℕ) (event : Option Act) (h : History) (b ns : List Note) →
     ReadsName layout asked last b ns → WordsHold causes shape layout asked last p event h → Ties causes shape p b h → Ties causes shape p ns h
 tied-read causes shape layout asked last p event h b ns read_nothing holds t = t
-tied-read causes shape layout asked last p event h b ns (read_name {slot = slot} {w = w} a l) holds t = noted t (holds.names slot w a l)
+tied-read causes shape layout asked last p event h b ns (read_name {slot = slot} {w = w} {intent = intent} a n l) holds t = noted t (holds.names slot w intent a n l)
 
 tied-act : (causes : Causes) (shape : HeapShape) (p : ℕ) (event : Option Act) (h : History) (ns : List Note) → Ties causes shape p ns h → Ties causes shape p (with_act event ns) (with_event_of p event h)
 tied-act causes shape p None h ns t = t
@@ -232,7 +223,7 @@ tied-act causes shape p (Some a) h ns t = own t
 tied-found : (causes : Causes) (shape : HeapShape) (layout : Extent) (asked : Option (Step × Intent)) (last : Option ℕ) (p : ℕ) (event : Option Act) (h : History) (b ns : List Note) →
     FindsNoEntry layout asked last event b ns → WordsHold causes shape layout asked last p event h → Ties causes shape p b (with_event_of p event h) → Ties causes shape p ns (with_event_of p event h)
 tied-found causes shape layout asked last p event h b ns found_nothing holds t = t
-tied-found causes shape layout asked last p event h b ns (found_no_entry {slot = slot} {w = w} {new = new} {c = c} e a l u) holds t = noted t (holds.entries slot w new c e a l u)
+tied-found causes shape layout asked last p event h b ns (found_no_entry {slot = slot} {w = w} {new = new} {act = act} {intent = intent} {c = c} e a n l u) holds t = noted t (holds.entries slot w new act intent c e a n l u)
 
 tied-said : {causes : Causes} {shape : HeapShape} {p : ℕ} {h : History} {b ns : List Note} → Says b ns → Ties causes shape p b h → Ties causes shape p ns h
 tied-said said_nothing t = t

@@ -13,8 +13,8 @@ use Rattle.arc_rule.specs.declared.step.Step.{Step}
 use Rattle.arc_rule.specs.declared.step.Intent.TheVariants as intents
 use Rattle.arc_rule.specs.declared.step.Intent.{Intent}
 use Rattle.arc_rule.specs.declared.step.Step.TheVariants.{Load, Exchange}
-use Rattle.arc_plan.specs.declared.attempt.At.{At as AttemptAt}
-use Rattle.arc_plan.specs.declared.attempt.At.TheVariants as attempt
+use Rattle.arc_rule.specs.declared.attempt.At.{At as AttemptAt}
+use Rattle.arc_rule.specs.declared.attempt.At.TheVariants as attempt
 use Rattle.arc_plan.specs.Attempts.{Attempt}
 use Rattle.arc_cells.specs.declared.cascade.At.{At}
 use Rattle.arc_cells.specs.declared.cascade.At.TheVariants.{Start, Entering, Naming, Named, Leaving, Finishing, Vacating, Ended}
@@ -44,16 +44,16 @@ pub record IsFinished (shape : HeapShape) (slot : ℕ) (base now : List Note) : 
   pub all_done : AllDone shape slot base before
   pub now_is : now ≡ Entry slot None ∷ Did (Finish slot true) ∷ before
 
--- an exchange that is under way is one of the object's count
-abbrev pub AwaitsExchange : CascadeState → Option (Step × Intent) → AttemptAt → Type 0
-AwaitsExchange c asked (attempt.Exchanging seen new) = asked ≡ Some (Exchange (number c.layout (Count c.slot)) seen new, intents.Deinit c.slot)
-AwaitsExchange c asked _ = ⊤
+-- an exchange that is under way is one of the count of the object in the slot, and made for this
+abbrev pub AwaitsExchange : Extent → (slot : ℕ) → Intent → Option (Step × Intent) → AttemptAt → Type 0
+AwaitsExchange layout slot intent asked (attempt.Exchanging seen new) = asked ≡ Some (Exchange (number layout (Count slot)) seen new, intent)
+AwaitsExchange layout slot intent asked _ = ⊤
 
--- the attempt is on the object's count
-pub record IsReleasing (c : CascadeState) (asked : Option (Step × Intent)) (p : Attempt) : Type 0 where
-  pub layout : p.layout ≡ c.layout
-  pub slot : p.slot ≡ c.slot
-  pub awaits : AwaitsExchange c asked p.at
+-- the attempt is on that count
+pub record IsReleasing (layout : Extent) (slot : ℕ) (intent : Intent) (asked : Option (Step × Intent)) (p : Attempt) : Type 0 where
+  pub layout_is : p.layout ≡ layout
+  pub slot_is : p.slot ≡ slot
+  pub awaits : AwaitsExchange layout slot intent asked p.at
 
 -- what was asked for last, and the notes, where the cascade is
 abbrev pub CascadeUpTo : CascadeState → Option (Step × Intent) → (base now : List Note) → At → Type 0
@@ -62,7 +62,7 @@ CascadeUpTo c asked base now Entering = now ≡ base
 CascadeUpTo c asked base now Naming = (now ≡ base) × (asked ≡ Some (Load (number c.layout (Isa c.slot)), intents.Deinit c.slot))
 CascadeUpTo c asked base now (Named name) = FieldsDone c.shape c.slot name 0 base now
 CascadeUpTo c asked base now Leaving = AllDone c.shape c.slot base now
-CascadeUpTo c asked base now (Finishing p) = IsReleasing c asked p × AllDone c.shape c.slot base now
+CascadeUpTo c asked base now (Finishing p) = IsReleasing c.layout c.slot (intents.Deinit c.slot) asked p × AllDone c.shape c.slot base now
 CascadeUpTo c asked base now (Vacating p) = IsFinished c.shape c.slot base now
 CascadeUpTo c asked base now Ended = IsCascade c.shape c.slot base now
 

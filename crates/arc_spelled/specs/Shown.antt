@@ -5,7 +5,7 @@ use Rattle.arc_bits.specs.declared.packing.Word.TheVariants.{Counts}
 use Rattle.arc_bits.specs.Words.{unpacked}
 use Rattle.arc_model.specs.declared.answer.Answer.{Answer}
 use Rattle.arc_model.specs.declared.event.Act.{Act}
-use Rattle.arc_model.specs.declared.event.Act.TheVariants.{Finish}
+use Rattle.arc_model.specs.declared.event.Act.TheVariants.{Drop, Finish}
 use Rattle.arc_model.specs.Spelling.{Note}
 use Rattle.arc_model.specs.Spelling.Note.{Did, Line, Operation, Name, Entry}
 use Rattle.arc_rule.specs.Extents.{Extent}
@@ -17,17 +17,26 @@ use Rattle.arc_rule.specs.declared.step.Intent.TheVariants as intents
 use Rattle.arc_rule.specs.declared.step.Intent.{Intent}
 use Rattle.arc_rule.specs.declared.step.Step.TheVariants.{Load, Exchange}
 
--- Nothing, or the name that a deinit's load of an isa word found.
+-- what the name of the object in a slot is read for: its deinit, or the line of a load
+pub data IsNamedFor (slot : ℕ) : Intent → Type 0 where
+  deinit : IsNamedFor slot (intents.Deinit slot)
+  line : IsNamedFor slot intents.Look
+
+-- Nothing, or the name that the load of an isa word found.
 pub data ReadsName (layout : Extent) (asked : Option (Step × Intent)) (last : Option ℕ) : (before after : List Note) → Type 0 where
   nothing : {b : List Note} → ReadsName layout asked last b b
-  name : {slot w : ℕ} {b : List Note} → asked ≡ Some (Load (number layout (Isa slot)), intents.Deinit slot) → last ≡ Some w → ReadsName layout asked last b (Name slot (isa_name_of w) ∷ b)
+  name : {slot w : ℕ} {intent : Intent} {b : List Note} → asked ≡ Some (Load (number layout (Isa slot)), intent) → IsNamedFor slot intent → last ≡ Some w → ReadsName layout asked last b (Name slot (isa_name_of w) ∷ b)
 
--- Nothing, or behind the end of a deinit that no unowned reference outlives: the exchange was made on counts in the inline word, so
--- the object has no entry.
+-- an event that takes the last of a list of the object in a slot, and what its step is made for: the end of its deinit, or a drop
+pub data TakesLast (slot : ℕ) : Act → Intent → Type 0 where
+  finish : TakesLast slot (Finish slot true) (intents.Deinit slot)
+  drop : {hand : ℕ} → TakesLast slot (Drop hand true) (intents.Drop hand)
+
+-- Nothing, or behind such an event: the exchange was made on counts in the inline word, so the object has no entry.
 pub data FindsNoEntry (layout : Extent) (asked : Option (Step × Intent)) (last : Option ℕ) (event : Option Act) : (before after : List Note) → Type 0 where
   nothing : {b : List Note} → FindsNoEntry layout asked last event b b
-  no_entry : {slot w new : ℕ} {c : Inline} {b : List Note} →
-      event ≡ Some (Finish slot true) → asked ≡ Some (Exchange (number layout (Count slot)) w new, intents.Deinit slot) → last ≡ Some w → unpacked w ≡ Some (Counts c) →
+  no_entry : {slot w new : ℕ} {act : Act} {intent : Intent} {c : Inline} {b : List Note} →
+      event ≡ Some act → asked ≡ Some (Exchange (number layout (Count slot)) w new, intent) → TakesLast slot act intent → last ≡ Some w → unpacked w ≡ Some (Counts c) →
       FindsNoEntry layout asked last event b (Entry slot None ∷ b)
 
 -- the event, if one is told, is the newest note

@@ -1,10 +1,9 @@
 -- The laws of what steppers stand for, for the threads of a script.
-use Rattle.std.specs.Prelude.{ℕ, true, ◌≡◌, ◌≤◌, List, [], ◌∷◌, length, take, Option, Some, None}
+use Rattle.std.specs.Prelude.{ℕ, ◌≡◌, ◌≤◌, List, [], ◌∷◌, length, take, Option, Some, None}
 use Rattle.arc_bits.specs.declared.packing.Inline.{Inline}
 use Rattle.arc_bits.specs.declared.packing.Word.TheVariants.{Counts}
 use Rattle.arc_bits.specs.Words.{unpacked}
 use Rattle.arc_model.specs.declared.event.Act.{Act}
-use Rattle.arc_model.specs.declared.event.Act.TheVariants.{Finish}
 use Rattle.arc_model.specs.Shapes.{HeapShape}
 use Rattle.arc_model.specs.History.{History, heap_after}
 use Rattle.arc_model.specs.Spelling.{Note}
@@ -15,7 +14,6 @@ use Rattle.arc_rule.specs.Isa.{isa_name_of}
 use Rattle.arc_rule.specs.Places.{number}
 use Rattle.arc_rule.specs.declared.layout.Place.TheVariants.{Count, Isa}
 use Rattle.arc_rule.specs.declared.step.Step.{Step}
-use Rattle.arc_rule.specs.declared.step.Intent.TheVariants as intents
 use Rattle.arc_rule.specs.declared.step.Intent.{Intent}
 use Rattle.arc_rule.specs.declared.step.Step.TheVariants.{Load, Exchange}
 use Rattle.arc_script.specs.declared.script.Script.{Script}
@@ -24,10 +22,11 @@ use Rattle.arc_programs.specs.Programs.{Hands, OpsDone}
 use Rattle.arc_programs.specs.ProgramsLines.{told}
 use Rattle.arc_programs.specs.ProgramsTied.{Spells}
 use Rattle.arc_ops.specs.declared.stepper.Move.TheVariants as moves
-use Rattle.arc_ops.specs.Programs.{phases_of, program_of, ops_in_first, vars_of, room_in}
+use Rattle.arc_ops.specs.Programs.{phases_of, program_of, ops_in_first, vars_of, kinds_of, room_in}
 use Rattle.arc_ops.specs.Served.{IsServed}
-use Rattle.arc_ops.specs.Thread.{Thread, stepper_of, takes}
-use Rattle.arc_spelled.specs.Shown.{Adds}
+use Rattle.arc_ops.specs.Thread.{Thread, stepper_of}
+use Rattle.arc_ops.specs.Takes.{takes}
+use Rattle.arc_spelled.specs.Shown.{IsNamedFor, TakesLast, Adds}
 use Rattle.arc_spelled.specs.StepperStands.{Work, variables, StandsFor, StepperGoesOn}
 
 -- what a thread of the script works on
@@ -38,6 +37,7 @@ work_of script p came = record {
   phases = phases_of script p;
   program = program_of script p;
   count = vars_of script p;
+  kinds = kinds_of script p;
   room = room_in script p;
   came = came;
 }
@@ -76,8 +76,9 @@ with_event_of p (Some a) h = record { thread = p; act = a } ∷ h
 
 -- What the word shows holds of the heap: the name before the event, and behind it that there is no entry.
 pub record WordsHold (causes : Causes) (shape : HeapShape) (layout : Extent) (asked : Option (Step × Intent)) (last : Option ℕ) (p : ℕ) (event : Option Act) (h : History) : Type 0 where
-  pub names : (slot w : ℕ) → asked ≡ Some (Load (number layout (Isa slot)), intents.Deinit slot) → last ≡ Some w → Holds causes shape (heap_after h) (Name slot (isa_name_of w))
-  pub entries : (slot w new : ℕ) (c : Inline) → event ≡ Some (Finish slot true) → asked ≡ Some (Exchange (number layout (Count slot)) w new, intents.Deinit slot) → last ≡ Some w → unpacked w ≡ Some (Counts c) →
+  pub names : (slot w : ℕ) (intent : Intent) → asked ≡ Some (Load (number layout (Isa slot)), intent) → IsNamedFor slot intent → last ≡ Some w → Holds causes shape (heap_after h) (Name slot (isa_name_of w))
+  pub entries : (slot w new : ℕ) (act : Act) (intent : Intent) (c : Inline) →
+      event ≡ Some act → asked ≡ Some (Exchange (number layout (Count slot)) w new, intent) → TakesLast slot act intent → last ≡ Some w → unpacked w ≡ Some (Counts c) →
       Holds causes shape (heap_after (with_event_of p event h)) (Entry slot None)
 
 -- Where what a word shows holds of the heap, the notes with what a turn adds are those of the thread in the history with the event.

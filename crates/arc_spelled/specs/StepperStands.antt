@@ -1,17 +1,26 @@
 -- What a thread's stepper stands for: the notes that spell the thread's program up to where the stepper is.
 use Rattle.std.specs.Prelude.{ℕ, Bool, true, false, ◌≡◌, ◌+◌, ◌<◌, ◌≤◌, nat_lt, if◌then◌else◌, List, ◌∷◌, length, map, take, slice_get, All, Option, Some, None, ⊤}
 use Rattle.arc_model.specs.declared.event.ObjectName.{ObjectName}
-use Rattle.arc_model.specs.declared.event.Act.TheVariants.{New}
+use Rattle.arc_model.specs.declared.event.Act.TheVariants as acts
+use Rattle.arc_model.specs.declared.event.Got.TheVariants as gots
+use Rattle.arc_model.specs.declared.shape.Kind.{Kind}
 use Rattle.arc_model.specs.declared.shape.Kind.TheVariants.{Strong}
 use Rattle.arc_model.specs.Shapes.{HeapShape}
-use Rattle.arc_model.specs.Spelling.{Note, hands_of, acts_of, IsDrop, IsCascade}
-use Rattle.arc_model.specs.Spelling.Note.{Did, Operation}
+use Rattle.arc_model.specs.Spelling.{Note, hands_of, acts_of, IsEnd, IsDrop, IsCascade}
+use Rattle.arc_model.specs.Spelling.Note.{Did, Operation, Entry}
 use Rattle.arc_rule.specs.Extents.{Extent}
-use Rattle.arc_rule.specs.Places.{extent_of}
+use Rattle.arc_rule.specs.Places.{number, extent_of}
+use Rattle.arc_rule.specs.declared.layout.Place.TheVariants.{Isa}
 use Rattle.arc_rule.specs.declared.step.Step.{Step}
+use Rattle.arc_rule.specs.declared.step.Step.TheVariants.{Load}
 use Rattle.arc_rule.specs.declared.step.Intent.{Intent}
+use Rattle.arc_rule.specs.declared.step.Intent.TheVariants as intents
 use Rattle.arc_plan.specs.declared.slots.Making.{Making as Search}
-use Rattle.arc_plan.specs.declared.slots.Making.TheVariants.{Looking, Taking, Counting, Naming}
+use Rattle.arc_plan.specs.declared.slots.Making.TheVariants as search
+use Rattle.arc_plan.specs.declared.slots.Once.TheVariants.{Asked}
+use Rattle.arc_plan.specs.Slots.{OneStep}
+use Rattle.arc_side.specs.Inline.{IsCountedInline}
+use Rattle.arc_side.specs.Downs.{Fall, inline_fall}
 use Rattle.arc_cells.specs.Cascades.{HasNoFields, CascadeState}
 use Rattle.arc_script.specs.declared.script.Op.{Op}
 use Rattle.arc_script.specs.declared.script.Op.TheVariants as op
@@ -19,53 +28,64 @@ use Rattle.arc_script.specs.OneList.{in_one_list}
 use Rattle.arc_programs.specs.Variables.{Held, Variables}
 use Rattle.arc_programs.specs.Programs.{Hands, made_of, OpsDone, ScopeEnds, IsProgram}
 use Rattle.arc_programs.specs.ProgramsLines.{number_of, told}
-use Rattle.arc_ops.specs.declared.stepper.Held.{Held as HeldStrong}
+use Rattle.arc_ops.specs.declared.stepper.Held.{Held as HeldByStepper}
+pub use Rattle.arc_ops.specs.Plans.{op_of}
+use Rattle.arc_ops.specs.declared.gain.Gain.{Gain}
+use Rattle.arc_ops.specs.declared.gain.Gain.TheVariants as gains
 use Rattle.arc_ops.specs.declared.stepper.Doing.{Doing}
-use Rattle.arc_ops.specs.declared.stepper.Doing.TheVariants.{Ready, Making, Copying, Dropping, Dying, Ended}
+use Rattle.arc_ops.specs.declared.stepper.Doing.TheVariants.{Ready, Making, Gaining, Naming, Dropping, Dying, Vacating, Ended}
 use Rattle.arc_ops.specs.declared.stepper.Move.{Move}
 use Rattle.arc_ops.specs.declared.stepper.Move.TheVariants as moves
 use Rattle.arc_ops.specs.Kept.{Kept}
-use Rattle.arc_ops.specs.Programs.{BlocksFit, ordinal, ops_in_first}
+use Rattle.arc_ops.specs.Programs.{BlocksFit, ordinal, ops_in_first, kind_of, KindsFit}
 use Rattle.arc_ops.specs.Served.{IsServedOp}
-use Rattle.arc_ops.specs.Thread.{Thread, value, is_busy, turned}
+use Rattle.arc_ops.specs.Thread.{Thread, value, is_busy}
+use Rattle.arc_ops.specs.Turns.{turned}
 use Rattle.arc_spelled.specs.Shown.{Adds, with_event}
-use Rattle.arc_spelled.specs.CascadeStands.{CascadeStandsFor}
+use Rattle.arc_spelled.specs.CascadeStands.{CascadeStandsFor, IsReleasing}
 
--- A thread's operations, phase by phase, over so many variables, in a heap of this shape, room for so many lines, and what each of
--- its hands refers to when it comes.
+-- A thread's operations, phase by phase, over so many variables of these kinds, in a heap of this shape, room for so many lines, and
+-- what each of its hands refers to when it comes.
 pub record Work : Type 0 where
   pub shape : HeapShape
   pub thread : ℕ
   pub phases : List (List Op)
   pub program : List Op
   pub count : ℕ
+  pub kinds : List Kind
   pub room : ℕ
   pub came : Hands
 
--- the program is that of its phases, blocks stay within these, the operations are served, and objects have no fields
+-- the program is that of its phases, blocks stay within these, the operations and the kinds of variables are served, and objects have no
+-- fields
 pub record IsServedWork (w : Work) : Type 0 where
   pub whole : w.program ≡ in_one_list 0 w.phases
   pub blocks : BlocksFit w.program w.phases
   pub ops : All IsServedOp w.program
+  pub kinds : All IsCountedInline w.kinds
+  pub kinds_fit : All (KindsFit w.kinds) w.program
   pub without_fields : HasNoFields w.shape
 
--- each reference is a strong one so far
-abbrev pub strong_held : HeldStrong → Held
-strong_held h = record { hand = h.hand; kind = Strong; place = h.place }
+abbrev pub held_of : HeldByStepper → Held
+held_of h = record { hand = h.hand; kind = h.kind; place = h.place }
 
-abbrev pub held_in : Option HeldStrong → Option Held
+abbrev pub held_in : Option HeldByStepper → Option Held
 held_in None = None
-held_in (Some h) = Some (strong_held h)
+held_in (Some h) = Some (held_of h)
 
-abbrev pub variables : List (Option HeldStrong) → Variables
+abbrev pub variables : List (Option HeldByStepper) → Variables
 variables vars = map held_in vars
 
+-- the reference that a variable has is of the variable's kind
+abbrev pub AreOfKinds : List Kind → List (Option HeldByStepper) → Type 0
+AreOfKinds kinds vars = (v : ℕ) (h : HeldByStepper) → value vars v ≡ Some h → h.kind ≡ kind_of kinds v
+
 -- the first operations of the program are done
-abbrev pub AreDone : Work → ℕ → List (Option HeldStrong) → List Note → Type 0
+abbrev pub AreDone : Work → ℕ → List (Option HeldByStepper) → List Note → Type 0
 AreDone w i vars now = OpsDone w.shape w.thread w.came w.program w.count i (variables vars) now
 
 -- all operations are done, and of the variables the first ones are nil, and dropped where they weren't
-pub record IsInScope (w : Work) (vars : List (Option HeldStrong)) (now : List Note) : Type 0 where
+pub record IsInScope (w : Work) (vars : List (Option HeldByStepper)) (now : List Note) : Type 0 where
   pub first : Variables
   pub worked : List Note
   pub ops : OpsDone w.shape w.thread w.came w.program w.count (length w.program) first worked
@@ -76,47 +96,63 @@ pub record IsInScope (w : Work) (vars : List (Option HeldStrong)) (now : List No
   pub nils : (v : ℕ) → v < below → value vars v ≡ None
 
 -- The operation at this place is over, or where there is none, a drop at the end of the scope.
-abbrev pub IsOverIf : Bool → Work → ℕ → List (Option HeldStrong) → List Note → Type 0
+abbrev pub IsOverIf : Bool → Work → ℕ → List (Option HeldByStepper) → List Note → Type 0
 IsOverIf true w i vars now = AreDone w (i + 1) vars now
 IsOverIf false w i vars now = IsInScope w vars now
 
-abbrev pub IsOver : Work → ℕ → List (Option HeldStrong) → List Note → Type 0
+abbrev pub IsOver : Work → ℕ → List (Option HeldByStepper) → List Note → Type 0
 IsOver w i vars now = IsOverIf (nat_lt i (length w.program)) w i vars now
 
 -- the operation at this place began just now
-pub record IsBegun (w : Work) (i : ℕ) (o : Op) (vars : List (Option HeldStrong)) (now : List Note) : Type 0 where
+pub record IsBegun (w : Work) (i : ℕ) (o : Op) (vars : List (Option HeldByStepper)) (now : List Note) : Type 0 where
   pub base : List Note
   pub done : AreDone w i vars base
   pub there : slice_get w.program i ≡ Some o
   pub now_is : now ≡ Operation (ordinal w.program i) ∷ base
 
 -- an object is to be made that has the thread's next number
-pub record IsMaking (w : Work) (i to : ℕ) (name : ObjectName) (vars : List (Option HeldStrong)) (now : List Note) : Type 0 where
+pub record IsMaking (w : Work) (i to : ℕ) (name : ObjectName) (vars : List (Option HeldByStepper)) (now : List Note) : Type 0 where
   pub begun : IsBegun w i (op.New to name.class) vars now
   pub named : name ≡ record { class = name.class; thread = w.thread; number = made_of now + 1 }
 
 -- it was made in this slot
-pub record IsMade (w : Work) (i to : ℕ) (name : ObjectName) (slot : ℕ) (vars : List (Option HeldStrong)) (now : List Note) : Type 0 where
+pub record IsMade (w : Work) (i to : ℕ) (name : ObjectName) (slot : ℕ) (vars : List (Option HeldByStepper)) (now : List Note) : Type 0 where
   pub before : List Note
   pub making : IsMaking w i to name vars before
-  pub now_is : now ≡ Did (New (hands_of before + 1) name.class slot) ∷ before
+  pub now_is : now ≡ Did (acts.New (hands_of before + 1) name.class slot) ∷ before
 
-abbrev pub MakesUpTo : Work → ℕ → ℕ → ObjectName → List (Option HeldStrong) → List Note → Search → Type 0
-MakesUpTo w i to name vars now (Looking word) = IsMaking w i to name vars now
-MakesUpTo w i to name vars now (Taking slot seen) = IsMaking w i to name vars now
-MakesUpTo w i to name vars now (Counting slot) = IsMade w i to name slot vars now
-MakesUpTo w i to name vars now (Naming slot) = IsMade w i to name slot vars now
+abbrev pub MakesUpTo : Work → ℕ → ℕ → ObjectName → List (Option HeldByStepper) → List Note → Search → Type 0
+MakesUpTo w i to name vars now (search.Looking word) = IsMaking w i to name vars now
+MakesUpTo w i to name vars now (search.Taking slot seen) = IsMaking w i to name vars now
+MakesUpTo w i to name vars now (search.Counting slot) = IsMade w i to name slot vars now
+MakesUpTo w i to name vars now (search.Naming slot) = IsMade w i to name slot vars now
 MakesUpTo w i to name vars now _ = ⊥
 
--- a reference is to be copied from a variable
-pub record IsCopying (w : Work) (i to : ℕ) (held : HeldStrong) (vars : List (Option HeldStrong)) (now : List Note) : Type 0 where
-  pub from : ℕ
-  pub begun : IsBegun w i (op.Copy to from) vars now
-  pub source : value vars from ≡ Some held
+-- an operation that gains a reference began just now, and this is the reference of the other variable
+pub record IsGaining (w : Work) (i : ℕ) (gain : Gain) (to : ℕ) (from : HeldByStepper) (vars : List (Option HeldByStepper)) (now : List Note) : Type 0 where
+  pub of : ℕ
+  pub begun : IsBegun w i (op_of gain to of) vars now
+  pub source : value vars of ≡ Some from
+
+-- a reference was loaded, and for its line the name of its object is read
+pub record IsLoaded (w : Work) (i to : ℕ) (held : HeldByStepper) (plan : OneStep) (asked : Option (Step × Intent)) (vars : List (Option HeldByStepper)) (now : List Note) : Type 0 where
+  pub from : HeldByStepper
+  pub before : List Note
+  pub gaining : IsGaining w i gains.Load to from vars before
+  pub held_is : held ≡ record { hand = hands_of before + 1; kind = Strong; place = from.place }
+  pub now_is : now ≡ Did (acts.Load from.hand (gots.Hand held.hand)) ∷ before
+  pub waits : plan.at ≡ Asked
+  pub asks : asked ≡ Some (Load (number (extent_of w.shape) (Isa held.place)), intents.Look)
 
 -- whatever completes the drop completes what is under way
-abbrev pub DropEnds : Work → ℕ → HeldStrong → List (Option HeldStrong) → List Note → Type 0
-DropEnds w i held vars now = (after : List Note) → IsDrop w.shape Strong held.place held.hand now after → IsOver w i vars after
+abbrev pub DropEnds : Work → ℕ → HeldByStepper → List (Option HeldByStepper) → List Note → Type 0
+DropEnds w i held vars now = (after : List Note) → IsDrop w.shape held.kind held.place held.hand now after → IsOver w i vars after
+
+-- a reference is dropped that is counted in the inline word
+pub record IsDropping (w : Work) (i : ℕ) (held : HeldByStepper) (plan : Fall) (asked : Option (Step × Intent)) (vars : List (Option HeldByStepper)) (now : List Note) : Type 0 where
+  pub counted : IsCountedInline held.kind
+  pub releasing : IsReleasing (extent_of w.shape) held.place (intents.Drop held.hand) asked (inline_fall plan)
+  pub ends : DropEnds w i held vars now
 
 -- the step that is asked for, and what it is made for
 abbrev pub step_in : Move → Option (Step × Intent)
@@ -124,29 +160,38 @@ step_in (moves.Step step intent) = Some (step, intent)
 step_in _ = None
 
 -- an object dies, and whatever completes its deinit completes what is under way
-pub record IsDying (w : Work) (i : ℕ) (c : CascadeState) (asked : Move) (vars : List (Option HeldStrong)) (now : List Note) : Type 0 where
+pub record IsDying (w : Work) (i : ℕ) (c : CascadeState) (asked : Move) (vars : List (Option HeldByStepper)) (now : List Note) : Type 0 where
   pub base : List Note
   pub stands : CascadeStandsFor base c (step_in asked) now
   pub layout : c.layout ≡ extent_of w.shape
   pub shape : c.shape ≡ w.shape
   pub ends : (after : List Note) → IsCascade w.shape c.slot base after → IsOver w i vars after
 
+-- the last unowned reference was dropped, and whatever completes the end of the slot completes what is under way
+pub record IsVacating (w : Work) (i slot : ℕ) (vars : List (Option HeldByStepper)) (now : List Note) : Type 0 where
+  pub before : List Note
+  pub now_is : now ≡ Entry slot None ∷ before
+  pub ends : (after : List Note) → IsEnd slot before after → IsOver w i vars after
+
 -- the notes, by what the stepper is doing
-abbrev pub StepperUpTo : Work → ℕ → List (Option HeldStrong) → Move → List Note → Doing → Type 0
+abbrev pub StepperUpTo : Work → ℕ → List (Option HeldByStepper) → Move → List Note → Doing → Type 0
 StepperUpTo w i vars asked now Ready = AreDone w i vars now
 StepperUpTo w i vars asked now (Making to name plan) = MakesUpTo w i to name vars now plan.at
-StepperUpTo w i vars asked now (Copying to held plan) = IsCopying w i to held vars now
-StepperUpTo w i vars asked now (Dropping held plan) = DropEnds w i held vars now
+StepperUpTo w i vars asked now (Gaining gain to from plan) = IsGaining w i gain to from vars now
+StepperUpTo w i vars asked now (Naming to held plan) = IsLoaded w i to held plan (step_in asked) vars now
+StepperUpTo w i vars asked now (Dropping held plan) = IsDropping w i held plan (step_in asked) vars now
 StepperUpTo w i vars asked now (Dying c) = IsDying w i c asked vars now
+StepperUpTo w i vars asked now (Vacating slot plan) = IsVacating w i slot vars now
 StepperUpTo w i vars asked now Ended = IsProgram w.shape w.thread w.came w.program w.count now
 
 -- what it works on
-pub record WorksOn (w : Work) (layout : Extent) (shape : HeapShape) (thread : ℕ) (phases : List (List Op)) (program : List Op) : Type 0 where
+pub record WorksOn (w : Work) (layout : Extent) (shape : HeapShape) (thread : ℕ) (phases : List (List Op)) (program : List Op) (vars : List (Option HeldByStepper)) : Type 0 where
   pub layout_is : layout ≡ extent_of w.shape
   pub shape_is : shape ≡ w.shape
   pub thread_is : thread ≡ w.thread
   pub phases_is : phases ≡ w.phases
   pub program_is : program ≡ w.program
+  pub kinds : AreOfKinds w.kinds vars
 
 -- the first lines of the notes, as many as there is room for
 abbrev pub first_lines : ℕ → List Note → Kept
@@ -192,7 +237,7 @@ IsInPhase w phase index _ = IsOfPhase w phase index
 
 -- The stepper, at work on these operations, stands for the notes.
 pub record StandsFor (w : Work) (t : Thread) (now : List Note) : Type 0 where
-  pub works : WorksOn w t.layout t.shape t.thread t.phases t.program
+  pub works : WorksOn w t.layout t.shape t.thread t.phases t.program t.vars
   pub in_phase : IsInPhase w t.phase t.index t.doing
   pub counts : IsCounted w t.hands t.made t.kept now
   pub number : IsNumberedIf (is_busy t.doing) w t.index now

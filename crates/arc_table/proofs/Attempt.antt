@@ -14,11 +14,11 @@ use Rattle.arc_rule.specs.declared.plan.Next.TheVariants as nexts
 use Rattle.arc_view.specs.declared.view.View.{View}
 use Rattle.arc_view.specs.Admission.{Admits}
 use Rattle.arc_view.specs.Steps.{Told}
-use Rattle.arc_plan.specs.declared.attempt.At.{At as At'}
-use Rattle.arc_plan.specs.declared.attempt.At.TheVariants as ats
-use Rattle.arc_plan.specs.declared.attempt.Choice.{Choice}
-use Rattle.arc_plan.specs.declared.attempt.Choice.TheVariants.{Tell, Write}
-use Rattle.arc_plan.specs.Attempts.{takes_at, turned_at, exchanging, chosen, answer_at, left_at}
+use Rattle.arc_rule.specs.declared.attempt.At.{At as At'}
+use Rattle.arc_rule.specs.declared.attempt.At.TheVariants as ats
+use Rattle.arc_rule.specs.declared.attempt.Choice.{Choice}
+use Rattle.arc_rule.specs.declared.attempt.Choice.TheVariants.{Tell, Write}
+use Rattle.arc_rule.specs.Attempts.{takes_at, turned_at, exchanging, chosen, answer_at, left_at}
 use Rattle.arc_table.specs.Runs.{MayRun, Ran}
 use Rattle.arc_table.proofs.Invariant.{Keeps, may_run, has_run}
 

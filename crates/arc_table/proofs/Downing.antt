@@ -52,13 +52,14 @@ use Rattle.arc_view.specs.Admission.{Admits}
 use Rattle.arc_view.specs.Steps.{Told}
 use Rattle.arc_view.specs.Calls.{Grew, Called}
 use Rattle.arc_view.proofs.Held.{Held, held_stays, strong≢weak}
-use Rattle.arc_plan.specs.declared.attempt.At.{At as At'}
-use Rattle.arc_plan.specs.declared.attempt.At.TheVariants as ats
-use Rattle.arc_plan.specs.declared.attempt.Choice.{Choice}
-use Rattle.arc_plan.specs.declared.attempt.Choice.TheVariants.{Tell, Write}
+use Rattle.arc_rule.specs.declared.attempt.At.{At as At'}
+use Rattle.arc_rule.specs.declared.attempt.At.TheVariants as ats
+use Rattle.arc_rule.specs.declared.attempt.Choice.{Choice}
+use Rattle.arc_rule.specs.declared.attempt.Choice.TheVariants.{Tell, Write}
 use Rattle.arc_plan.specs.declared.strong.StrongDownAnswer.{StrongDownAnswer}
 use Rattle.arc_plan.specs.declared.strong.StrongDownAnswer.TheVariants as downs
-use Rattle.arc_plan.specs.Attempts.{Attempt, turned_at, exchanging, chosen, left_at}
+use Rattle.arc_plan.specs.Attempts.{Attempt}
+use Rattle.arc_rule.specs.Attempts.{turned_at, exchanging, chosen, left_at}
 use Rattle.arc_plan.specs.Strong.{strong_down_row, strong_down_end, strong_down_takes, strong_down_turned, strong_down_answer}
 use Rattle.arc_table.specs.Runs.{MayRun, Ran}
 use Rattle.arc_view_laws.proofs.Kept.{strong_one, stands_as}

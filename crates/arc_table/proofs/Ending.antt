@@ -43,16 +43,17 @@ use Rattle.arc_view.proofs.Held.{stays_after, dying_busy}
 use Rattle.arc_view.proofs.Strongs.{slot_found, entry_found}
 use Rattle.arc_view.proofs.Counting.{inline_counts}
 use Rattle.arc_view.proofs.Owed.{owed_stays}
-use Rattle.arc_plan.specs.declared.attempt.At.{At as At'}
-use Rattle.arc_plan.specs.declared.attempt.At.TheVariants as ats
-use Rattle.arc_plan.specs.declared.attempt.Choice.{Choice}
-use Rattle.arc_plan.specs.declared.attempt.Choice.TheVariants.{Tell, Write}
+use Rattle.arc_rule.specs.declared.attempt.At.{At as At'}
+use Rattle.arc_rule.specs.declared.attempt.At.TheVariants as ats
+use Rattle.arc_rule.specs.declared.attempt.Choice.{Choice}
+use Rattle.arc_rule.specs.declared.attempt.Choice.TheVariants.{Tell, Write}
 use Rattle.arc_plan.specs.declared.unowned.UnownedDownAnswer.{UnownedDownAnswer}
 use Rattle.arc_plan.specs.declared.unowned.UnownedDownAnswer.TheVariants as inline_downs
-use Rattle.arc_plan.specs.Attempts.{Attempt, IsCountWord, left_at}
+use Rattle.arc_plan.specs.Attempts.{Attempt, IsCountWord}
+use Rattle.arc_rule.specs.Attempts.{left_at}
 use Rattle.arc_plan.specs.Unowned.{unowned_down_row, unowned_down_end, unowned_down_takes, unowned_down_turned, unowned_down_answer}
-use Rattle.arc_side.specs.declared.down.EntryDownAnswer.{EntryDownAnswer}
-use Rattle.arc_side.specs.declared.down.EntryDownAnswer.TheVariants as entry_downs
+use Rattle.arc_side.specs.declared.entry_down.EntryDownAnswer.{EntryDownAnswer}
+use Rattle.arc_side.specs.declared.entry_down.EntryDownAnswer.TheVariants as entry_downs
 use Rattle.arc_side.specs.Entries.{EntryFall, EntryDownWord, entry_down_row, entry_down_end, entry_down_takes, entry_down_turned, entry_down_answer}
 use Rattle.arc_table.specs.Causes.{ReadTwice}
 use Rattle.arc_view_laws.specs.Strangers.{SeesNoStranger}

@@ -30,11 +30,11 @@ use Rattle.arc_view.specs.Kinds.{act_of, event_list, kind_at, loaded_act, workin
 use Rattle.arc_view.specs.Admission.{Admits}
 use Rattle.arc_view.specs.Steps.{Told}
 use Rattle.arc_view.specs.Calls.{Grew, Called}
-use Rattle.arc_plan.specs.declared.attempt.At.{At as At'}
-use Rattle.arc_plan.specs.declared.attempt.At.TheVariants as ats
-use Rattle.arc_plan.specs.Attempts.{turned_at, left_at}
-use Rattle.arc_side.specs.declared.down.EntryDownAnswer.{EntryDownAnswer}
-use Rattle.arc_side.specs.declared.down.EntryDownAnswer.TheVariants as downs
+use Rattle.arc_rule.specs.declared.attempt.At.{At as At'}
+use Rattle.arc_rule.specs.declared.attempt.At.TheVariants as ats
+use Rattle.arc_rule.specs.Attempts.{turned_at, left_at}
+use Rattle.arc_side.specs.declared.entry_down.EntryDownAnswer.{EntryDownAnswer}
+use Rattle.arc_side.specs.declared.entry_down.EntryDownAnswer.TheVariants as downs
 use Rattle.arc_side.specs.Entries.{EntryFall, entry_down_row, entry_down_end, entry_down_takes, entry_down_turned, entry_down_answer}
 use Rattle.arc_table.specs.Attempts.{IsLoweredInEntry, entry_down_act}
 use Rattle.arc_table.specs.Calls.{GoesOn}

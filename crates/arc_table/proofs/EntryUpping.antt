@@ -34,13 +34,13 @@ use Rattle.arc_view.specs.Admission.{Admits}
 use Rattle.arc_view.specs.Steps.{Told}
 use Rattle.arc_view.specs.Calls.{Grew}
 use Rattle.arc_view.proofs.Held.{hand_listed, stays_after, strong≢weak}
-use Rattle.arc_plan.specs.declared.attempt.At.{At as At'}
-use Rattle.arc_plan.specs.declared.attempt.At.TheVariants as ats
-use Rattle.arc_plan.specs.declared.attempt.Choice.{Choice}
-use Rattle.arc_plan.specs.declared.attempt.Choice.TheVariants.{Tell, Write}
-use Rattle.arc_plan.specs.Attempts.{turned_at, exchanging, chosen, left_at}
-use Rattle.arc_side.specs.declared.up.EntryUpAnswer.{EntryUpAnswer}
-use Rattle.arc_side.specs.declared.up.EntryUpAnswer.TheVariants as ups
+use Rattle.arc_rule.specs.declared.attempt.At.{At as At'}
+use Rattle.arc_rule.specs.declared.attempt.At.TheVariants as ats
+use Rattle.arc_rule.specs.declared.attempt.Choice.{Choice}
+use Rattle.arc_rule.specs.declared.attempt.Choice.TheVariants.{Tell, Write}
+use Rattle.arc_rule.specs.Attempts.{turned_at, exchanging, chosen, left_at}
+use Rattle.arc_side.specs.declared.entry_up.EntryUpAnswer.{EntryUpAnswer}
+use Rattle.arc_side.specs.declared.entry_up.EntryUpAnswer.TheVariants as ups
 use Rattle.arc_side.specs.Entries.{EntryRise, entry_up_row, entry_up_takes, entry_up_turned, entry_up_answer}
 use Rattle.arc_table.specs.Attempts.{IsRaisedInEntry, entry_up_act, entry_up_steps}
 use Rattle.arc_table.specs.Calls.{GoesOn}

@@ -44,11 +44,11 @@ use Rattle.arc_view.proofs.Within.{each_at}
 use Rattle.arc_view.proofs.Swapping.{named_kind, LeadsTo, global_shows}
 use Rattle.arc_rule.specs.Places.{place_at}
 use Rattle.arc_view.proofs.Loading.{load_works}
-use Rattle.arc_plan.specs.declared.attempt.At.{At as At'}
-use Rattle.arc_plan.specs.declared.attempt.At.TheVariants as ats
-use Rattle.arc_plan.specs.declared.attempt.Choice.{Choice}
-use Rattle.arc_plan.specs.declared.attempt.Choice.TheVariants.{Tell, Write}
-use Rattle.arc_plan.specs.Attempts.{turned_at, exchanging, chosen, left_at}
+use Rattle.arc_rule.specs.declared.attempt.At.{At as At'}
+use Rattle.arc_rule.specs.declared.attempt.At.TheVariants as ats
+use Rattle.arc_rule.specs.declared.attempt.Choice.{Choice}
+use Rattle.arc_rule.specs.declared.attempt.Choice.TheVariants.{Tell, Write}
+use Rattle.arc_rule.specs.Attempts.{turned_at, exchanging, chosen, left_at}
 use Rattle.arc_cells.specs.declared.swap.SwapAnswer.{SwapAnswer}
 use Rattle.arc_cells.specs.declared.swap.SwapAnswer.TheVariants as answers
 use Rattle.arc_cells.specs.Swaps.{SwapAttempt, swap_row, swap_takes, swap_turned, swap_answer}

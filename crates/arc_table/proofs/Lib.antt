@@ -22,3 +22,4 @@ pub mod Leaving
 pub mod EndCalls
 pub mod EndTokens
 pub mod Naming
+pub mod Having

@@ -16,12 +16,12 @@ use Rattle.arc_table.specs.Runs.Ran.{ended, stepped}
 
 module _ {P A : Type 0} (takes : P → Option ℕ → Type 0) (turned : P → Option ℕ → P) (answer : P → Option ℕ → Next A) (shape : HeapShape) (intent : Intent) where
   -- what the plan has done so far, and that it may go on
-  pub record IsUnderWay (start : P) (begun : View) (p : P) (last : Option ℕ) (v : View) : Type 0 where
+  pub record IsUnderWay (start : P) (given : Option ℕ) (begun : View) (p : P) (last : Option ℕ) (v : View) : Type 0 where
     pub may : MayRun takes turned answer shape intent p last v
-    pub so_far : (a : A) (w : View) → Ran turned answer shape intent p last v a w → Ran turned answer shape intent start None begun a w
+    pub so_far : (a : A) (w : View) → Ran turned answer shape intent p last v a w → Ran turned answer shape intent start given begun a w
 
-  pub may_start : (p : P) (v : View) → MayRun takes turned answer shape intent p None v → IsUnderWay p v p None v
-  may_start p v may = record { may = may; so_far = λ a w ran. ran }
+  pub may_start : (p : P) (given : Option ℕ) (v : View) → MayRun takes turned answer shape intent p given v → IsUnderWay p given v p given v
+  may_start p given v may = record { may = may; so_far = λ a w ran. ran }
 
   step≢done : {s : Step} {a : A} → nexts.Step s ≡ nexts.Done a → ⊥
   step≢done e = cc
@@ -41,8 +41,8 @@ module _ {P A : Type 0} (takes : P → Option ℕ → Type 0) (turned : P → Op
   ]
 
   -- after it the plan may go on
-  pub goes_on : (start : P) (begun : View) (p : P) (last : Option ℕ) (v : View) (s : Step) (found : ℕ) (w : View) → IsUnderWay start begun p last v → answer p last ≡ nexts.Step s → Told shape intent s v found w → IsUnderWay start begun (turned p last) (Some found) w
-  goes_on start begun p last v s found w u is told = record {
+  pub goes_on : (start : P) (given : Option ℕ) (begun : View) (p : P) (last : Option ℕ) (v : View) (s : Step) (found : ℕ) (w : View) → IsUnderWay start given begun p last v → answer p last ≡ nexts.Step s → Told shape intent s v found w → IsUnderWay start given begun (turned p last) (Some found) w
+  goes_on start given begun p last v s found w u is told = record {
     may = elim u.may [
       | ends a t e ↦ absurd (step≢done (sym is ∙ e))
       | steps_on r t e allowed on ↦ on found w (subst (λ z. Told shape intent z v found w) (step_inj (sym is ∙ e)) told)
@@ -50,8 +50,12 @@ module _ {P A : Type 0} (takes : P → Option ℕ → Type 0) (turned : P → Op
     so_far = λ a z ran. u.so_far a z (stepped s found w is told ran);
   }
 
-  pub comes_to : (start : P) (begun : View) (p : P) (last : Option ℕ) (v : View) (a : A) → IsUnderWay start begun p last v → answer p last ≡ nexts.Done a → Ran turned answer shape intent start None begun a v
-  comes_to start begun p last v a u is = u.so_far a v (ended is refl)
+  -- the same, said of the plan as it is then
+  pub goes_on_to : (start : P) (given : Option ℕ) (begun : View) (p : P) (last : Option ℕ) (v : View) (s : Step) (found : ℕ) (w : View) (q : P) → IsUnderWay start given begun p last v → nexts.Step s ≡ answer p last → q ≡ turned p last → Told shape intent s v found w → IsUnderWay start given begun q (Some found) w
+  goes_on_to start given begun p last v s found w q u is next told = subst (λ (r : P). IsUnderWay start given begun r (Some found) w) (sym next) (goes_on start given begun p last v s found w u (sym is) told)
+
+  pub comes_to : (start : P) (given : Option ℕ) (begun : View) (p : P) (last : Option ℕ) (v : View) (a : A) → IsUnderWay start given begun p last v → answer p last ≡ nexts.Done a → Ran turned answer shape intent start given begun a v
+  comes_to start given begun p last v a u is = u.so_far a v (ended is refl)
 
   -- the steps of a run
   pub ran_walked : (p : P) (last : Option ℕ) (v : View) (a : A) (w : View) → Ran turned answer shape intent p last v a w → Walked v w

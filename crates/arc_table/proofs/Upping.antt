@@ -59,13 +59,14 @@ use Rattle.arc_view_laws.proofs.Kept.{strong_one, stands_as}
 use Rattle.arc_table.proofs.Making.{grew_on, grew_most, next_none}
 use Rattle.arc_table.proofs.Lasting.{copy_told, mortal}
 use Rattle.arc_view.proofs.Held.{Held, held_stays, strong≢weak}
-use Rattle.arc_plan.specs.declared.attempt.At.{At as At'}
-use Rattle.arc_plan.specs.declared.attempt.At.TheVariants as ats
-use Rattle.arc_plan.specs.declared.attempt.Choice.{Choice}
-use Rattle.arc_plan.specs.declared.attempt.Choice.TheVariants.{Tell, Write}
+use Rattle.arc_rule.specs.declared.attempt.At.{At as At'}
+use Rattle.arc_rule.specs.declared.attempt.At.TheVariants as ats
+use Rattle.arc_rule.specs.declared.attempt.Choice.{Choice}
+use Rattle.arc_rule.specs.declared.attempt.Choice.TheVariants.{Tell, Write}
 use Rattle.arc_plan.specs.declared.strong.StrongUpAnswer.{StrongUpAnswer}
 use Rattle.arc_plan.specs.declared.strong.StrongUpAnswer.TheVariants as ups
-use Rattle.arc_plan.specs.Attempts.{CappedAttempt, IsCountWord, turned_at, exchanging, chosen, left_at}
+use Rattle.arc_plan.specs.Attempts.{CappedAttempt, IsCountWord}
+use Rattle.arc_rule.specs.Attempts.{turned_at, exchanging, chosen, left_at}
 use Rattle.arc_plan.specs.Strong.{strong_up_row, strong_up_takes, strong_up_turned, strong_up_answer}
 use Rattle.arc_table.specs.Runs.{MayRun, Ran}
 use Rattle.arc_view_laws.proofs.Growing.{acts_of, told_grew, grew_none}

@@ -13,10 +13,10 @@ use Rattle.arc_plan.specs.declared.strong.StrongUpAnswer.{StrongUpAnswer}
 use Rattle.arc_plan.specs.declared.strong.StrongUpAnswer.TheVariants as inline_ups
 use Rattle.arc_plan.specs.declared.strong.StrongDownAnswer.{StrongDownAnswer}
 use Rattle.arc_plan.specs.declared.strong.StrongDownAnswer.TheVariants as inline_downs
-use Rattle.arc_side.specs.declared.up.EntryUpAnswer.{EntryUpAnswer}
-use Rattle.arc_side.specs.declared.up.EntryUpAnswer.TheVariants as entry_ups
-use Rattle.arc_side.specs.declared.down.EntryDownAnswer.{EntryDownAnswer}
-use Rattle.arc_side.specs.declared.down.EntryDownAnswer.TheVariants as entry_downs
+use Rattle.arc_side.specs.declared.entry_up.EntryUpAnswer.{EntryUpAnswer}
+use Rattle.arc_side.specs.declared.entry_up.EntryUpAnswer.TheVariants as entry_ups
+use Rattle.arc_side.specs.declared.entry_down.EntryDownAnswer.{EntryDownAnswer}
+use Rattle.arc_side.specs.declared.entry_down.EntryDownAnswer.TheVariants as entry_downs
 use Rattle.arc_table.specs.Causes.{ReadTwice, Loaded, LoadedAtCap, HasEntry, IsMortal}
 use Rattle.arc_view_laws.specs.Having.{StandsAs}
 

@@ -13,8 +13,8 @@ use Rattle.arc_view.specs.declared.view.View.{View}
 use Rattle.arc_view.specs.Holding.{At, HasDuty, heap_of}
 use Rattle.arc_plan.specs.declared.unowned.UnownedDownAnswer.{UnownedDownAnswer}
 use Rattle.arc_plan.specs.declared.unowned.UnownedDownAnswer.TheVariants as inline_downs
-use Rattle.arc_side.specs.declared.down.EntryDownAnswer.{EntryDownAnswer}
-use Rattle.arc_side.specs.declared.down.EntryDownAnswer.TheVariants as entry_downs
+use Rattle.arc_side.specs.declared.entry_down.EntryDownAnswer.{EntryDownAnswer}
+use Rattle.arc_side.specs.declared.entry_down.EntryDownAnswer.TheVariants as entry_downs
 use Rattle.arc_table.specs.declared.tokens.Dying.{Dying}
 use Rattle.arc_table.specs.declared.ends.Freed.{Freed}
 use Rattle.arc_table.specs.declared.ends.Vacated.{Vacated}

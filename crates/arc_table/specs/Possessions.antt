@@ -1,10 +1,11 @@
 -- What a pass can have, and what a call leaves of it.
-use Rattle.std.specs.Prelude.{ℕ, ◌≡◌, ◌==◌, Bool, false, Option, None, Some}
+use Rattle.std.specs.Prelude.{ℕ, ◌≡◌, ◌≢◌, ◌==◌, Bool, false, List, [], ◌∷◌, Option, None, Some, ⊤}
 use Rattle.arc_model.specs.declared.event.Act.{Act}
 use Rattle.arc_model.specs.declared.event.Act.TheVariants as acts
 use Rattle.arc_model.specs.declared.shape.Kind.{Kind}
 use Rattle.arc_model.specs.declared.shape.Kind.TheVariants.{Weak}
 use Rattle.arc_model.specs.Heaps.{Hand, Duty, Deinit, Vacating, Gone, Object, Heap}
+use Rattle.arc_model.specs.Holders.{is_claimed_by}
 use Rattle.arc_model.specs.Lookup.{spot, duty_of}
 use Rattle.arc_model.specs.Own.{ends_hand}
 use Rattle.arc_view.specs.declared.view.View.{View}
@@ -65,3 +66,14 @@ pub record StillHas (act : Option Act) (v w : View) : Type 0 where
   pub stays : (x : Possession) (o : Object) → LeadsTo v x o → spends act x ≡ false → (q : Object) × LeadsTo w x q × IsStill x o q
   pub claims : (e : ℕ) → HasClaim v e → spends act (claim e) ≡ false → HasClaim w e
   pub moves : Moves act v w
+
+-- k is none of these numbers
+abbrev pub IsNoneOf : ℕ → List ℕ → Type 0
+IsNoneOf k [] = ⊤
+IsNoneOf k (h ∷ hs) = (k ≢ h) × IsNoneOf k hs
+
+-- the pass has no hand but these, no duty and no claim
+pub record HasOnly (hands : List ℕ) (v : View) : Type 0 where
+  pub others : (k : ℕ) → IsNoneOf k hands → spot (Hand v.number k) (heap_of v) ≡ None
+  pub duties : (i : ℕ) → duty_of v.number i (heap_of v) ≡ None
+  pub claims : (e : ℕ) → is_claimed_by v.number e (heap_of v) ≡ false

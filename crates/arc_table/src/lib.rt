@@ -13,6 +13,10 @@ mod steps;
 mod strong;
 #[cfg(test)]
 mod tests;
+#[cfg(test)]
+mod tests_end;
+#[cfg(test)]
+mod tests_threads;
 mod tokens;
 
 pub use close::{Closed, LastPass};

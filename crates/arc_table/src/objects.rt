@@ -34,7 +34,7 @@ impl Heap {
     {
         let _sized = self.shape.slots();
         let plan = NewObject::start(&self.layout, name, immortal);
-        self.run_as::<J, NewObject>(part, plan)
+        self.run_on::<J, NewObject>(part, plan, None)
     }
 
     /// A new object of a class of the shape, in the first slot that is found free, with one strong reference, which is the pass's.

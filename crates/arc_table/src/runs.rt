@@ -30,7 +30,33 @@ impl Heap {
         }
     }
 
+    /// Goes on with a plan, which is given `last`, to its answer. The pass admits each step that it asks for, whatever they find.
+    #[inline(always)]
+    pub(crate) fn run_on<J: Asks, P: Plan + Drop>(
+        &self,
+        part: &mut Part,
+        plan: P,
+        last: Option<u64>,
+    ) -> P::Answer
+        requires own { part_id part.old ≡ heap_id self.now }
+        requires asks { J.shape ≡ shape_of self.now }
+        requires may { MayRun P.takes P.turned P.answer (shape_of self.now) J.intent plan last (part_view part.old) }
+        ensures same { part_id part.new ≡ part_id part.old }
+        ensures walked { Walked (part_view part.old) (part_view part.new) }
+        ensures ran { Ran P.turned P.answer (shape_of self.now) J.intent plan last (part_view part.old) result (part_view part.new) }
+    {
+        let mut plan = plan;
+        let mut last = last;
+        loop {
+            match plan.next(last) {
+                Next::Step(step) => last = Some(self.step_as::<J>(part, step)),
+                Next::Done(answer) => return answer,
+            }
+        }
+    }
+
     /// Makes the steps of a plan, which the pass admits whatever they find, to its answer. It takes no memory and waits for nobody.
+    /// The first two steps stand apart from the loop, so that a short plan is compiled without one.
     #[inline(always)]
     pub(crate) fn run_as<J: Asks, P: Plan + Drop>(&self, part: &mut Part, plan: P) -> P::Answer
         requires own { part_id part.old ≡ heap_id self.now }
@@ -41,12 +67,14 @@ impl Heap {
         ensures ran { Ran P.turned P.answer (shape_of self.now) J.intent plan None (part_view part.old) result (part_view part.new) }
     {
         let mut plan = plan;
-        let mut last = None;
-        loop {
-            match plan.next(last) {
-                Next::Step(step) => last = Some(self.step_as::<J>(part, step)),
-                Next::Done(answer) => return answer,
-            }
-        }
+        let first = match plan.next(None) {
+            Next::Step(step) => self.step_as::<J>(part, step),
+            Next::Done(answer) => return answer,
+        };
+        let second = match plan.next(Some(first)) {
+            Next::Step(step) => self.step_as::<J>(part, step),
+            Next::Done(answer) => return answer,
+        };
+        self.run_on::<J, P>(part, plan, Some(second))
     }
 }

@@ -2,7 +2,7 @@
 ghost use Rattle.std.specs.Prelude.{◌≡◌};
 ghost use Rattle.arc_rule.specs.declared.step.Step.TheVariants.{Load, Exchange, Store, Or, And};
 ghost use Rattle.arc_view.specs.Admission.{Admits};
-ghost use Rattle.arc_view.specs.Steps.{Told};
+ghost use Rattle.arc_view.specs.Steps.{Told, given_back};
 ghost use Rattle.arc_table.specs.Seats.{heap_id, shape_of, part_id, part_view, pass_id, view_of};
 ghost use Rattle.arc_view_laws.specs.Strangers.{makes_object};
 
@@ -140,6 +140,7 @@ impl Heap {
         requires kind { Admits (shape_of self.now) (part_view part.old) step intent }
         ensures same { part_id part.new ≡ part_id part.old }
         ensures told { Told (shape_of self.now) intent step (part_view part.old) result (part_view part.new) }
+        ensures given { result ≡ given_back step result }
     {
         match step {
             Step::Load { place } => self.load_for::<Brand>(part, place, intent),
@@ -162,6 +163,7 @@ impl Heap {
         requires kind { Admits (shape_of self.now) (view_of pass.old) step intent }
         ensures same { pass_id pass.new ≡ pass_id pass.old }
         ensures told { Told (shape_of self.now) intent step (view_of pass.old) result (view_of pass.new) }
+        ensures given { result ≡ given_back step result }
     {
         let found = self.step_for(&mut pass.part, step, intent);
         if makes_object(step, intent, found) {

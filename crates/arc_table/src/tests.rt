@@ -43,7 +43,7 @@ fn passes_meet(rt: HostRuntime) {
 }
 
 /// Two slots, one entry, and one class without fields.
-fn classed_heap(alloc: Global) -> Option<(Heap, Pass)>
+pub(crate) fn classed_heap(alloc: Global) -> Option<(Heap, Pass)>
     ensures { IfSome result (λ r. (pass_id r.1 ≡ heap_id r.0) × (view_of r.1 ≡ first_view) × ((shape_of r.0).classes ≡ record { fields = []; immortal = false } ∷ [])) }
 {
     let caps = Caps::new(5, 6, 7).ok()?;
@@ -78,7 +78,7 @@ fn fill(heap: &Heap, pass: &mut Pass) -> Option<u32>
 }
 
 /// The reference to a new object.
-fn made(answer: Made) -> Option<Strong>
+pub(crate) fn made(answer: Made) -> Option<Strong>
     ensures { IfSome result (λ t. answer ≡ created.Ok t) }
 {
     match answer {
@@ -88,7 +88,7 @@ fn made(answer: Made) -> Option<Strong>
 }
 
 /// The reference that a retain made.
-fn copied(answer: Up<Strong>) -> Option<Strong>
+pub(crate) fn copied(answer: Up<Strong>) -> Option<Strong>
     ensures { IfSome result (λ t. answer ≡ ups.Ok t) }
 {
     match answer {
@@ -243,7 +243,7 @@ fn slot_is_free_again(rt: HostRuntime) {
 }
 
 /// A reference to a new object, where the pass may make one.
-fn made_in(heap: &Heap, pass: &mut Pass) -> Option<Strong>
+pub(crate) fn made_in(heap: &Heap, pass: &mut Pass) -> Option<Strong>
     requires own { pass_id pass.old ≡ heap_id heap.now }
     requires class { length (shape_of heap.now).classes ≡ 1 }
     requires free { OwesNoName (view_of pass.old) }
@@ -262,7 +262,7 @@ fn made_in(heap: &Heap, pass: &mut Pass) -> Option<Strong>
 }
 
 /// Whether a new object finds no slot.
-fn is_full(heap: &Heap, pass: &mut Pass) -> bool
+pub(crate) fn is_full(heap: &Heap, pass: &mut Pass) -> bool
     requires own { pass_id pass.old ≡ heap_id heap.now }
     requires class { length (shape_of heap.now).classes ≡ 1 }
     requires free { OwesNoName (view_of pass.old) }
@@ -281,7 +281,11 @@ fn is_full(heap: &Heap, pass: &mut Pass) -> bool
 }
 
 /// A reference is copied, and both are given up: which of the two releases was the last one's.
-fn copied_and_dropped(heap: &Heap, pass: &mut Pass, token: Strong) -> Option<(bool, bool)>
+pub(crate) fn copied_and_dropped(
+    heap: &Heap,
+    pass: &mut Pass,
+    token: Strong,
+) -> Option<(bool, bool)>
     requires own { pass_id pass.old ≡ heap_id heap.now }
     requires held { IsHeld (shape_of heap.now) (view_of pass.old) token }
     requires free { IsFree (view_of pass.old) }
@@ -318,11 +322,11 @@ fn two_passes_fill_two_slots(rt: HostRuntime) {
     assert!(rt; is_full(&heap, &mut second));
 }
 
-/// One slot, one entry, and one class without fields, which is immortal.
-fn immortal_heap(alloc: Global) -> Option<(Heap, Pass)>
+/// One slot, one entry, the least caps, and one class without fields, which is immortal.
+pub(crate) fn immortal_heap(alloc: Global) -> Option<(Heap, Pass)>
     ensures { IfSome result (λ r. (pass_id r.1 ≡ heap_id r.0) × (view_of r.1 ≡ first_view) × (length (shape_of r.0).classes ≡ 1)) }
 {
-    let caps = Caps::new(5, 6, 7).ok()?;
+    let caps = Caps::new(0, 1, 1).ok()?;
     let mut classes = Vec::new(alloc);
     let class = ClassShape {
         fields: Vec::new(alloc),

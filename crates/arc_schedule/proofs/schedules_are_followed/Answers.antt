@@ -1,4 +1,4 @@
-use Rattle.arc_schedule.proofs.Worked.{places_come_first as places, accesses_end_first as accesses, operations_tell as events, blocks_are_run as blocks}
+use Rattle.arc_schedule.proofs.Worked.{places_come_first as places, accesses_end_first as accesses, operations_tell as events, blocks_are_run as blocks, loads_give as loads, loads_find_dead as loads-dead}
 use Rattle.arc_schedule.proofs.schedules_are_followed.Goals as goal
 
 pub returns-clause-places : goal.returns-clause-places
@@ -12,3 +12,9 @@ returns-clause-events c = events
 
 pub returns-clause-blocks : goal.returns-clause-blocks
 returns-clause-blocks c = blocks
+
+pub returns-clause-loads : goal.returns-clause-loads
+returns-clause-loads c = loads
+
+pub returns-clause-loads_dead : goal.returns-clause-loads_dead
+returns-clause-loads_dead c = loads-dead

@@ -1,6 +1,8 @@
 use Rattle.std.proofs.Common.{◌≡◌, ℕ, ◌≤◌, ◌-◌, length}
 use Rattle.std.specs.Prelude.{All}
-use Rattle.arc_ops.specs.Thread.{Thread, HeldFits, begun, phase_end}
+use Rattle.arc_ops.specs.Thread.{Thread}
+use Rattle.arc_ops.specs.Begins.{begun, phase_end}
+use Rattle.arc_ops.specs.Steppers.{HeldFits}
 use Rattle.arc_ops.proofs.asking.first_asking.Given as goal
 
 abbrev pub invariant-loop-at : goal.invariant-loop-at

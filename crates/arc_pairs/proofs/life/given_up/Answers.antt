@@ -1,33 +1,25 @@
-use Rattle.std.proofs.Common.{◌≢◌, ◌∙◌, sym, subst}
+use Rattle.std.proofs.Common.{◌≢◌, sym, subst}
 use Rattle.arc_table.specs.declared.tokens.Strong.{Strong as Token}
 use Rattle.arc_table.specs.Seats.{view_of}
-use Rattle.arc_table.specs.Tokens.{hand_of, release_act}
+use Rattle.arc_table.specs.Tokens.{hand_of}
 use Rattle.arc_pairs.specs.Ready.{IsOurs}
-use Rattle.arc_pairs.proofs.Readied.{held, ours_on, last_ours, ready_on, release_keeps, none_keeps, kept_on}
+use Rattle.arc_pairs.proofs.Readied.{ours_on, last_ours, release_keeps, none_keeps}
 use Rattle.arc_pairs.proofs.life.given_up.Goals as goal
 
-pub release-requires-clause-held : goal.release-requires-clause-held
-release-requires-clause-held g c =
+pub given_up_again-requires-clause-held : goal.given_up_again-requires-clause-held
+given_up_again-requires-clause-held g c =
     let heap = c.args.heap.now in
-    held heap c.loop.pass c.loop.held (subst (IsOurs heap c.loop.pass) (sym c.loop.invariant.2) (ours_on heap c.args.pass.now c.loop.pass c.args.held c.loop.invariant.1 c.requires.held))
+    subst (IsOurs heap c.release.new.pass) (sym c.in-Again.ensures.released.0) (ours_on heap c.args.pass.now c.release.new.pass c.args.held (none_keeps (view_of c.args.pass.now) (view_of c.release.new.pass) c.in-Again.ensures.has) c.requires.held)
 
 pub returns-in-Last-clause-dying : goal.returns-in-Last-clause-dying
-returns-in-Last-clause-dying g c =
-    let heap = c.args.heap.now in
-    let ours = subst (IsOurs heap c.loop.pass) (sym c.loop.invariant.2) (ours_on heap c.args.pass.now c.loop.pass c.args.held c.loop.invariant.1 c.requires.held) in
-    last_ours heap c.loop.pass c.release.new.pass c.loop.held c.in-Last.dying ours c.in-Last.ensures.released
+returns-in-Last-clause-dying g c = last_ours c.args.heap.now c.args.pass.now c.release.new.pass c.args.held c.in-Last.dying c.requires.held c.in-Last.ensures.released
 
 pub returns-in-More-clause-kept : goal.returns-in-More-clause-kept
-returns-in-More-clause-kept g c = λ k other s class ours.
-    release_keeps c.loop.held c.release.result (view_of c.loop.pass) (view_of c.release.new.pass) c.release.ensures.has k (subst (λ (t : Token). k ≢ hand_of t) (sym c.loop.invariant.2) other) s class (c.loop.invariant.1 k s class ours)
+returns-in-More-clause-kept g c = release_keeps c.args.held c.release.result (view_of c.args.pass.now) (view_of c.release.new.pass) c.release.ensures.has
 
 pub returns-in-Last-clause-kept : goal.returns-in-Last-clause-kept
-returns-in-Last-clause-kept g c = λ k other s class ours.
-    release_keeps c.loop.held c.release.result (view_of c.loop.pass) (view_of c.release.new.pass) c.release.ensures.has k (subst (λ (t : Token). k ≢ hand_of t) (sym c.loop.invariant.2) other) s class (c.loop.invariant.1 k s class ours)
+returns-in-Last-clause-kept g c = release_keeps c.args.held c.release.result (view_of c.args.pass.now) (view_of c.release.new.pass) c.release.ensures.has
 
-pub loop-preserved : goal.loop-preserved
-loop-preserved g c = (
-  ready_on c.args.heap.now (release_act c.loop.held c.release.result) 3 c.loop.pass c.release.new.pass c.loop.invariant.0 c.release.ensures.called,
-  kept_on (view_of c.args.pass.now) (view_of c.loop.pass) (view_of c.release.new.pass) c.loop.invariant.1 (none_keeps (view_of c.loop.pass) (view_of c.release.new.pass) c.in-Again.ensures.has),
-  c.in-Again.ensures.released.0 ∙ c.loop.invariant.2,
-)
+pub returns-in-Again-clause-kept : goal.returns-in-Again-clause-kept
+returns-in-Again-clause-kept g c = λ k other s class ours.
+    c.given_up_again.ensures.kept k (subst (λ (t : Token). k ≢ hand_of t) (sym c.in-Again.ensures.released.0) other) s class (none_keeps (view_of c.args.pass.now) (view_of c.release.new.pass) c.in-Again.ensures.has k s class ours)

@@ -1,5 +1,6 @@
 use Rattle.std.proofs.Common.{ap, ◌∙◌, arith}
-use Rattle.arc_ops.specs.Thread.{Thread, begun}
+use Rattle.arc_ops.specs.Thread.{Thread}
+use Rattle.arc_ops.specs.Begins.{begun}
 use Rattle.arc_ops.proofs.Blocks.{long_as_phases}
 use Rattle.arc_ops.proofs.Moves.{moved}
 use Rattle.arc_ops.proofs.Passed.{begun_from}

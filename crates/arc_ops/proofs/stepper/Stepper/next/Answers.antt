@@ -1,7 +1,7 @@
 use Rattle.std.proofs.Common.{false, None, ap, sym, ◌∙◌}
 use Rattle.arc_cells.specs.Cascades.{CascadeState}
 use Rattle.arc_ops.specs.Thread.{Thread}
-use Rattle.arc_ops.proofs.Moves.{making_goes_on, same_heap}
+use Rattle.arc_ops.proofs.Moves.{making_goes_on, same_heap, gain_answers}
 use Rattle.arc_ops.proofs.stepper.Stepper.next.Goals as goal
 
 pub die_on-requires-clause-layout : goal.die_on-requires-clause-layout
@@ -23,3 +23,9 @@ make_on-requires-clause-goes_on c =
     let idle : Thread = record { layout = i.layout; shape = i.shape.now; thread = i.thread; phases = i.phases.now; program = i.program; vars = i.vars.items; phase = i.phase; index = i.index; doing = c.replace-doing.new.dest; asked = i.asked; first = false; hands = i.hands; made = i.made; event = None; kept = i.lines } in
     rw (c.next-next.ensures.turned, c.next-next.ensures.answer)
     (making_goes_on idle c.in-Making.name c.in-Making.plan c.args.last under_way.2 under_way.3 under_way.1 in_operation.1)
+
+pub gain_on-requires-clause-answer : goal.gain_on-requires-clause-answer
+gain_on-requires-clause-answer c =
+    let takes = rw (← c.self.view_is) at c.requires.takes in
+    let here = rw (sym c.replace-doing.ensures.value ∙ c.in-Gaining.is) at takes in
+    rw c.next-next-in-Gaining.ensures.answer (gain_answers c.in-Gaining.gain c.in-Gaining.plan c.args.last here)

@@ -1,6 +1,7 @@
 use Rattle.std.proofs.Common.{◌≡◌, ◌+◌, List, length, rules, ap, ◌∙◌, sym, subst, arith}
 use Rattle.std.specs.Prelude.{All}
-use Rattle.arc_ops.specs.Thread.{Thread, IsStepper}
+use Rattle.arc_ops.specs.Thread.{Thread}
+use Rattle.arc_ops.specs.Steppers.{IsStepper}
 use Rattle.arc_plain.specs.Crews.{Progress, IsInPhases}
 use Rattle.arc_plain.proofs.Order.{beginning_takes, beginning_on, beginning_last, beginning_done, begun_in_phases, phase_left}
 use Rattle.arc_plain.proofs.crew.Crew.begin_phase.Goals as goal

@@ -1,5 +1,5 @@
 use Rattle.std.specs.Prelude.{All}
-use Rattle.arc_ops.specs.Thread.{IsStepper}
+use Rattle.arc_ops.specs.Steppers.{IsStepper}
 use Rattle.arc_plain.proofs.Order.{Beginning}
 use Rattle.arc_plain.proofs.crew.Crew.begin_phase.Given as goal
 

@@ -1,9 +1,9 @@
-use Rattle.std.proofs.Common.{◌≡◌, ◌≢◌, ℕ, bit_and, Option, None, sym, ap, ◌∙◌, subst}
+use Rattle.std.proofs.Common.{◌≡◌, ◌≢◌, bit_and, None, sym, ap, ◌∙◌, subst}
 use Rattle.arc_rule.specs.Bits.{bit_of}
 use Rattle.arc_plan.specs.declared.slots.Making.{Making}
 use Rattle.arc_plan.specs.declared.slots.Making.TheVariants.{Taking}
-use Rattle.arc_plan.specs.Slots.{Creation, IsTaking, InSlots, making_takes}
-use Rattle.arc_plan.proofs.Searching.{slot_was_lost, given_is}
+use Rattle.arc_plan.specs.Slots.{Creation, IsTaking, InSlots, making_takes, making_asked, making_rests, bits_place_of}
+use Rattle.arc_plan.proofs.Searching.{was_lost, given_is}
 use Rattle.arc_plan.proofs.slots.NewObjectPlan.next.Goals as goal
 
 -- src/slots.rt:207:21
@@ -17,4 +17,4 @@ returns-then-found-bit-ne0-clause-change c =
     let taking : IsTaking c.self.inside.layout.slots s seen = subst (λ (m : Making). InSlots c.self.inside.layout m) c.in-Taking.is c.self.invariant.in_slots in
     let some : c.args.last ≢ None = subst (λ (m : Making). making_takes m c.args.last) is c.requires in
     let set : bit_and found (bit_of s) ≢ 0 = subst (λ b. bit_and found b ≢ 0) c.bit.ensures c.if-found-bit-ne0.true in
-    slot_was_lost p s seen found c.args.last is taking.clear set (given_is c.args.last found some (sym c.unwrap_or-found.ensures))
+    was_lost (bits_place_of p.layout s) s seen found _ _ c.args.last (ap (making_asked p) is) (ap (making_rests p.layout) is) taking.clear set (given_is c.args.last found some (sym c.unwrap_or-found.ensures))

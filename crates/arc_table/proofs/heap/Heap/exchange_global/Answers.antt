@@ -2,7 +2,7 @@ use Rattle.std.proofs.Common.{◌≡◌, sym, ◌∙◌, subst, None}
 use Rattle.arc_rule.specs.declared.step.Intent.{Intent}
 use Rattle.arc_rule.specs.declared.layout.Place.TheVariants.{Global}
 use Rattle.arc_rule.specs.Places.{extent_of, number}
-use Rattle.arc_plan.specs.declared.attempt.At.TheVariants.{Start}
+use Rattle.arc_rule.specs.declared.attempt.At.TheVariants.{Start}
 use Rattle.arc_cells.specs.Swaps.{SwapAttempt, swap_takes, swap_turned, swap_answer}
 use Rattle.arc_table.specs.Seats.{shape_of, part_view}
 use Rattle.arc_table.specs.Runs.{MayRun, Ran}

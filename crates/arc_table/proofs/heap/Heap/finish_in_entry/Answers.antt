@@ -2,7 +2,7 @@ use Rattle.std.proofs.Common.{◌≡◌, sym, ◌∙◌, subst, None}
 use Rattle.arc_model.specs.declared.shape.Kind.TheVariants.{Unowned}
 use Rattle.arc_rule.specs.declared.step.Intent.{Intent}
 use Rattle.arc_rule.specs.Places.{extent_of}
-use Rattle.arc_plan.specs.declared.attempt.At.TheVariants.{Start}
+use Rattle.arc_rule.specs.declared.attempt.At.TheVariants.{Start}
 use Rattle.arc_side.specs.Entries.{EntryFall, entry_down_takes, entry_down_turned, entry_down_answer}
 use Rattle.arc_table.specs.Seats.{shape_of, part_view}
 use Rattle.arc_table.specs.Runs.{MayRun, Ran}

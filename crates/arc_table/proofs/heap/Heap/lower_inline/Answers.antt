@@ -1,7 +1,7 @@
 use Rattle.std.proofs.Common.{◌≡◌, sym, ap, ◌∙◌, subst, None}
 use Rattle.arc_rule.specs.declared.step.Intent.{Intent}
 use Rattle.arc_rule.specs.Places.{extent_of}
-use Rattle.arc_plan.specs.declared.attempt.At.TheVariants.{Start}
+use Rattle.arc_rule.specs.declared.attempt.At.TheVariants.{Start}
 use Rattle.arc_plan.specs.Attempts.{Attempt}
 use Rattle.arc_plan.specs.Strong.{strong_down_takes, strong_down_turned, strong_down_answer}
 use Rattle.arc_table.specs.Seats.{shape_of, part_view}

@@ -3,7 +3,7 @@ use Rattle.arc_model.specs.declared.shape.Kind.TheVariants.{Strong}
 use Rattle.arc_model.specs.Shapes.{CapNumbers}
 use Rattle.arc_rule.specs.declared.step.Intent.{Intent}
 use Rattle.arc_rule.specs.Places.{extent_of}
-use Rattle.arc_plan.specs.declared.attempt.At.TheVariants.{Start}
+use Rattle.arc_rule.specs.declared.attempt.At.TheVariants.{Start}
 use Rattle.arc_side.specs.Entries.{EntryRise, entry_up_takes, entry_up_turned, entry_up_answer}
 use Rattle.arc_table.specs.Seats.{shape_of, part_view}
 use Rattle.arc_table.specs.Tokens.{hand_of}

@@ -2,7 +2,7 @@ use Rattle.std.proofs.Common.{◌≡◌, sym, ap, ◌∙◌, subst, None}
 use Rattle.arc_model.specs.Shapes.{CapNumbers}
 use Rattle.arc_rule.specs.declared.step.Intent.{Intent}
 use Rattle.arc_rule.specs.Places.{extent_of}
-use Rattle.arc_plan.specs.declared.attempt.At.TheVariants.{Start}
+use Rattle.arc_rule.specs.declared.attempt.At.TheVariants.{Start}
 use Rattle.arc_plan.specs.Attempts.{CappedAttempt}
 use Rattle.arc_plan.specs.Strong.{strong_up_takes, strong_up_turned, strong_up_answer}
 use Rattle.arc_table.specs.Seats.{shape_of, part_view}

@@ -1,0 +1,95 @@
+-- What holds of each stepper.
+use Rattle.std.specs.Prelude.{ℕ, ◌≡◌, ◌<◌, ◌≤◌, ◌+◌, ◌-◌, length, All, Option, Some, None, ⊤}
+use Rattle.arc_model.specs.Shapes.{HeapShape}
+use Rattle.arc_model.specs.declared.event.ObjectName.{ObjectName}
+use Rattle.arc_rule.specs.Extents.{Extent}
+use Rattle.arc_rule.specs.Isa.{IsName}
+use Rattle.arc_rule.specs.Places.{extent_of}
+use Rattle.arc_rule.specs.declared.plan.Next.{Next}
+use Rattle.arc_rule.specs.declared.plan.Next.TheVariants as nexts
+use Rattle.arc_plan.specs.declared.slots.Making.{Making as Search}
+use Rattle.arc_plan.specs.declared.slots.Making.TheVariants as search
+use Rattle.arc_plan.specs.declared.slots.NewObjectAnswer.{NewObjectAnswer}
+use Rattle.arc_plan.specs.declared.slots.NewObjectAnswer.TheVariants.{Slot, NoSlot, Again}
+use Rattle.arc_plan.specs.Slots.{InSlots}
+use Rattle.arc_side.specs.Inline.{IsCountedInline}
+use Rattle.arc_cells.specs.Cascades.{HasNoFields}
+use Rattle.arc_script.specs.OneList.{in_one_list}
+use Rattle.arc_ops.specs.Programs.{VarsFit, ClassFits, BlocksFit}
+use Rattle.arc_ops.specs.Thread.{Thread}
+use Rattle.arc_ops.specs.declared.stepper.Held.{Held}
+use Rattle.arc_ops.specs.declared.stepper.Doing.{Doing}
+use Rattle.arc_ops.specs.declared.stepper.Doing.TheVariants.{Ready, Making, Gaining, Naming, Dropping, Dying}
+
+-- a reference that is served, to a slot of the heap
+pub record IsHeld (slots : ℕ) (held : Held) : Type 0 where
+  pub place : held.place < slots
+  pub kind : IsCountedInline held.kind
+
+abbrev pub HeldFits : ℕ → Option Held → Type 0
+HeldFits slots None = ⊤
+HeldFits slots (Some held) = IsHeld slots held
+
+-- it has asked for a step of the making, on a word or a slot of the heap
+abbrev pub IsMakingIn : Extent → Search → Type 0
+IsMakingIn l search.Start = ⊥
+IsMakingIn l search.Ended = ⊥
+IsMakingIn l at = InSlots l at
+
+abbrev pub IsUnderWay : Extent → HeapShape → ℕ → Doing → Type 0
+IsUnderWay layout shape vars (Making to name plan) = (to < vars) × (plan.layout ≡ layout) × IsName name × IsMakingIn layout plan.at
+IsUnderWay layout shape vars (Gaining gain to from plan) = (to < vars) × IsHeld layout.slots from
+IsUnderWay layout shape vars (Naming to held plan) = (to < vars) × IsHeld layout.slots held
+IsUnderWay layout shape vars (Dropping held plan) = IsHeld layout.slots held
+IsUnderWay layout shape vars (Dying c) = (c.layout ≡ layout) × (c.shape ≡ shape)
+IsUnderWay layout shape vars _ = ⊤
+
+-- what came into its hands and what it made is of the operations before: each brings one reference and makes one object at most
+abbrev pub FewBefore : Thread → Type 0
+FewBefore t = (t.hands ≤ t.index) × (t.made ≤ t.index)
+
+-- the object isn't made yet
+abbrev pub MadeBefore : Thread → Search → Type 0
+MadeBefore t (search.Looking word) = FewBefore t
+MadeBefore t (search.Taking slot seen) = FewBefore t
+MadeBefore t _ = ⊤
+
+-- where the plan is then: it looks on, takes a slot, has just taken it, or stores the name
+abbrev pub StepGoesOn : Thread → Search → Type 0
+StepGoesOn t (search.Counting slot) = IsMakingIn t.layout (search.Counting slot) × FewBefore t
+StepGoesOn t at = IsMakingIn t.layout at × MadeBefore t at
+
+abbrev pub MakingGoesOn : Thread → ObjectName → Search → Next NewObjectAnswer → Type 0
+MakingGoesOn t name at (nexts.Step step) = IsName name × StepGoesOn t at
+MakingGoesOn t name at (nexts.Done (Slot place)) = place < t.layout.slots
+MakingGoesOn t name at (nexts.Done NoSlot) = ⊤
+MakingGoesOn t name at (nexts.Done (Again changed)) = IsName name × FewBefore t
+
+-- an operation of the program is under way, not a drop at the end of the scope
+abbrev pub IsInOperation : Thread → Doing → Type 0
+IsInOperation t Ready = t.index < length t.program → FewBefore t
+IsInOperation t (Making to name plan) = (t.index < length t.program) × MadeBefore t plan.at
+IsInOperation t (Gaining gain to from plan) = (t.index < length t.program) × FewBefore t
+IsInOperation t (Naming to held plan) = t.index < length t.program
+IsInOperation t _ = ⊤
+
+pub record IsStepper (t : Thread) : Type 0 where
+  pub layout : t.layout ≡ extent_of t.shape
+  pub without_fields : HasNoFields t.shape
+  pub slots : t.layout.slots ≤ 4096
+  pub strong_cap : t.shape.caps.strong ≤ 1073741823
+  pub thread : t.thread ≤ 64
+  pub vars_fit : All (VarsFit (length t.vars)) t.program
+  pub classes_fit : All (ClassFits (length t.shape.classes)) t.program
+  pub whole : t.program ≡ in_one_list 0 t.phases
+  pub blocks : BlocksFit t.program t.phases
+  pub few : length t.program ≤ 100000
+  pub held : All (HeldFits t.layout.slots) t.vars
+  -- one of its phases, and 0 where it has none
+  pub phase : t.phase ≤ length t.phases - 1
+  pub index : t.index ≤ length t.program
+  -- each operation before brings a reference and makes an object at most, and so does the one that is under way
+  pub hands : t.hands ≤ t.index + 1
+  pub made : t.made ≤ t.index + 1
+  pub under_way : IsUnderWay t.layout t.shape (length t.vars) t.doing
+  pub in_operation : IsInOperation t t.doing
