@@ -4,6 +4,8 @@ use Rattle.std.specs.Prelude.{All}
 use Rattle.std.specs.List.{AllByRecursion}
 use Rattle.std.proofs.lemmas.List.{length-map}
 use Rattle.std.proofs.lemmas.List.Elements.{recursion_from_All}
+use Rattle.arc_model.specs.declared.event.CellName.{CellName}
+use Rattle.arc_model.specs.declared.event.CellName.TheVariants as cells
 use Rattle.arc_model.specs.declared.event.Origin.TheVariants.{Hand, Cell}
 use Rattle.arc_model.specs.declared.event.Act.{Act}
 use Rattle.arc_model.specs.declared.event.Act.TheVariants as acts
@@ -19,11 +21,11 @@ use Rattle.arc_script.specs.Valid.{IsScript}
 use Rattle.arc_ops.specs.declared.told.Stamped.{Stamped}
 use Rattle.arc_ops.specs.declared.told.ThreadLines.{ThreadLines}
 use Rattle.arc_plain.specs.declared.replay.Replay.{Replay}
-use Rattle.arc_replays.specs.Named.{AnswerFits, LineFits, ActFits}
+use Rattle.arc_replays.specs.Named.{IsThere, AnswerFits, LineFits, ActFits}
 use Rattle.arc_replays.specs.Left.{OnlyImmortals}
 use Rattle.arc_plain.specs.Replays.{IsReplay}
 use Rattle.arc_report.specs.Lines.{AnswerHasClass, LinesHaveClasses, ThreadsHaveClasses}
-use Rattle.arc_report.specs.Events.{ActIsNamed, EventIsNamed}
+use Rattle.arc_report.specs.Events.{CellIsThere, ActIsNamed, EventIsNamed}
 use Rattle.arc_report.specs.Words.{AreFinalWords, EntryIsThere, ObjectsHaveClasses}
 
 answer_named : (n : ℕ) (a : Answer) → AnswerFits n a → AnswerHasClass n a
@@ -40,29 +42,33 @@ answer_named n (answers.Deinit name) h = h
 pub lines_named : (n : ℕ) (lines : List Line) → All (LineFits n) lines → LinesHaveClasses n lines
 lines_named n lines all = recursion_from_All (λ (l : Line). AnswerHasClass n l.answer) lines (λ k d h. answer_named n _ (all k d h))
 
-act_named : (classes globals : ℕ) (act : Act) → ActFits classes act → ActIsNamed classes globals act
-act_named n g (acts.New hand class slot) h = h
-act_named n g acts.Full h = h
-act_named n g (acts.Copy (Hand of) hand) h = h
-act_named n g (acts.Copy (Cell cell) hand) h = absurd h
-act_named n g (acts.UnownedOf of hand) h = h
-act_named n g (acts.WeakOf of hand) h = absurd h
-act_named n g (acts.Load of got) h = h
-act_named n g (acts.Drop hand last) h = h
-act_named n g (acts.CountFull list from) h = absurd h
-act_named n g (acts.Claim entry) h = absurd h
-act_named n g acts.NoEntry h = absurd h
-act_named n g (acts.Side slot entry why) h = absurd h
-act_named n g (acts.Back entry) h = absurd h
-act_named n g (acts.Swap cell put took) h = absurd h
-act_named n g (acts.Look cell) h = absurd h
-act_named n g (acts.Take slot field hand) h = absurd h
-act_named n g (acts.Finish slot last) h = h
-act_named n g (acts.Vacate slot) h = h
-act_named n g (acts.Gone entry last) h = absurd h
+cell_named : (shape : HeapShape) (c : CellName) → IsThere shape c → CellIsThere (length shape.globals) c
+cell_named shape (cells.Field slot field) h = tt
+cell_named shape (cells.Global g) h = h
 
-pub events_named : (classes globals : ℕ) (events : List Stamped) → All (λ (s : Stamped). ActFits classes s.event.act) events → AllByRecursion (EventIsNamed classes globals) events
-events_named n g events all = recursion_from_All (EventIsNamed n g) events (λ k d h. act_named n g _ (all k d h))
+act_named : (shape : HeapShape) (act : Act) → ActFits shape act → ActIsNamed (length shape.classes) (length shape.globals) act
+act_named shape (acts.New hand class slot) h = h
+act_named shape acts.Full h = h
+act_named shape (acts.Copy (Hand of) hand) h = h
+act_named shape (acts.Copy (Cell cell) hand) h = cell_named shape cell h
+act_named shape (acts.UnownedOf of hand) h = h
+act_named shape (acts.WeakOf of hand) h = absurd h
+act_named shape (acts.Load of got) h = h
+act_named shape (acts.Drop hand last) h = h
+act_named shape (acts.CountFull list from) h = absurd h
+act_named shape (acts.Claim entry) h = absurd h
+act_named shape acts.NoEntry h = absurd h
+act_named shape (acts.Side slot entry why) h = absurd h
+act_named shape (acts.Back entry) h = absurd h
+act_named shape (acts.Swap cell put took) h = cell_named shape cell h
+act_named shape (acts.Look cell) h = cell_named shape cell h
+act_named shape (acts.Take slot field hand) h = absurd h
+act_named shape (acts.Finish slot last) h = h
+act_named shape (acts.Vacate slot) h = h
+act_named shape (acts.Gone entry last) h = absurd h
+
+pub events_named : (shape : HeapShape) (events : List Stamped) → All (λ (s : Stamped). ActFits shape s.event.act) events → AllByRecursion (EventIsNamed (length shape.classes) (length shape.globals)) events
+events_named shape events all = recursion_from_All (EventIsNamed (length shape.classes) (length shape.globals)) events (λ k d h. act_named shape _ (all k d h))
 
 -- ---- words of a heap in which immortal objects alone are left
 
@@ -84,6 +90,9 @@ final_words shape words left = record {
 classes_count : (script : Script) → IsScript script → length script.shape.classes ≡ length script.classes
 classes_count script valid = ap length valid.heading.of_classes ∙ simp length-map
 
+globals_count : (script : Script) → IsScript script → length script.shape.globals ≡ length script.globals
+globals_count script valid = ap length valid.heading.of_globals ∙ simp length-map
+
 pub classes_there : (script : Script) (words : List ℕ) → IsScript script → OnlyImmortals script.shape words → ObjectsHaveClasses (length script.classes) (extent_of script.shape) words
 classes_there script words valid left = subst (λ n. ObjectsHaveClasses n (extent_of script.shape) words) (classes_count script valid) (λ s h t. (left.slots s h t).class_there)
 
@@ -97,4 +106,5 @@ end_told script r valid told = subst (λ n. LinesHaveClasses n r.end.items) (cla
 
 pub events_told : (script : Script) (r : Replay) → IsScript script → IsReplay script r → AllByRecursion (EventIsNamed (length script.classes) (length script.globals)) r.events.items
 events_told script r valid told =
-    subst (λ n. AllByRecursion (EventIsNamed n (length script.globals)) r.events.items) (classes_count script valid) (events_named _ _ _ told.events_fit)
+    subst (λ n. AllByRecursion (EventIsNamed (length script.classes) n) r.events.items) (globals_count script valid)
+    (subst (λ n. AllByRecursion (EventIsNamed n (length script.shape.globals)) r.events.items) (classes_count script valid) (events_named script.shape _ told.events_fit))

@@ -102,6 +102,44 @@ events
 done
 ";
 
+/// Thread 1 puts its node into a global. In the second phase thread 2 finds the global accessed by thread 1, copies it when that is over, and puts
+/// its copy there; the end section clears it.
+const GLOBALS: &[u8] =
+    b"arc 1\nslots 1\nentries 1\nclass Node\nglobal shared strong Node\nthread 1\nvar node strong Node\nvar seen strong Node\nnew node Node\nset @shared node\nphase\nget seen @shared\nthread 2\nvar copy strong Node\nphase\nget copy @shared\nset @shared copy\nschedule 1 1 1 1 1 1 1 1 2 2\ndone\n";
+
+const GLOBALS_REPLAYED: &[u8] = b"report 1
+thread 1
+1 new Node#1.1
+2 ok
+3 ok
+thread 2
+1 ok
+2 ok
+end
+deinit Node#1.1
+objects 1 deinits 1 leaks 0
+history 1
+slots 1
+entries 1
+caps 1073741823 2147483647 4294967295
+class Node
+global shared strong Node
+threads 2
+events
+2 1 new 1 Node 0
+6 1 swap @shared 1 nil
+12 1 copy @shared 2
+15 1 drop 2 more
+19 2 copy @shared 1
+22 2 swap @shared 1 2
+24 2 drop 2 more
+26 0 swap @shared nil 1
+28 0 drop 1 last
+33 0 finish 0 last
+34 0 vacate 0
+done
+";
+
 const NEVER_THERE: &[u8] =
     b"history 1\nslots 1\nentries 1\ncaps 1 2 3\nclass Node\nthreads 1\nevents\n1 1 new 1 Node 0\n2 1 vacate 0\ndone\n";
 
@@ -147,6 +185,7 @@ fn each_command_and_each_fault_of_the_outside(rt: HostRuntime) -> Result<(), Fai
             TWO_THREADS_REPLAYED,
         ),
         (b"replay", BLOCKS, none, Status::Done, BLOCKS_REPLAYED),
+        (b"replay", GLOBALS, none, Status::Done, GLOBALS_REPLAYED),
         (
             b"check",
             TWO_THREADS_REPLAYED,
@@ -155,6 +194,13 @@ fn each_command_and_each_fault_of_the_outside(rt: HostRuntime) -> Result<(), Fai
             b"legal 5\n",
         ),
         (b"check", BLOCKS_REPLAYED, none, Status::Done, b"legal 9\n"),
+        (
+            b"check",
+            GLOBALS_REPLAYED,
+            none,
+            Status::Done,
+            b"legal 11\n",
+        ),
         (
             b"check",
             NEVER_THERE,

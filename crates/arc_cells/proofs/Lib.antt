@@ -1,0 +1,2 @@
+pub mod BareCascades
+pub mod Turns

@@ -1,4 +1,7 @@
+pub mod BareCascades
 pub mod Begins
 pub mod Cascades
+pub mod Chains
+pub mod Drops
 pub mod Ends
 pub mod Swaps

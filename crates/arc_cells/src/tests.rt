@@ -1,15 +1,18 @@
-//! Tests of the plans on cells.
+//! Tests of the plans on cells, of a drop and of the first steps of a deinit.
 
 ghost use Rattle.std.specs.Prelude.{◌≡◌, IfSome};
+ghost use Rattle.arc_rule.specs.Places.{extent_of};
 
-use crate::{Begin, BeginAnswer, End, Swap, SwapAnswer};
-use arc_model::{Caps, ClassShape, Kind, RefShape, Shape};
-use arc_rule::{Changed, Layout, Next, Plan, Step};
+use crate::{
+    Begin, BeginAnswer, Cascade, CascadeNext, End, RefDrop, RefDropNext, Swap, SwapAnswer,
+};
+use arc_model::{Act, Caps, ClassShape, Kind, RefShape, Shape};
+use arc_rule::{Changed, Intent, Layout, Next, Plan, Step};
 use std::alloc::Global;
 
-/// One global and one slot: the global's word is the place 1.
-fn small_layout(alloc: Global) -> Option<Layout>
-    ensures { IfSome result (λ l. l ≡ record { globals = 1; slots = 1; entries = 1 }) }
+/// One global, one slot and one entry: the global's word is the place 1, the slot's words are 2 to 12, the entry's 13 to 16.
+fn small_shape(alloc: Global) -> Option<Shape>
+    ensures { IfSome result (λ s. extent_of s ≡ record { globals = 1; slots = 1; entries = 1 }) }
 {
     let caps = Caps::new(5, 6, 7).ok()?;
     let mut globals = Vec::new(alloc);
@@ -26,7 +29,13 @@ fn small_layout(alloc: Global) -> Option<Layout>
             immortal: false,
         })
         .ok()?;
-    let shape = Shape::new(1, 1, caps, classes, globals).ok()?;
+    Shape::new(1, 1, caps, classes, globals).ok()
+}
+
+fn small_layout(alloc: Global) -> Option<Layout>
+    ensures { IfSome result (λ l. l ≡ record { globals = 1; slots = 1; entries = 1 }) }
+{
+    let shape = small_shape(alloc)?;
     Some(Layout::of(&shape))
 }
 
@@ -85,4 +94,53 @@ fn access_ends(rt: HostRuntime) {
         Next::Step(Step::Store { place: 1, new: 2 })
     );
     assert_eq!(rt; end.next(Some(0)), Next::Done(()));
+}
+
+#[test]
+fn last_weak_reference_gives_the_entry_back(rt: HostRuntime) {
+    let layout = small_layout(rt.alloc()).expect(&rt, "a layout");
+    let of_hand = Intent::Drop { hand: 7 };
+    let exchange = Step::Exchange {
+        place: 16,
+        old: 1,
+        new: 0,
+    };
+    let clear = Step::And {
+        place: 18,
+        bits: u64::MAX - 1,
+    };
+    let mut drop = RefDrop::start(&layout, 7, Kind::Weak, 0);
+    assert_eq!(rt;
+        drop.next(None),
+        RefDropNext::Step(Step::Load { place: 16 }, of_hand)
+    );
+    assert_eq!(rt; drop.next(Some(1)), RefDropNext::Step(exchange, of_hand));
+    assert_eq!(rt; drop.next(Some(1)), RefDropNext::Step(clear, Intent::Back));
+    assert_eq!(rt;
+        drop.event(),
+        Some(Act::Drop {
+            hand: 7,
+            last: true
+        })
+    );
+    assert_eq!(rt; drop.next(Some(1)), RefDropNext::Done);
+    assert_eq!(rt; drop.event(), Some(Act::Back { entry: 0 }));
+}
+
+#[test]
+fn deinit_begins(rt: HostRuntime) {
+    let shape = small_shape(rt.alloc()).expect(&rt, "a shape");
+    let layout = Layout::of(&shape);
+    let of_deinit = Intent::Deinit { slot: 0 };
+    let mut cascade = Cascade::start(&layout, &shape, 0);
+    assert_eq!(rt;
+        cascade.next(None),
+        CascadeNext::Step(Step::Store { place: 4, new: 0 }, of_deinit)
+    );
+    assert_eq!(rt;
+        cascade.next(Some(0)),
+        CascadeNext::Step(Step::Load { place: 3 }, of_deinit)
+    );
+    assert_eq!(rt; cascade.event(), None);
+    assert_eq!(rt; cascade.hands(), 0);
 }

@@ -2,6 +2,8 @@
 use Rattle.std.proofs.Common.{◌≡◌, ℕ, ◌≤◌, ◌<◌, Bool, true, false, eqb, leb, ◌∷◌, Option, None, Some, refl, arith, rules, tests}
 use Rattle.std.specs.Prelude.{is_some}
 use Rattle.std.proofs.lemmas.Bool.{eqb-true}
+use Rattle.arc_model.specs.declared.event.CellName.{CellName}
+use Rattle.arc_model.specs.declared.event.CellName.TheVariants as cells
 use Rattle.arc_model.specs.declared.event.Origin.TheVariants as origins
 use Rattle.arc_model.specs.declared.event.Got.{Got}
 use Rattle.arc_model.specs.declared.event.Got.TheVariants as gots
@@ -11,7 +13,7 @@ use Rattle.arc_model.specs.declared.event.Event.{Event}
 use Rattle.arc_model.specs.Shapes.{HeapShape}
 use Rattle.arc_model.specs.Heaps.{Hand, Object}
 use Rattle.arc_model.specs.Holders.{held_by}
-use Rattle.arc_model.specs.Needs.{first_failing, needs, passes}
+use Rattle.arc_model.specs.Needs.{first_failing, needs, passes, puts, takes}
 use Rattle.arc_model.specs.History.{History, heap_after, next_hand, sight, IsLegal}
 use Rattle.arc_model.proofs.Basics.{met}
 use Rattle.arc_model.proofs.Courses.{well_formed, held-is}
@@ -20,13 +22,19 @@ abbrev pub GotWithin : ℕ → Got → Type 0
 GotWithin n (gots.Hand hand) = hand ≤ n
 GotWithin n _ = Unit {0}
 
+abbrev pub HandOrNilWithin : ℕ → Option ℕ → Type 0
+HandOrNilWithin n (Some hand) = hand ≤ n
+HandOrNilWithin n None = Unit {0}
+
 -- no hand of an event of those that are served so far is past this one
 abbrev pub HandsWithin : ℕ → Act → Type 0
 HandsWithin n (acts.New hand class slot) = hand ≤ n
 HandsWithin n (acts.Copy (origins.Hand of) hand) = (of ≤ n) × (hand ≤ n)
+HandsWithin n (acts.Copy (origins.Cell c) hand) = hand ≤ n
 HandsWithin n (acts.UnownedOf of hand) = (of ≤ n) × (hand ≤ n)
 HandsWithin n (acts.Load of g) = (of ≤ n) × GotWithin n g
 HandsWithin n (acts.Drop hand last) = hand ≤ n
+HandsWithin n (acts.Swap c put took) = HandOrNilWithin n put × HandOrNilWithin n took
 HandsWithin n _ = Unit {0}
 
 passes_some : (test : Object → Bool) (found : Option Object) → passes test found ≡ true → is_some found ≡ true
@@ -58,10 +66,19 @@ hands_within shape n e h legal few = at e.act legal.0
     listed : (k : ℕ) (test : Object → Bool) → passes test (held_by (Hand e.thread k) (heap_after h)) ≡ true → k ≤ n
     listed k test holds = held k (passes_some test (held_by (Hand e.thread k) (heap_after h)) holds)
 
+    is_put : (c : CellName) (put : Option ℕ) → (puts shape (heap_after h) e.thread c put).0 ≡ true → HandOrNilWithin n put
+    is_put c None holds = tt
+    is_put c (Some k) holds = listed k _ holds
+
+    is_taken : (took : Option ℕ) → (takes (sight e.thread h) took).0 ≡ true → HandOrNilWithin n took
+    is_taken None holds = tt
+    is_taken (Some k) holds = next k holds
+
     at : (a : Act) → first_failing (needs shape (sight e.thread h) e.thread a) ≡ None → HandsWithin n a
     at (acts.New hand class slot) ok = next hand (met (needs shape (sight e.thread h) e.thread (acts.New hand class slot)) ok).0
     at (acts.Copy (origins.Hand of) hand) ok = let m = met (needs shape (sight e.thread h) e.thread (acts.Copy (origins.Hand of) hand)) ok in (held of m.0, next hand m.1.0)
-    at (acts.Copy (origins.Cell c) hand) ok = tt
+    at (acts.Copy (origins.Cell (cells.Global g)) hand) ok = next hand (met (needs shape (sight e.thread h) e.thread (acts.Copy (origins.Cell (cells.Global g)) hand)) ok).1.0
+    at (acts.Copy (origins.Cell (cells.Field s f)) hand) ok = next hand (met (needs shape (sight e.thread h) e.thread (acts.Copy (origins.Cell (cells.Field s f)) hand)) ok).1.1.1.1.0
     at (acts.Drop hand last) ok = held hand (met (needs shape (sight e.thread h) e.thread (acts.Drop hand last)) ok).0
     at acts.Full ok = tt
     at (acts.UnownedOf of hand) ok = let m = met (needs shape (sight e.thread h) e.thread (acts.UnownedOf of hand)) ok in (listed of _ m.0, next hand m.1.0)
@@ -74,7 +91,10 @@ hands_within shape n e h legal few = at e.act legal.0
     at acts.NoEntry ok = tt
     at (acts.Side slot entry why) ok = tt
     at (acts.Back entry) ok = tt
-    at (acts.Swap c put took) ok = tt
+    at (acts.Swap (cells.Global g) put took) ok =
+        let m = met (needs shape (sight e.thread h) e.thread (acts.Swap (cells.Global g) put took)) ok in (is_put (cells.Global g) put m.0, is_taken took m.1.0)
+    at (acts.Swap (cells.Field s f) put took) ok =
+        let m = met (needs shape (sight e.thread h) e.thread (acts.Swap (cells.Field s f) put took)) ok in (is_put (cells.Field s f) put m.1.1.1.0, is_taken took m.1.1.1.1.0)
     at (acts.Look c) ok = tt
     at (acts.Take slot field hand) ok = tt
     at (acts.Finish slot last) ok = tt

@@ -1,8 +1,8 @@
 -- What holds of each stepper goes on to hold.
 use Rattle.std.proofs.Common.{◌≡◌, ℕ, ◌+◌, ◌≤◌, ◌<◌, Bool, true, false, cond, ltb, List, length, set, eqb, Option, Some, None, bit_and, ◌==◌, refl, sym, ap, ◌∙◌, subst, arith}
-use Rattle.std.proofs.lemmas.Bool.{ltb-true, eqb-true}
+use Rattle.std.proofs.lemmas.Bool.{ltb-true, eqb-true, eqb-false}
 use Rattle.std.proofs.lemmas.List.{length-set}
-use Rattle.std.specs.Prelude.{All}
+use Rattle.std.specs.Prelude.{All, ◌≢◌}
 use Rattle.std.specs.Option.{unwrap_or}
 use Rattle.arc_model.specs.declared.event.Act.{Act}
 use Rattle.arc_model.specs.declared.event.ObjectName.{ObjectName}
@@ -25,7 +25,11 @@ use Rattle.arc_model.specs.declared.shape.Kind.TheVariants as kinds
 use Rattle.arc_rule.specs.declared.attempt.At.{At}
 use Rattle.arc_rule.specs.declared.attempt.At.TheVariants as attempt
 use Rattle.arc_rule.specs.declared.attempt.Choice.TheVariants.{Tell, Write}
-use Rattle.arc_rule.specs.Attempts.{answer_by, chosen, told_as}
+use Rattle.arc_rule.specs.Attempts.{answer_at, answer_by, chosen, exchanging, told_as, turned_at as attempt_turned}
+use Rattle.arc_cells.specs.declared.begin.BeginAnswer.TheVariants as begins
+use Rattle.arc_cells.specs.declared.swap.SwapAnswer.TheVariants as swaps
+use Rattle.arc_cells.specs.Begins.{Beginning, begin_row, begin_turned, begin_answer}
+use Rattle.arc_cells.specs.Swaps.{SwapAttempt, swap_row, swap_turned, swap_answer}
 use Rattle.arc_plan.specs.declared.strong.StrongUpAnswer.TheVariants as strongs
 use Rattle.arc_plan.specs.declared.unowned.UnownedUpAnswer.TheVariants as unowneds
 use Rattle.arc_plan.specs.Strong.{strong_up_row}
@@ -39,18 +43,19 @@ use Rattle.arc_rule.specs.Extents.{Extent}
 use Rattle.arc_rule.specs.Isa.{IsName}
 use Rattle.arc_plan.specs.Unowned.{unowned_down_turned, unowned_down_answer}
 use Rattle.arc_plan.specs.Slots.{Creation, OneStep, IsTaking, free_slot, looked, looked_answer, looking, counting, making_turned, making_answer, creation_turned, creation_answer, one_turned, vacate_answer}
-use Rattle.arc_cells.specs.declared.cascade.At.{At as CascadeAt}
-use Rattle.arc_cells.specs.declared.cascade.At.TheVariants as at
-use Rattle.arc_cells.specs.Cascades.{CascadeState, cascade_turned, turned_at, finish_turned, vacated}
+use Rattle.arc_cells.specs.declared.bare.At.{At as CascadeAt}
+use Rattle.arc_cells.specs.declared.bare.At.TheVariants as at
+use Rattle.arc_cells.specs.BareCascades.{CascadeState, cascade_turned, turned_at, finish_turned, vacated}
 use Rattle.arc_ops.specs.Kept.{Kept}
-use Rattle.arc_ops.specs.Takes.{IsGainWord, gain_takes, IsGainAnswer}
+use Rattle.arc_ops.specs.Cells.{IsCellWord}
+use Rattle.arc_ops.specs.Takes.{IsGainWord, gain_takes, IsGainAnswer, IsCellAt}
 use Rattle.arc_ops.specs.declared.gain.Gain.{Gain}
 use Rattle.arc_ops.specs.declared.stepper.Held.{Held}
 use Rattle.arc_ops.specs.declared.stepper.Doing.TheVariants.{Ended}
 use Rattle.arc_ops.specs.Thread.{Thread, put}
 use Rattle.arc_ops.specs.Drops.{replaced}
 use Rattle.arc_ops.specs.Makes.{strong_to, made_on}
-use Rattle.arc_ops.specs.Steppers.{IsStepper, HeldFits, IsMakingIn, FewBefore, MadeBefore, MakingGoesOn}
+use Rattle.arc_ops.specs.Steppers.{IsStepper, HeldFits, IsMakingIn, FewBefore, MadeBefore, MakingGoesOn, IsOpeningIn, OpeningGoesOn, IsSwappingIn, SwappingGoesOn}
 
 -- an idle stepper at a later operation, behind operations that moved references
 pub moved : (t : Thread) → IsStepper t → t.doing ≡ Ended → (i : ℕ) (vars : List (Option Held)) (kept : Kept) → t.index ≤ i → i ≤ length t.program → length vars ≡ length t.vars →
@@ -59,10 +64,14 @@ moved t s idle i vars kept from within count held = record {
   layout = s.layout;
   without_fields = s.without_fields;
   slots = s.slots;
+  globals = s.globals;
+  global_kinds = s.global_kinds;
   strong_cap = s.strong_cap;
   thread = s.thread;
   vars_fit = rw count s.vars_fit;
   classes_fit = s.classes_fit;
+  cells_fit = s.cells_fit;
+  cleared = s.cleared;
   whole = s.whole;
   blocks = s.blocks;
   few = s.few;
@@ -81,10 +90,14 @@ revalued t s to from new last held = record {
   layout = s.layout;
   without_fields = s.without_fields;
   slots = s.slots;
+  globals = s.globals;
+  global_kinds = s.global_kinds;
   strong_cap = s.strong_cap;
   thread = s.thread;
   vars_fit = rw same s.vars_fit;
   classes_fit = s.classes_fit;
+  cells_fit = s.cells_fit;
+  cleared = s.cleared;
   whole = s.whole;
   blocks = s.blocks;
   few = s.few;
@@ -106,10 +119,14 @@ made_one t s idle few event = record {
   layout = s.layout;
   without_fields = s.without_fields;
   slots = s.slots;
+  globals = s.globals;
+  global_kinds = s.global_kinds;
   strong_cap = s.strong_cap;
   thread = s.thread;
   vars_fit = s.vars_fit;
   classes_fit = s.classes_fit;
+  cells_fit = s.cells_fit;
+  cleared = s.cleared;
   whole = s.whole;
   blocks = s.blocks;
   few = s.few;
@@ -123,26 +140,106 @@ made_one t s idle few event = record {
 }
 
 -- an idle stepper that has a reference more
-pub took_one : (t : Thread) → IsStepper t → t.doing ≡ Ended → FewBefore t → (event : Option Act) → IsStepper (record t { hands = t.hands + 1; event = event })
+pub took_one : (t : Thread) → IsStepper t → t.doing ≡ Ended → t.hands ≤ t.index + t.cleared → (event : Option Act) → IsStepper (record t { hands = t.hands + 1; event = event })
 took_one t s idle few event = record {
   layout = s.layout;
   without_fields = s.without_fields;
   slots = s.slots;
+  globals = s.globals;
+  global_kinds = s.global_kinds;
   strong_cap = s.strong_cap;
   thread = s.thread;
   vars_fit = s.vars_fit;
   classes_fit = s.classes_fit;
+  cells_fit = s.cells_fit;
+  cleared = s.cleared;
   whole = s.whole;
   blocks = s.blocks;
   few = s.few;
   held = s.held;
   phase = s.phase;
   index = s.index;
-  hands = let f = few.0 in omega arith;
+  hands = omega arith;
   made = s.made;
   under_way = rw idle tt;
   in_operation = rw idle tt;
 }
+
+-- an idle stepper that has cleared a global
+pub cleared_one : (t : Thread) → IsStepper t → t.doing ≡ Ended → t.cleared < t.layout.globals → IsStepper (record t { cleared = t.cleared + 1 })
+cleared_one t s idle left = record {
+  layout = s.layout;
+  without_fields = s.without_fields;
+  slots = s.slots;
+  globals = s.globals;
+  global_kinds = s.global_kinds;
+  strong_cap = s.strong_cap;
+  thread = s.thread;
+  vars_fit = s.vars_fit;
+  classes_fit = s.classes_fit;
+  cells_fit = s.cells_fit;
+  cleared = omega arith;
+  whole = s.whole;
+  blocks = s.blocks;
+  few = s.few;
+  held = s.held;
+  phase = s.phase;
+  index = s.index;
+  hands = let h = s.hands in omega arith;
+  made = s.made;
+  under_way = rw idle tt;
+  in_operation = rw idle tt;
+}
+
+-- ---- the plans on cells
+
+-- an access begins where the load gave the word of a reference
+pub opening_goes_on : (slots : ℕ) (plan : Beginning) (last : Option ℕ) → IsOpeningIn slots plan.at → IsCellAt slots plan.at (unwrap_or last 0) →
+    OpeningGoesOn slots (begin_turned plan last).at (begin_answer plan last)
+opening_goes_on slots plan last opening fits = go plan.at opening fits
+  where
+    loaded : (z o : Bool) → eqb (unwrap_or last 0) 0 ≡ z → eqb (unwrap_or last 0) 1 ≡ o → IsCellWord slots (unwrap_or last 0) →
+        OpeningGoesOn slots (exchanging (unwrap_or last 0) (cond z (Tell begins.Nil) (cond o (Tell begins.Busy) (Write 1)))) (chosen plan.place (unwrap_or last 0) (cond z (Tell begins.Nil) (cond o (Tell begins.Busy) (Write 1))))
+    loaded true o z_is o_is fits = tt
+    loaded false true z_is o_is fits = tt
+    loaded false false z_is o_is fits =
+        let zero_not = eqb-false (unwrap_or last 0) 0 z_is in
+        let one_not = eqb-false (unwrap_or last 0) 1 o_is in
+        (omega (arith, zero_not, one_not), fits)
+
+    exchanged : (seen : ℕ) (b : Bool) → (2 ≤ seen) × IsCellWord slots seen →
+        OpeningGoesOn slots attempt.Ended (nexts.Done (cond b (begins.Held seen) (begins.Again (record { seen = seen; found = unwrap_or last 0 }))))
+    exchanged seen true within = within
+    exchanged seen false within = tt
+
+    go : (at : At) → IsOpeningIn slots at → IsCellAt slots at (unwrap_or last 0) →
+        OpeningGoesOn slots (attempt_turned begin_row at (unwrap_or last 0)) (answer_at begin_row begins.Held begins.Again plan.place at (unwrap_or last 0))
+    go attempt.Start opening fits = tt
+    go attempt.Loading opening fits = loaded (eqb (unwrap_or last 0) 0) (eqb (unwrap_or last 0) 1) refl refl fits
+    go (attempt.Exchanging seen new) opening fits = exchanged seen (eqb (unwrap_or last 0) seen) opening
+    go attempt.Ended opening fits = tt
+
+-- a word is exchanged for another where the load didn't give that of an access
+pub swapping_goes_on : (slots : ℕ) (plan : SwapAttempt) (last : Option ℕ) → IsSwappingIn slots plan.at → IsCellAt slots plan.at (unwrap_or last 0) →
+    SwappingGoesOn slots (swap_turned plan last).at (swap_answer plan last)
+swapping_goes_on slots plan last swapping fits = go plan.at swapping fits
+  where
+    loaded : (o : Bool) → eqb (unwrap_or last 0) 1 ≡ o → IsCellWord slots (unwrap_or last 0) →
+        SwappingGoesOn slots (exchanging (unwrap_or last 0) (cond o (Tell swaps.Busy) (Write plan.new))) (chosen plan.place (unwrap_or last 0) (cond o (Tell swaps.Busy) (Write plan.new)))
+    loaded true o_is fits = tt
+    loaded false o_is fits = (eqb-false (unwrap_or last 0) 1 o_is, fits)
+
+    exchanged : (seen : ℕ) (b : Bool) → (seen ≢ 1) × IsCellWord slots seen →
+        SwappingGoesOn slots attempt.Ended (nexts.Done (cond b (swaps.Took seen) (swaps.Again (record { seen = seen; found = unwrap_or last 0 }))))
+    exchanged seen true within = within
+    exchanged seen false within = tt
+
+    go : (at : At) → IsSwappingIn slots at → IsCellAt slots at (unwrap_or last 0) →
+        SwappingGoesOn slots (attempt_turned (swap_row plan.new) at (unwrap_or last 0)) (answer_at (swap_row plan.new) swaps.Took swaps.Again plan.place at (unwrap_or last 0))
+    go attempt.Start swapping fits = tt
+    go attempt.Loading swapping fits = loaded (eqb (unwrap_or last 0) 1) refl fits
+    go (attempt.Exchanging seen new) swapping fits = exchanged seen (eqb (unwrap_or last 0) seen) swapping
+    go attempt.Ended swapping fits = tt
 
 -- the plan that makes an object looks on, takes a slot and stores the object's words
 pub making_goes_on : (t : Thread) (name : ObjectName) (plan : Creation) (last : Option ℕ) → IsName name → IsMakingIn t.layout plan.at → plan.layout ≡ t.layout → MadeBefore t plan.at →

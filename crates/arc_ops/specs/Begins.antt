@@ -1,13 +1,15 @@
 -- The next operation that asks for a step, the end of a phase, and the end of the scope.
-use Rattle.std.specs.Prelude.{ℕ, Bool, true, false, ◌≡◌, ◌+◌, ◌||◌, nat_lt, if◌then◌else◌, List, [], ◌∷◌, length, take, drop, slice_get, position, Option, Some, None}
+use Rattle.std.specs.Prelude.{ℕ, Bool, true, false, ◌≡◌, ◌==◌, ◌+◌, ◌&&◌, ◌||◌, nat_lt, if◌then◌else◌, List, [], ◌∷◌, length, take, drop, slice_get, position, Option, Some, None}
 use Rattle.arc_model.specs.declared.answer.Answer.{Answer}
 use Rattle.arc_model.specs.declared.answer.Answer.TheVariants as answers
 use Rattle.arc_script.specs.declared.script.Op.{Op}
 use Rattle.arc_script.specs.declared.script.Op.TheVariants as op
+use Rattle.arc_script.specs.declared.script.OpCell.TheVariants as opcell
 use Rattle.arc_ops.specs.Kept.{with_line}
 use Rattle.arc_ops.specs.Programs.{ordinal, ops_in_first}
 use Rattle.arc_ops.specs.Thread.{Thread, value, is_held, set_var, put}
-use Rattle.arc_ops.specs.Plans.{make_begun, gain_begun, drop_begun}
+use Rattle.arc_ops.specs.Cells.{global_of, open_begun, set_begun, clear_begun}
+use Rattle.arc_ops.specs.Plans.{of_hand, make_begun, gain_begun, drop_begun}
 use Rattle.arc_ops.specs.declared.gain.Gain.{Gain}
 use Rattle.arc_ops.specs.declared.gain.Gain.TheVariants as gains
 use Rattle.arc_ops.specs.declared.stepper.Held.{Held}
@@ -24,7 +26,7 @@ begun_nil to (Some old) t rest = drop_begun old (set_var to None (put answers.Ni
 begun_nil to None t rest = rest (skipped answers.Nil t)
 
 abbrev pub begun_gain : Gain → ℕ → (from old : Option Held) → Thread → (rest : Thread → Thread) → Thread
-begun_gain gain to (Some held) old t rest = gain_begun gain to held (record t { first = true })
+begun_gain gain to (Some held) old t rest = gain_begun gain to (of_hand held) (record t { first = true })
 begun_gain gain to None old t rest = begun_nil to old t rest
 
 -- the destination has the reference, and its variable is nil
@@ -59,6 +61,8 @@ begun_op (op.Unown to of) t rest = begun_gain gains.Unown to (value t.vars of) (
 begun_op (op.Load to of) t rest = begun_gain gains.Load to (value t.vars of) (value t.vars to) t rest
 begun_op (op.Move to from) t rest = begun_move to from (value t.vars from) (value t.vars to) t rest
 begun_op (op.Drop v) t rest = begun_drop v (value t.vars v) t rest
+begun_op (op.Get to (opcell.Global g)) t rest = open_begun to (global_of t.shape g) (record t { first = true })
+begun_op (op.Set (opcell.Global g) from) t rest = set_begun from (global_of t.shape g) (record t { first = true })
 begun_op (op.IfNil v to) t rest = rest (at_place (block_goes_on t.vars t.index (op.IfNil v to)) t)
 begun_op (op.IfSome v to) t rest = rest (at_place (block_goes_on t.vars t.index (op.IfSome v to)) t)
 begun_op _ t rest = rest (skipped answers.Nil t)
@@ -71,6 +75,8 @@ asks vars (op.Unown to of) = is_held (value vars of) || is_held (value vars to)
 asks vars (op.Load to of) = is_held (value vars of) || is_held (value vars to)
 asks vars (op.Move to from) = is_held (value vars to)
 asks vars (op.Drop v) = is_held (value vars v)
+asks vars (op.Get to (opcell.Global g)) = true
+asks vars (op.Set (opcell.Global g) from) = true
 asks vars _ = false
 
 abbrev pub AsksAt : List Op → List (Option Held) → ℕ → Type 0
@@ -82,9 +88,17 @@ abbrev pub scope_drop : ℕ → Option Held → Thread → Thread
 scope_drop v None t = t
 scope_drop v (Some held) t = drop_begun held (set_var v None t)
 
+-- thread 0 has globals to clear
+abbrev pub has_globals : Thread → Bool
+has_globals t = t.thread == 0 && nat_lt t.cleared t.layout.globals
+
+-- behind its scope a thread has ended, but that thread 0 clears the globals in their order
+abbrev pub scope_over : Thread → Thread
+scope_over t = if has_globals t then clear_begun t else record t { doing = Ended; asked = moves.Ended }
+
 -- the end of the scope: the variables that aren't nil are dropped in their order
 abbrev pub scope_at : Option ℕ → Thread → Thread
-scope_at None t = record t { doing = Ended; asked = moves.Ended }
+scope_at None t = scope_over t
 scope_at (Some v) t = scope_drop v (value t.vars v) t
 
 abbrev pub scope_begun : Thread → Thread
@@ -107,6 +121,6 @@ begun_at at (o ∷ ops) t = if nat_lt at t.index then begun_at (at + 1) ops t el
 abbrev pub begun : Thread → Thread
 begun t = begun_at t.index (drop t.index (take (phase_end t) t.program)) t
 
--- the operation, or a drop at the end of the scope, is over
+-- the operation, or a drop at the end of the scope or in the end section, is over
 abbrev pub next_op : Thread → Thread
 next_op t = begun (record t { doing = Ended; index = if nat_lt t.index (length t.program) then t.index + 1 else t.index })

@@ -14,7 +14,7 @@ use Rattle.arc_side.specs.declared.down.DownAnswer.TheVariants as downs
 use Rattle.arc_side.specs.Downs.{Fall}
 use Rattle.arc_cells.specs.declared.cascade.CascadeNext.{CascadeNext}
 use Rattle.arc_cells.specs.declared.cascade.CascadeNext.TheVariants as says
-use Rattle.arc_cells.specs.Cascades.{CascadeState, cascade_from, cascade_turned, cascade_answer}
+use Rattle.arc_cells.specs.BareCascades.{CascadeState, cascade_from, cascade_turned, cascade_answer}
 use Rattle.arc_ops.specs.Thread.{Thread, value, set_var, put, asking}
 use Rattle.arc_ops.specs.Plans.{drop_begun, vacate_begun}
 use Rattle.arc_ops.specs.Begins.{next_op}

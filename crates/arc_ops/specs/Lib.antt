@@ -2,11 +2,14 @@ pub mod Served
 pub mod Kept
 pub mod Programs
 pub mod Thread
+pub mod Cells
 pub mod Plans
 pub mod Begins
 pub mod Drops
 pub mod Makes
 pub mod Gains
+pub mod Gets
+pub mod Sets
 pub mod Turns
 pub mod Takes
 pub mod Steppers

@@ -2,7 +2,8 @@
 use Rattle.std.specs.Prelude.{ℕ, ◌+◌, None}
 use Rattle.arc_model.specs.Shapes.{class_at}
 use Rattle.arc_model.specs.declared.event.ObjectName.{ObjectName}
-use Rattle.arc_model.specs.declared.event.Origin.TheVariants.{Hand}
+use Rattle.arc_model.specs.declared.event.Origin.{Origin}
+use Rattle.arc_model.specs.declared.event.Origin.TheVariants.{Hand, Cell}
 use Rattle.arc_model.specs.declared.event.Act.{Act}
 use Rattle.arc_model.specs.declared.event.Act.TheVariants as acts
 use Rattle.arc_model.specs.declared.event.Got.TheVariants as gots
@@ -26,6 +27,7 @@ use Rattle.arc_script.specs.declared.script.Op.TheVariants as op
 use Rattle.arc_ops.specs.Thread.{Thread, asking}
 use Rattle.arc_ops.specs.declared.gain.Gain.{Gain}
 use Rattle.arc_ops.specs.declared.gain.Gain.TheVariants as gains
+use Rattle.arc_ops.specs.declared.gain.Source.{Source}
 use Rattle.arc_ops.specs.declared.stepper.Held.{Held}
 use Rattle.arc_ops.specs.declared.stepper.Doing.TheVariants.{Making, Gaining, Naming, Dropping, Vacating}
 
@@ -53,32 +55,41 @@ op_of gains.Copy to of = op.Copy to of
 op_of gains.Unown to of = op.Unown to of
 op_of gains.Load to of = op.Load to of
 
+-- a reference in the thread's hands, as what a gain takes from
+abbrev pub of_hand : Held → Source
+of_hand held = record { origin = Hand held.hand; kind = held.kind; place = held.place }
+
+-- the hand; a cell has none
+abbrev pub hand_of : Origin → ℕ
+hand_of (Hand hand) = hand
+hand_of (Cell cell) = 0
+
 -- the list of the object that grows, which is the kind of the new reference
-abbrev pub list_of : Gain → Held → Kind
+abbrev pub list_of : Gain → Source → Kind
 list_of gains.Copy from = from.kind
 list_of gains.Unown from = Unowned
 list_of gains.Load from = Strong
 
 -- what the steps are made for
-abbrev pub intent_of : Gain → Held → Intent
-intent_of gains.Copy from = intents.Copy (Hand from.hand)
-intent_of gains.Unown from = intents.UnownedOf from.hand
-intent_of gains.Load from = intents.Load from.hand
+abbrev pub intent_of : Gain → Source → Intent
+intent_of gains.Copy from = intents.Copy from.origin
+intent_of gains.Unown from = intents.UnownedOf (hand_of from.origin)
+intent_of gains.Load from = intents.Load (hand_of from.origin)
 
 -- what it does, where the reference comes into this hand
-abbrev pub act_of : Gain → Held → (hand : ℕ) → Act
-act_of gains.Copy from hand = acts.Copy (Hand from.hand) hand
-act_of gains.Unown from hand = acts.UnownedOf from.hand hand
-act_of gains.Load from hand = acts.Load from.hand (gots.Hand hand)
+abbrev pub act_of : Gain → Source → (hand : ℕ) → Act
+act_of gains.Copy from hand = acts.Copy from.origin hand
+act_of gains.Unown from hand = acts.UnownedOf (hand_of from.origin) hand
+act_of gains.Load from hand = acts.Load (hand_of from.origin) (gots.Hand hand)
 
-abbrev pub gain_from : Gain → Held → Thread → Rise
+abbrev pub gain_from : Gain → Source → Thread → Rise
 gain_from gain from t = record { layout = t.layout; slot = from.place; list = list_of gain from; caps = t.shape.caps; entry = None; at = attempt.Start }
 
-abbrev pub gain_asks : Gain → ℕ → Held → Rise → Next UpAnswer → Thread → Thread
+abbrev pub gain_asks : Gain → ℕ → Source → Rise → Next UpAnswer → Thread → Thread
 gain_asks gain to from plan (nexts.Step s) t = asking (Gaining gain to from plan) s (intent_of gain from) t
 gain_asks gain to from plan (nexts.Done a) t = t
 
-abbrev pub gain_begun : Gain → ℕ → Held → Thread → Thread
+abbrev pub gain_begun : Gain → ℕ → Source → Thread → Thread
 gain_begun gain to from t = gain_asks gain to from (up_turned (gain_from gain from t) None) (up_answer (gain_from gain from t) None) t
 
 -- ---- the name of the object is read that a reference was loaded of

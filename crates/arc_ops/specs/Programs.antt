@@ -2,9 +2,13 @@
 use Rattle.std.specs.Prelude.{ℕ, ◌≡◌, ◌==◌, ◌-◌, ◌+◌, ◌<◌, ◌≤◌, if◌then◌else◌, Bool, true, false, List, [], length, map, take, flat_map, sum_by, count_by, slice_get, slice_index_or, Option, Some, None}
 use Rattle.arc_model.specs.declared.shape.Kind.{Kind}
 use Rattle.arc_model.specs.declared.shape.Kind.TheVariants.{Strong, Unowned}
+use Rattle.arc_model.specs.declared.shape.RefShape.{RefShape}
 use Rattle.arc_script.specs.declared.script.Op.{Op}
 use Rattle.arc_script.specs.declared.script.Op.TheVariants as op
+use Rattle.arc_script.specs.declared.script.OpCell.{OpCell}
+use Rattle.arc_script.specs.declared.script.OpCell.TheVariants as opcell
 use Rattle.arc_script.specs.OneList.{in_one_list, numbered}
+use Rattle.arc_script.specs.Valid.{ref_at}
 use Rattle.arc_script.specs.declared.script.ThreadDecl.{ThreadDecl}
 use Rattle.arc_script.specs.declared.script.VarDecl.{VarDecl}
 use Rattle.arc_script.specs.declared.script.Script.{Script}
@@ -86,8 +90,8 @@ VarsFit vars (op.Drop var) = var < vars
 VarsFit vars (op.Unown to of) = (to < vars) × (of < vars)
 VarsFit vars (op.Weak to of) = ⊥
 VarsFit vars (op.Load to of) = (to < vars) × (of < vars)
-VarsFit vars (op.Get to cell) = ⊥
-VarsFit vars (op.Set cell from) = ⊥
+VarsFit vars (op.Get to cell) = to < vars
+VarsFit vars (op.Set cell from) = from < vars
 VarsFit vars (op.IfNil var to) = var < vars
 VarsFit vars (op.IfSome var to) = var < vars
 
@@ -96,7 +100,17 @@ abbrev pub ClassFits : ℕ → Op → Type 0
 ClassFits classes (op.New to class) = (class < classes) × (class < 64)
 ClassFits classes _ = Unit {0}
 
--- ---- the kinds of variables
+-- a cell that it names is a global, of so many
+abbrev pub IsGlobal : ℕ → OpCell → Type 0
+IsGlobal globals (opcell.Global g) = g < globals
+IsGlobal globals (opcell.Field owner field) = ⊥
+
+abbrev pub CellFits : ℕ → Op → Type 0
+CellFits globals (op.Get to cell) = IsGlobal globals cell
+CellFits globals (op.Set cell from) = IsGlobal globals cell
+CellFits globals _ = Unit {0}
+
+-- ---- the kinds and the classes of variables
 
 abbrev pub kinds_in : Option ThreadDecl → List Kind
 kinds_in None = []
@@ -109,12 +123,46 @@ kinds_of script thread = kinds_in (declared_of script thread)
 abbrev pub kind_of : List Kind → ℕ → Kind
 kind_of kinds v = slice_index_or kinds v Strong
 
+abbrev pub classes_in : Option ThreadDecl → List ℕ
+classes_in None = []
+classes_in (Some decl) = map (λ (v : VarDecl). v.class) decl.vars
+
+-- the class of each variable of the thread
+abbrev pub classes_of : Script → ℕ → List ℕ
+classes_of script thread = classes_in (declared_of script thread)
+
+abbrev pub class_of : List ℕ → ℕ → ℕ
+class_of classes v = slice_index_or classes v 0
+
+-- a variable of the kind of a global, which is all that is served of cells
+abbrev pub KindOfCell : List RefShape → List Kind → ℕ → OpCell → Type 0
+KindOfCell globals kinds v (opcell.Global g) = kind_of kinds v ≡ (ref_at globals g).kind
+KindOfCell globals kinds v (opcell.Field owner field) = Unit {0}
+
 -- An operation that is served names variables of its kinds: a new object's is strong, a copy's and a move's are of one kind, an unowned
--- reference is formed from a strong one, and a strong one is loaded by an unowned one.
-abbrev pub KindsFit : List Kind → Op → Type 0
-KindsFit kinds (op.New to class) = kind_of kinds to ≡ Strong
-KindsFit kinds (op.Copy to from) = kind_of kinds to ≡ kind_of kinds from
-KindsFit kinds (op.Move to from) = kind_of kinds to ≡ kind_of kinds from
-KindsFit kinds (op.Unown to of) = (kind_of kinds to ≡ Unowned) × (kind_of kinds of ≡ Strong)
-KindsFit kinds (op.Load to of) = (kind_of kinds to ≡ Strong) × (kind_of kinds of ≡ Unowned)
-KindsFit kinds _ = Unit {0}
+-- reference is formed from a strong one, a strong one is loaded by an unowned one, and a global is read into and written from one of its kind.
+abbrev pub KindsFit : List RefShape → List Kind → Op → Type 0
+KindsFit globals kinds (op.New to class) = kind_of kinds to ≡ Strong
+KindsFit globals kinds (op.Copy to from) = kind_of kinds to ≡ kind_of kinds from
+KindsFit globals kinds (op.Move to from) = kind_of kinds to ≡ kind_of kinds from
+KindsFit globals kinds (op.Unown to of) = (kind_of kinds to ≡ Unowned) × (kind_of kinds of ≡ Strong)
+KindsFit globals kinds (op.Load to of) = (kind_of kinds to ≡ Strong) × (kind_of kinds of ≡ Unowned)
+KindsFit globals kinds (op.Get to cell) = KindOfCell globals kinds to cell
+KindsFit globals kinds (op.Set cell from) = KindOfCell globals kinds from cell
+KindsFit globals kinds _ = Unit {0}
+
+-- a variable for the class of a global
+abbrev pub ClassOfCell : List RefShape → List ℕ → ℕ → OpCell → Type 0
+ClassOfCell globals classes v (opcell.Global g) = class_of classes v ≡ (ref_at globals g).class
+ClassOfCell globals classes v (opcell.Field owner field) = Unit {0}
+
+-- and variables for one class: a new object's, the one of the other variable, or a global's
+abbrev pub ClassesFit : List RefShape → List ℕ → Op → Type 0
+ClassesFit globals classes (op.New to class) = class_of classes to ≡ class
+ClassesFit globals classes (op.Copy to from) = class_of classes to ≡ class_of classes from
+ClassesFit globals classes (op.Move to from) = class_of classes to ≡ class_of classes from
+ClassesFit globals classes (op.Unown to of) = class_of classes to ≡ class_of classes of
+ClassesFit globals classes (op.Load to of) = class_of classes to ≡ class_of classes of
+ClassesFit globals classes (op.Get to cell) = ClassOfCell globals classes to cell
+ClassesFit globals classes (op.Set cell from) = ClassOfCell globals classes from cell
+ClassesFit globals classes _ = Unit {0}

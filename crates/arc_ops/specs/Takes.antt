@@ -17,15 +17,20 @@ use Rattle.arc_side.specs.declared.up.UpAnswer.{UpAnswer}
 use Rattle.arc_side.specs.declared.up.UpAnswer.TheVariants as ups
 use Rattle.arc_side.specs.Ups.{Rise, up_takes}
 use Rattle.arc_side.specs.Downs.{down_takes}
-use Rattle.arc_cells.specs.declared.cascade.At.TheVariants as at
+use Rattle.arc_cells.specs.Begins.{begin_takes}
+use Rattle.arc_cells.specs.Ends.{end_takes}
+use Rattle.arc_cells.specs.Swaps.{swap_takes}
+use Rattle.arc_cells.specs.declared.bare.At.TheVariants as at
 use Rattle.arc_cells.specs.declared.cascade.CascadeNext.{CascadeNext}
 use Rattle.arc_cells.specs.declared.cascade.CascadeNext.TheVariants as says
-use Rattle.arc_cells.specs.Cascades.{CascadeState, IsInline, NamesClass, cascade_takes}
+use Rattle.arc_cells.specs.BareCascades.{CascadeState, IsInline, cascade_takes}
+use Rattle.arc_cells.specs.Cascades.{NamesClass}
+use Rattle.arc_ops.specs.Cells.{IsCellWord}
 use Rattle.arc_ops.specs.Thread.{Thread}
 use Rattle.arc_ops.specs.declared.gain.Gain.{Gain}
 use Rattle.arc_ops.specs.declared.gain.Gain.TheVariants as gains
 use Rattle.arc_ops.specs.declared.stepper.Doing.{Doing}
-use Rattle.arc_ops.specs.declared.stepper.Doing.TheVariants.{Ready, Making, Gaining, Naming, Dropping, Dying, Vacating, Ended}
+use Rattle.arc_ops.specs.declared.stepper.Doing.TheVariants.{Ready, Making, Gaining, Naming, Opening, Closing, Setting, Clearing, Dropping, Dying, Vacating, Ended}
 
 -- a load alone finds that the object's deinit has begun
 abbrev pub FindsDead : Gain → Type 0
@@ -53,12 +58,21 @@ IsInlineAt Fits None _ w = ⊤
 abbrev pub gain_takes : Gain → Rise → Option ℕ → Type 0
 gain_takes gain plan last = up_takes plan last × IsInlineAt (IsGainWord gain plan.list plan.caps) plan.entry plan.at (unwrap_or last 0)
 
+-- a load of a cell gives a word that a cell may have
+abbrev pub IsCellAt : (slots : ℕ) → At → ℕ → Type 0
+IsCellAt slots attempt.Loading w = IsCellWord slots w
+IsCellAt slots _ w = ⊤
+
 -- Nothing at the start of a phase, and else what its plan may be given.
 abbrev pub takes_at : HeapShape → Option ℕ → Doing → Type 0
 takes_at shape last Ready = last ≡ None
 takes_at shape last (Making to name plan) = creation_takes plan last
 takes_at shape last (Gaining gain to from plan) = gain_takes gain plan last
 takes_at shape last (Naming to held plan) = name_of_takes plan last × NamesClass shape last
+takes_at shape last (Opening to cell plan) = begin_takes plan last × IsCellAt shape.slots plan.at (unwrap_or last 0)
+takes_at shape last (Closing to cell held plan) = end_takes plan last
+takes_at shape last (Setting from cell plan) = swap_takes plan last × IsCellAt shape.slots plan.at (unwrap_or last 0)
+takes_at shape last (Clearing plan) = swap_takes plan last × IsCellAt shape.slots plan.at (unwrap_or last 0)
 takes_at shape last (Dropping held plan) = down_takes plan last × IsInlineAt IsInline plan.entry plan.at (unwrap_or last 0)
 takes_at shape last (Dying c) = cascade_takes c last
 takes_at shape last (Vacating slot plan) = vacate_takes plan last

@@ -3,6 +3,8 @@ use Rattle.std.specs.Prelude.{ℕ, Bool, true, false, ◌&&◌, not, nat_lt, if�
 use Rattle.arc_model.specs.Shapes.{HeapShape}
 use Rattle.arc_model.specs.declared.event.Act.{Act}
 use Rattle.arc_model.specs.declared.answer.Answer.{Answer}
+use Rattle.arc_model.specs.declared.event.Origin.{Origin}
+use Rattle.arc_model.specs.declared.event.Origin.TheVariants as origins
 use Rattle.arc_rule.specs.Extents.{Extent}
 use Rattle.arc_rule.specs.Places.{extent_of}
 use Rattle.arc_rule.specs.declared.step.Step.{Step}
@@ -13,7 +15,7 @@ use Rattle.arc_ops.specs.Kept.{Kept, with_line}
 use Rattle.arc_ops.specs.Programs.{ordinal, phases_of, program_of, vars_of, room_in}
 use Rattle.arc_ops.specs.declared.stepper.Held.{Held}
 use Rattle.arc_ops.specs.declared.stepper.Doing.{Doing}
-use Rattle.arc_ops.specs.declared.stepper.Doing.TheVariants.{Ready, Ended}
+use Rattle.arc_ops.specs.declared.stepper.Doing.TheVariants.{Ready, Gaining, Closing, Ended}
 use Rattle.arc_ops.specs.declared.stepper.Move.{Move}
 use Rattle.arc_ops.specs.declared.stepper.Move.TheVariants as moves
 
@@ -38,6 +40,8 @@ pub record Thread : Type 0 where
   -- how many references came into its hands, and how many objects it made
   pub hands : ℕ
   pub made : ℕ
+  -- how many globals it has cleared: thread 0 alone does, behind all others
+  pub cleared : ℕ
   -- the event of the step whose word was given last
   pub event : Option Act
   pub kept : Kept
@@ -58,6 +62,7 @@ stepper_of script thread = record {
   first = false;
   hands = 0;
   made = 0;
+  cleared = 0;
   event = None;
   kept = record { lines = []; room = room_in script thread };
 }
@@ -96,3 +101,16 @@ first_of t = if t.first && nat_lt t.index (length t.program) then Some (number_o
 -- an operation of the program has made its first step, and not its last one
 abbrev pub in_operation : Thread → Bool
 in_operation t = is_busy t.doing && not t.first && nat_lt t.index (length t.program)
+
+abbrev pub is_cell : Origin → Bool
+is_cell (origins.Hand k) = false
+is_cell (origins.Cell c) = true
+
+-- an access to a cell has begun, and hasn't ended
+abbrev pub is_accessing : Doing → Bool
+is_accessing (Gaining gain to from plan) = is_cell from.origin
+is_accessing (Closing to cell held plan) = true
+is_accessing _ = false
+
+abbrev pub in_access : Thread → Bool
+in_access t = is_accessing t.doing

@@ -13,7 +13,7 @@ use crate::kept::Lines;
 use crate::program::Program;
 use crate::stepper::Held;
 use arc_model::Shape;
-use arc_script::{Answer, Line, Op};
+use arc_script::{Answer, Line, Op, OpCell};
 use std::alloc::{AllocError, Global};
 
 /// Whether the class is immortal.
@@ -138,9 +138,15 @@ fn asks(op: Op, vars: &[Option<Held>]) -> bool
         Op::Load { to, of } => is_held(vars[of as usize]) || is_held(vars[to as usize]),
         Op::Move { to, from: _ } => is_held(vars[to as usize]),
         Op::Drop { var } => is_held(vars[var as usize]),
-        Op::IfNil { .. } => false,
-        Op::IfSome { .. } => false,
-        _ => unreachable!(),
+        Op::Get {
+            to: _,
+            cell: OpCell::Global(_),
+        } => true,
+        Op::Set {
+            cell: OpCell::Global(_),
+            from: _,
+        } => true,
+        _ => false,
     }
 }
 

@@ -2,6 +2,8 @@
 
 ghost use Rattle.std.specs.Prelude.{◌≡◌, ◌<◌, length, Some};
 ghost use Rattle.arc_rule.specs.declared.step.Intent.TheVariants as intents;
+ghost use Rattle.arc_plan.specs.Slots.{one_turned, vacate_takes, vacate_answer};
+ghost use Rattle.arc_side.specs.Downs.{down_takes, down_turned, down_answer};
 ghost use Rattle.arc_ops.specs.Thread.{Thread, asking};
 ghost use Rattle.arc_ops.specs.Plans.{drop_begun, vacate_begun};
 ghost use Rattle.arc_ops.specs.Drops.{replaced, dropped_on, last_gone, dies, dying_on, vacated_on};
@@ -10,7 +12,7 @@ ghost use Rattle.arc_ops.specs.Steppers.{IsHeld, HeldFits};
 ghost use Rattle.arc_ops.specs.declared.stepper.Doing.TheVariants.{Dropping};
 
 use crate::stepper::{Doing, Held, Stepper};
-use arc_cells::{Cascade, CascadeNext};
+use arc_cells::{BareCascade, CascadeNext};
 use arc_model::{Act, Kind};
 use arc_plan::Vacate;
 use arc_rule::{Intent, Next, Plan, Step};
@@ -51,11 +53,12 @@ impl<'a> Stepper<'a> {
         self.ask(Doing::Dropping { held, plan }, step, intent);
     }
 
-    pub(crate) fn drop_on(&mut self, held: Held, plan: Down, next: Next<DownAnswer>)
-        requires { IsHeld self.old.layout.slots held }
-        ensures { self.new ≡ dropped_on held plan next self.old }
+    pub(crate) fn drop_on(&mut self, held: Held, mut plan: Down, last: Option<u64>)
+        requires held { IsHeld self.old.layout.slots held }
+        requires takes { down_takes plan last }
+        ensures { self.new ≡ dropped_on held (down_turned plan last) (down_answer plan last) self.old }
     {
-        match next {
+        match plan.next(last) {
             Next::Step(step) => self.ask_drop(held, plan, step),
             Next::Done(DownAnswer::More(_)) => {
                 self.event = Some(Act::Drop {
@@ -91,14 +94,14 @@ impl<'a> Stepper<'a> {
         requires { slot < self.old.layout.slots }
         ensures { self.new ≡ dies slot self.old }
     {
-        let mut cascade = Cascade::start(&self.layout, self.shape, slot);
+        let mut cascade = BareCascade::start(&self.layout, self.shape, slot);
         match cascade.next(None) {
             CascadeNext::Step(step, intent) => self.ask(Doing::Dying { cascade }, step, intent),
             _ => unreachable!(),
         }
     }
 
-    pub(crate) fn die_on(&mut self, mut cascade: Cascade<'a>, next: CascadeNext)
+    pub(crate) fn die_on(&mut self, mut cascade: BareCascade<'a>, next: CascadeNext)
         requires layout { cascade.layout ≡ self.old.layout }
         requires shape { cascade.shape ≡ self.old.shape }
         requires died { DiesAt cascade next }
@@ -132,10 +135,11 @@ impl<'a> Stepper<'a> {
         }
     }
 
-    pub(crate) fn vacate_on(&mut self, slot: u32, plan: Vacate, next: Next<()>)
-        ensures { self.new ≡ vacated_on slot plan next self.old }
+    pub(crate) fn vacate_on(&mut self, slot: u32, mut plan: Vacate, last: Option<u64>)
+        requires takes { vacate_takes plan last }
+        ensures { self.new ≡ vacated_on slot (one_turned plan last) (vacate_answer plan last) self.old }
     {
-        match next {
+        match plan.next(last) {
             Next::Step(step) => self.ask(Doing::Vacating { slot, plan }, step, Intent::Vacate),
             Next::Done(()) => {
                 self.event = Some(Act::Vacate { slot });

@@ -3,14 +3,18 @@
 #![tactic(auto)]
 
 mod asking;
+mod cell;
 mod drop;
+mod ending;
 mod gain;
+mod get;
 mod kept;
 mod making;
 mod program;
 mod programs;
 mod scope;
 mod served;
+mod set;
 mod stepper;
 mod told;
 

@@ -2,15 +2,16 @@
 
 ghost use Rattle.std.specs.Prelude.{◌≡◌, true, ◌<◌, ◌||◌, length, slice_get, Some};
 ghost use Rattle.arc_ops.specs.Thread.{Thread, is_held, value};
-ghost use Rattle.arc_ops.specs.Begins.{asks, begun, begun_op, begun_gain, begun_nil, begun_move, phase_over, scope_begun, next_op};
+ghost use Rattle.arc_ops.specs.Begins.{asks, begun, begun_op, begun_gain, begun_nil, begun_move, phase_over, scope_begun, scope_over, next_op};
 ghost use Rattle.arc_ops.specs.Steppers.{IsHeld, FewBefore};
 ghost use Rattle.arc_ops.specs.declared.stepper.Doing.TheVariants.{Ended};
 
 use crate::asking::{first_asking, first_held};
-use crate::gain::Gain;
+use crate::cell::Cell;
+use crate::gain::{Gain, Source};
 use crate::programs::ops_in_first;
 use crate::stepper::{Doing, Held, Move, Stepper};
-use arc_script::{Answer, Op};
+use arc_script::{Answer, Op, OpCell};
 
 impl<'a> Stepper<'a> {
     /// Goes on to the first operation of the phase that asks for a step, or to the end of the phase.
@@ -63,6 +64,20 @@ impl<'a> Stepper<'a> {
             Op::Copy { to, from } => self.begin_from(Gain::Copy, to, from),
             Op::Unown { to, of } => self.begin_from(Gain::Unown, to, of),
             Op::Load { to, of } => self.begin_from(Gain::Load, to, of),
+            Op::Get {
+                to,
+                cell: OpCell::Global(global),
+            } => {
+                let cell = Cell::global(self.shape, global);
+                self.begin_open(to, cell);
+            }
+            Op::Set {
+                cell: OpCell::Global(global),
+                from,
+            } => {
+                let cell = Cell::global(self.shape, global);
+                self.begin_set(from, cell);
+            }
             Op::Move { to, from } => match self.vars[from as usize] {
                 Some(held) => self.begin_move(to, from, held),
                 None => self.begin_nil(to),
@@ -90,7 +105,7 @@ impl<'a> Stepper<'a> {
         ensures { (rest : Thread → Thread) → self.new ≡ begun_gain gain to (value self.old.vars from) (value self.old.vars to) self.old rest }
     {
         match self.vars[from as usize] {
-            Some(held) => self.begin_gain(gain, to, held),
+            Some(held) => self.begin_gain(gain, to, Source::of(held)),
             None => self.begin_nil(to),
         }
     }
@@ -137,10 +152,7 @@ impl<'a> Stepper<'a> {
         ensures { self.new ≡ scope_begun self.old }
     {
         match first_held(&self.vars) {
-            None => {
-                self.doing = Doing::Ended;
-                self.asked = Move::Ended;
-            }
+            None => self.end_thread(),
             Some(var) => match self.vars[var] {
                 Some(held) => {
                     self.vars[var] = None;
@@ -151,7 +163,19 @@ impl<'a> Stepper<'a> {
         }
     }
 
-    /// The operation is over, or a drop at the end of the scope.
+    /// Nothing is left to be done, but that thread 0 clears the globals in the order of declaration.
+    fn end_thread(&mut self)
+        ensures { self.new ≡ scope_over self.old }
+    {
+        if self.thread == 0 && self.cleared < self.shape.globals().len() as u32 {
+            self.begin_clear();
+        } else {
+            self.doing = Doing::Ended;
+            self.asked = Move::Ended;
+        }
+    }
+
+    /// The operation is over, or a drop at the end of the scope or in the end section.
     pub(crate) fn next_op(&mut self)
         ensures { self.new ≡ next_op self.old }
     {

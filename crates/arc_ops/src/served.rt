@@ -5,7 +5,7 @@ ghost use Rattle.arc_model.specs.Shapes.{ObjectClass};
 ghost use Rattle.arc_ops.specs.Served.{IsServed, IsServedThread, IsServedOp, IsServedVar};
 
 use arc_model::{Caps, ClassShape, Kind};
-use arc_script::{Op, Script, ThreadDecl, VarDecl};
+use arc_script::{Op, OpCell, Script, ThreadDecl, VarDecl};
 
 fn is_served_op(op: &Op) -> bool
     ensures { IsTrue result ↔ IsServedOp op.now }
@@ -17,6 +17,14 @@ fn is_served_op(op: &Op) -> bool
         Op::Drop { var: _ } => true,
         Op::Unown { to: _, of: _ } => true,
         Op::Load { to: _, of: _ } => true,
+        Op::Get {
+            to: _,
+            cell: OpCell::Global(_),
+        } => true,
+        Op::Set {
+            cell: OpCell::Global(_),
+            from: _,
+        } => true,
         Op::IfNil { .. } => true,
         Op::IfSome { .. } => true,
         _ => false,
@@ -39,10 +47,16 @@ fn is_served_var(var: &VarDecl) -> bool
     }
 }
 
+fn are_served_vars(vars: &[VarDecl]) -> bool
+    ensures { IsTrue result ↔ All IsServedVar vars.now }
+{
+    vars.iter().all(|var| is_served_var(var))
+}
+
 fn is_served_thread(thread: &ThreadDecl) -> bool
     ensures { IsTrue result ↔ IsServedThread thread.now }
 {
-    let vars = thread.vars.as_slice().iter().all(|var| is_served_var(var));
+    let vars = are_served_vars(thread.vars.as_slice());
     let ops = thread
         .phases
         .as_slice()
@@ -69,9 +83,9 @@ fn are_greatest(caps: Caps) -> bool
     caps.strong() == 1_073_741_823 && caps.unowned() == 2_147_483_647 && caps.wide() == u32::MAX
 }
 
-/// Whether the script is one of those that are served so far: threads with strong and unowned variables and the operations `new`,
-/// `copy`, `move`, `drop`, `unown` and `load`, in any blocks and phases and by any schedule; classes without fields, no globals and
-/// the greatest caps.
+/// Whether the script is one of those that are served so far: strong and unowned globals, threads with strong and unowned variables and
+/// the operations `new`, `copy`, `move`, `drop`, `unown`, `load`, and `get` and `set` on globals, in any blocks and phases and by any
+/// schedule; classes without fields and the greatest caps.
 pub fn is_served(script: &Script) -> bool
     ensures { IsTrue result ↔ IsServed script.now }
 {
@@ -81,5 +95,5 @@ pub fn is_served(script: &Script) -> bool
     if !have_no_fields(script.shape.classes()) {
         return false;
     }
-    script.globals.is_empty() && are_served_threads(script.threads.as_slice())
+    are_served_vars(script.globals.as_slice()) && are_served_threads(script.threads.as_slice())
 }

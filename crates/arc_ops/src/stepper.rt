@@ -1,21 +1,22 @@
 //! The stepper: one thread of a script as a machine of steps.
 
-ghost use Rattle.std.specs.Prelude.{◌≡◌, false, ◌≤◌, length, IfOk};
+ghost use Rattle.std.specs.Prelude.{◌≡◌, ◌≤◌, length, IfOk};
 ghost use Rattle.arc_rule.specs.Places.{extent_of};
 ghost use Rattle.arc_script.specs.Valid.{IsScript};
 ghost use Rattle.arc_ops.specs.Served.{IsServed};
-ghost use Rattle.arc_ops.specs.Thread.{stepper_of, number_of, first_of, in_operation, put, asking};
+ghost use Rattle.arc_ops.specs.Thread.{stepper_of, number_of, first_of, in_access, in_operation, put, asking};
 ghost use Rattle.arc_ops.specs.Turns.{turned};
 ghost use Rattle.arc_ops.specs.Takes.{takes};
 ghost use Rattle.arc_ops.specs.Steppers.{IsStepper, IsUnderWay, IsInOperation};
 
 use crate::asking::nil_vars;
-use crate::gain::Gain;
+use crate::cell::Cell;
+use crate::gain::{Gain, Source};
 use crate::kept::Lines;
 use crate::program::Program;
 use crate::programs::{new_count, phases_of, vars_of};
-use arc_cells::Cascade;
-use arc_model::{Act, Kind, Memory, ObjectName, Shape};
+use arc_cells::{BareCascade, Begin, End, Swap};
+use arc_model::{Act, CellName, Kind, Memory, ObjectName, Origin, Shape};
 use arc_plan::{NameOf, NewObject, Vacate};
 use arc_rule::{Intent, Layout, Plan, Step};
 use arc_script::{Answer, Line, Op, Script};
@@ -45,11 +46,11 @@ pub(crate) enum Doing<'a> {
         name: ObjectName,
         plan: NewObject,
     },
-    /// A reference is gained for a variable from one in another variable.
+    /// A reference is gained for a variable from one in another variable, or in a cell that is accessed.
     Gaining {
         gain: Gain,
         to: u32,
-        from: Held,
+        from: Source,
         plan: Up,
     },
     /// The name is read of the object of a reference that was loaded.
@@ -58,6 +59,29 @@ pub(crate) enum Doing<'a> {
         held: Held,
         plan: NameOf,
     },
+    /// An access to a cell begins, whose reference is to be copied for a variable.
+    Opening {
+        to: u32,
+        cell: Cell,
+        plan: Begin,
+    },
+    /// The access to a cell ends whose reference was copied.
+    Closing {
+        to: u32,
+        cell: CellName,
+        held: Held,
+        plan: End,
+    },
+    /// A cell gets the reference of a variable.
+    Setting {
+        from: u32,
+        cell: Cell,
+        plan: Swap,
+    },
+    /// The next global is cleared.
+    Clearing {
+        plan: Swap,
+    },
     /// A reference is given up.
     Dropping {
         held: Held,
@@ -65,7 +89,7 @@ pub(crate) enum Doing<'a> {
     },
     /// An object is deinited.
     Dying {
-        cascade: Cascade<'a>,
+        cascade: BareCascade<'a>,
     },
     /// A slot ends, whose object has no reference left but weak ones.
     Vacating {
@@ -107,6 +131,7 @@ pub struct Stepper<'a> {
     pub(crate) first: bool,
     pub(crate) hands: u32,
     pub(crate) made: u32,
+    pub(crate) cleared: u32,
     pub(crate) event: Option<Act>,
     pub(crate) lines: Lines,
 }
@@ -117,9 +142,9 @@ impl<'a> Model for Stepper<'a> {
 
     ghost Value = { Thread };
 
-    ghost view = { λ t. record { layout = t.layout; shape = t.shape.now; thread = t.thread; phases = t.phases.now; program = t.program; vars = t.vars.items; phase = t.phase; index = t.index; doing = t.doing; asked = t.asked; first = t.first; hands = t.hands; made = t.made; event = t.event; kept = t.lines } };
+    ghost view = { λ t. record { layout = t.layout; shape = t.shape.now; thread = t.thread; phases = t.phases.now; program = t.program; vars = t.vars.items; phase = t.phase; index = t.index; doing = t.doing; asked = t.asked; first = t.first; hands = t.hands; made = t.made; cleared = t.cleared; event = t.event; kept = t.lines } };
 
-    ghost invariant = { λ t. IsStepper (record { layout = t.layout; shape = t.shape.now; thread = t.thread; phases = t.phases.now; program = t.program; vars = t.vars.items; phase = t.phase; index = t.index; doing = t.doing; asked = t.asked; first = t.first; hands = t.hands; made = t.made; event = t.event; kept = t.lines }) };
+    ghost invariant = { λ t. IsStepper (record { layout = t.layout; shape = t.shape.now; thread = t.thread; phases = t.phases.now; program = t.program; vars = t.vars.items; phase = t.phase; index = t.index; doing = t.doing; asked = t.asked; first = t.first; hands = t.hands; made = t.made; cleared = t.cleared; event = t.event; kept = t.lines }) };
 }
 
 impl<'a> Stepper<'a> {
@@ -156,6 +181,7 @@ impl<'a> Stepper<'a> {
             first: false,
             hands: 0,
             made: 0,
+            cleared: 0,
             event: None,
             lines,
         })
@@ -183,28 +209,25 @@ impl<'a> Stepper<'a> {
                 gain,
                 to,
                 from,
-                mut plan,
-            } => {
-                let next = plan.next(last);
-                self.gain_on(gain, to, from, plan, next);
-            }
-            Doing::Naming { to, held, mut plan } => {
-                let next = plan.next(last);
-                self.name_on(to, held, plan, next);
-            }
-            Doing::Dropping { held, mut plan } => {
-                let next = plan.next(last);
-                self.drop_on(held, plan, next);
-            }
+                plan,
+            } => self.gain_on(gain, to, from, plan, last),
+            Doing::Naming { to, held, plan } => self.name_on(to, held, plan, last),
+            Doing::Opening { to, cell, plan } => self.open_on(to, cell, plan, last),
+            Doing::Closing {
+                to,
+                cell,
+                held,
+                plan,
+            } => self.close_on(to, cell, held, plan, last),
+            Doing::Setting { from, cell, plan } => self.set_on(from, cell, plan, last),
+            Doing::Clearing { plan } => self.clear_on(plan, last),
+            Doing::Dropping { held, plan } => self.drop_on(held, plan, last),
             Doing::Dying { mut cascade } => {
                 let next = cascade.next(last);
                 self.event = cascade.event();
                 self.die_on(cascade, next);
             }
-            Doing::Vacating { slot, mut plan } => {
-                let next = plan.next(last);
-                self.vacate_on(slot, plan, next);
-            }
+            Doing::Vacating { slot, plan } => self.vacate_on(slot, plan, last),
             Doing::Ended => unreachable!(),
         }
         Turn {
@@ -224,11 +247,15 @@ impl<'a> Stepper<'a> {
         }
     }
 
-    /// Whether an access to a cell is under way: never so far, since no operation that is served reads a cell.
+    /// Whether an access to a cell has begun and hasn't ended.
     pub fn in_access(&self) -> bool
-        ensures { result ≡ false }
+        ensures { result ≡ in_access self.now }
     {
-        false
+        match self.doing {
+            Doing::Gaining { from, .. } => matches!(from.origin, Origin::Cell(_)),
+            Doing::Closing { .. } => true,
+            _ => false,
+        }
     }
 
     /// Whether an operation's first step was made and its last one, the drop of the old value included, wasn't yet.

@@ -12,7 +12,7 @@ use Rattle.arc_model.specs.Shapes.{HeapShape}
 use Rattle.arc_model.specs.Heaps.{Holder, Hand, Global, Field, Strongs, Unowneds, Forever, Object}
 use Rattle.arc_model.specs.History.{History, heap_after, IsLegal}
 use Rattle.arc_model.specs.Lookup.{spot}
-use Rattle.arc_model.specs.WellFormed.{IsWhole, tally}
+use Rattle.arc_model.specs.WellFormed.{is_own, IsWhole, tally}
 use Rattle.arc_model.proofs.Basics.{in-not_empty, some-strong}
 use Rattle.arc_model.proofs.Courses.{well_formed}
 use Rattle.arc_model.proofs.Others.{others_leave}
@@ -29,12 +29,13 @@ use Rattle.arc_view.specs.Rule.{InShape, IsSized, IsWithin}
 use Rattle.arc_view.specs.Holding.{At, heap_of, is_counted, is_counted_at}
 use Rattle.arc_view.specs.Kinds.{act_of, event_list, kind_at, object_at}
 use Rattle.arc_view.specs.Steps.{Told}
-use Rattle.arc_view.proofs.Held.{hand_listed, held_stays}
+use Rattle.arc_view.proofs.Held.{held_stays}
 use Rattle.arc_view.proofs.Strongs.{slot_found}
 use Rattle.arc_view.proofs.Within.{each_at}
 use Rattle.arc_view_laws.proofs.Moving.{legal_tail}
 use Rattle.arc_view_laws.proofs.StrongWords.{one_unpacked}
 use Rattle.arc_ops_passes.specs.References.{Leads}
+use Rattle.arc_ops_passes.proofs.Cells.{listed}
 use Rattle.arc_ops_passes.proofs.Owned.{not_weak}
 
 -- ---- what the word shows
@@ -60,33 +61,41 @@ tally_long : (xs : List Holder) → tally Strongs xs ≡ 1 → 1 ≤ length xs
 tally_long [] one = absurd (cc)
 tally_long (x ∷ xs) one = omega arith
 
-no_hand : (p k : ℕ) (x : Holder) → tally Strongs (x ∷ []) ≡ 1 → is_in (Hand p k) (x ∷ []) ≡ true → ⊥
-no_hand p k (Hand q n) one held = cc
-no_hand p k (Global g) one held = cc
-no_hand p k (Field o f) one held = cc
-no_hand p k Strongs one held = cc
-no_hand p k Unowneds one held = cc
-no_hand p k Forever one held = cc
+not_strongs : (z : Holder) → is_own z ≡ true → is_in z (Strongs ∷ []) ≡ true → ⊥
+not_strongs (Hand p k) own held = cc
+not_strongs (Global g) own held = cc
+not_strongs (Field o f) own held = cc
+not_strongs Strongs own held = cc
+not_strongs Unowneds own held = cc
+not_strongs Forever own held = cc
 
--- a hand beside the holder that stands for the strong references
-two_long : (p k : ℕ) (xs : List Holder) → is_in (Hand p k) xs ≡ true → tally Strongs xs ≡ 1 → 2 ≤ length xs
-two_long p k [] held one = absurd (cc)
-two_long p k (x ∷ []) held one = absurd (no_hand p k x one held)
-two_long p k (x ∷ y ∷ xs) held one = omega arith
+no_other : (z x : Holder) → is_own z ≡ true → tally Strongs (x ∷ []) ≡ 1 → is_in z (x ∷ []) ≡ true → ⊥
+no_other z (Hand q n) own one held = cc
+no_other z (Global g) own one held = cc
+no_other z (Field o f) own one held = cc
+no_other z Strongs own one held = not_strongs z own held
+no_other z Unowneds own one held = cc
+no_other z Forever own one held = cc
 
-lists_held : (shape : HeapShape) (p k : ℕ) (kind : Kind) (o : Object) → IsCountedInline kind → IsWhole shape o → is_in (Hand p k) (list_of kind o) ≡ true → (1 ≤ length o.unowned) × CountsHeld kind (counts_in o)
-lists_held shape p k Strong o counted whole held = let lives = in-not_empty (Hand p k) o.strong held in (tally_long o.unowned (live-facts o whole (some-strong shape o lives)).strongs, lives)
-lists_held shape p k Unowned o counted whole held =
-    (some_long o.unowned (in-not_empty (Hand p k) o.unowned held), λ lives. two_long p k o.unowned held (live-facts o whole (some-strong shape o lives)).strongs)
-lists_held shape p k Weak o counted whole held = absurd counted
+-- a hand or a cell beside the holder that stands for the strong references
+two_long : (z : Holder) (xs : List Holder) → is_own z ≡ true → is_in z xs ≡ true → tally Strongs xs ≡ 1 → 2 ≤ length xs
+two_long z [] own held one = absurd (cc)
+two_long z (x ∷ []) own held one = absurd (no_other z x own one held)
+two_long z (x ∷ y ∷ xs) own held one = omega arith
 
--- the word that a step finds in the slot of an object of which p has such a hand
-pub shows_held : (shape : HeapShape) (h : History) (p k i s w : ℕ) (kind : Kind) (o : Object) → IsSized shape → IsLegal shape h → InShape shape h → IsCountedInline kind → spot (Hand p k) (heap_after h) ≡ Some (record { place = i; kind = kind }) → At (heap_after h) i o → o.slot ≡ Some s
+lists_held : (shape : HeapShape) (z : Holder) (kind : Kind) (o : Object) → is_own z ≡ true → IsCountedInline kind → IsWhole shape o → is_in z (list_of kind o) ≡ true → (1 ≤ length o.unowned) × CountsHeld kind (counts_in o)
+lists_held shape z Strong o own counted whole held = let lives = in-not_empty z o.strong held in (tally_long o.unowned (live-facts o whole (some-strong shape o lives)).strongs, lives)
+lists_held shape z Unowned o own counted whole held =
+    (some_long o.unowned (in-not_empty z o.unowned held), λ lives. two_long z o.unowned own held (live-facts o whole (some-strong shape o lives)).strongs)
+lists_held shape z Weak o own counted whole held = absurd counted
+
+-- the word that a step finds in the slot of an object that a hand or a cell refers to
+pub shows_held : (shape : HeapShape) (h : History) (z : Holder) (i s w : ℕ) (kind : Kind) (o : Object) → is_own z ≡ true → IsSized shape → IsLegal shape h → InShape shape h → IsCountedInline kind → spot z (heap_after h) ≡ Some (record { place = i; kind = kind }) → At (heap_after h) i o → o.slot ≡ Some s
     → Says shape (heap_after h) (Count s) w → ShowsHeld shape kind o w
-shows_held shape h p k i s w kind o sized legal within counted hand here slot says = by (is_immortal shape o) refl (subst (λ m. ShowsCounts shape m w) (slot_found shape h i s o legal here slot) says)
+shows_held shape h z i s w kind o own sized legal within counted hand here slot says = by (is_immortal shape o) refl (subst (λ m. ShowsCounts shape m w) (slot_found shape h i s o legal here slot) says)
   where
     lists : (1 ≤ length o.unowned) × CountsHeld kind (counts_in o)
-    lists = lists_held shape p k kind o counted ((well_formed shape h legal).whole i o here) (hand_listed shape h p k i kind o legal hand here)
+    lists = lists_held shape z kind o own counted ((well_formed shape h legal).whole i o here) (listed shape h z i kind o legal own hand here)
 
     go : (m : Option ℕ) → o.entry ≡ m → IsHeader shape o m w → ShowsHeld shape kind o w
     go None none (is, strong_cap, unowned_cap) =
@@ -115,7 +124,7 @@ loads_held shape intent v found v' held sized lt told (counted, i, o, hand, here
     let held_now = held_stays shape v.number held.hand i held.kind o v.seen told.between legal told.others hand here in
     let now : spot (Hand v.number held.hand) (heap_after h) ≡ Some (record { place = i; kind = held.kind }) = (others_leave shape v.number v.seen told.between legal told.others).hands held.hand ∙ hand in
     let says : Says shape (heap_after h) (Count held.place) found = (told.read (Count held.place) tt lt refl).says (λ u. u) in
-    (held_now.q, shows_held shape h v.number held.hand i held.place found held.kind held_now.q sized legal told.met_in_shape counted now held_now.here (held_now.slot (not_weak held.kind counted) ∙ slot) says)
+    (held_now.q, shows_held shape h (Hand v.number held.hand) i held.place found held.kind held_now.q refl sized legal told.met_in_shape counted now held_now.here (held_now.slot (not_weak held.kind counted) ∙ slot) says)
 
 -- ---- whose count it is
 

@@ -46,9 +46,9 @@ use Rattle.arc_plan.specs.declared.unowned.UnownedDownAnswer.TheVariants as down
 use Rattle.arc_plan.specs.Attempts.{Attempt, IsCountWord}
 use Rattle.arc_rule.specs.Attempts.{exchanging, chosen}
 use Rattle.arc_plan.specs.Unowned.{unowned_down_row, unowned_down_end}
-use Rattle.arc_cells.specs.declared.cascade.At.{At as CascadeAt}
-use Rattle.arc_cells.specs.declared.cascade.At.TheVariants as ats
-use Rattle.arc_cells.specs.Cascades.{CascadeState, IsInline, finish_turned, finish_says}
+use Rattle.arc_cells.specs.declared.bare.At.{At as CascadeAt}
+use Rattle.arc_cells.specs.declared.bare.At.TheVariants as ats
+use Rattle.arc_cells.specs.BareCascades.{CascadeState, IsInline, finish_turned, finish_says}
 use Rattle.arc_ops.specs.declared.stepper.Held.{Held}
 use Rattle.arc_ops.specs.declared.stepper.Doing.{Doing}
 use Rattle.arc_ops.specs.declared.stepper.Doing.TheVariants as doings
@@ -77,13 +77,13 @@ use Rattle.arc_model.proofs.Basics.{None≢Some, true≢false}
 use Rattle.arc_model.proofs.Others.{others_leave}
 use Rattle.arc_view_laws.proofs.Entries.{entry_kept}
 use Rattle.arc_view_laws.proofs.DyingWords.{ShowsDying, counts, slow, shows_dying}
-use Rattle.arc_ops_passes.specs.References.{in_vars, references, Owns}
-use Rattle.arc_ops_passes.specs.Drives.{Asks, UnderWay, IsDying, OwesOne, entered}
+use Rattle.arc_ops_passes.specs.References.{in_vars, references, LeadsTo, Owns}
+use Rattle.arc_ops_passes.specs.Drives.{Asks, UnderWay, IsDying, OwesOne, entered, AreOfClasses, ComesOfClass}
 use Rattle.arc_ops_passes.proofs.Walks.{next_walks}
 use Rattle.arc_ops_passes.proofs.Owed.{slot_is, not_in, owed_still}
 use Rattle.arc_ops_passes.proofs.Counts.{inline_unpacked}
 use Rattle.arc_ops_passes.proofs.Names.{NameRead, name_read, name_shown, no_entry_shown}
-use Rattle.arc_ops_passes.proofs.Goes.{quiet, Facts, Comes, told_by, fresh_under, claims_still, claims_on, owns_still, owns_on, nothing_shown, count_no_name, next_no_name}
+use Rattle.arc_ops_passes.proofs.Goes.{quiet, Facts, Comes, knows_none, told_by, fresh_under, fresh_coming, classed_still, classed_on, claims_still, claims_on, owns_still, owns_on, nothing_shown, count_no_name, next_no_name}
 
 abbrev pub dying : Work → ℕ → CascadeAt → Option Act → Doing
 dying w s a e = doings.Dying (record { layout = extent_of w.shape; shape = w.shape; slot = s; at = a; event = e })
@@ -172,13 +172,16 @@ module _ (w : Work) (t : Thread) (v : View) (s : ℕ) (a : CascadeAt) (e : Optio
 
       -- the cascade goes on to this
       on : (u : Thread) (b : CascadeAt) → takes_at w.shape (Some found) (dying w s a e) → u.event ≡ None → u.hands ≡ t.hands → u.vars ≡ t.vars → u.doing ≡ dying w s b None → Asks w.shape u (dying w s b None) → IsDying w.shape v' (record { layout = extent_of w.shape; shape = w.shape; slot = s; at = b; event = None })
-          → WordsHold Judged w.shape (extent_of w.shape) (Some (step, deinit)) (Some found) w.thread None h → Comes w v step deinit found v' h (dying w s a e) u
+          → WordsHold Judged w.shape (extent_of w.shape) (Some (step, deinit)) (Some found) w.thread None None h → Comes w t v step deinit found v' h (dying w s a e) u
       on u b takes event hands vars doing asks under holds =
           let same : (g : Held → ℕ) → references u.vars u.hands u.doing g ≡ references t.vars t.hands (dying w s a e) g = λ g. (λ j. references (vars j) (hands j) (doing j) g) in record {
             takes_it = takes;
             event = none ∙ sym event;
-            holds = subst (λ (x : Option Act). WordsHold Judged w.shape (extent_of w.shape) (Some (step, deinit)) (Some found) w.thread x h) (sym event) holds;
+            holds = subst (λ (x : Option Act). WordsHold Judged w.shape (extent_of w.shape) (Some (step, deinit)) (Some found) w.thread x None h) (sym event) holds;
+            knows = knows_none v';
             count = ap length vars ∙ f.count;
+            classed = subst (AreOfClasses w.classes v') (sym vars) (classed_still w.shape 1 w.classes v v' t.vars called f.classed);
+            coming = subst (ComesOfClass w.classes v') (sym doing) tt;
             owns = subst (λ n. Owns v' n (references u.vars u.hands u.doing)) (sym hands) (owns_still w.shape 1 v v' t.hands (references t.vars t.hands (dying w s a e)) (references u.vars u.hands u.doing) called f.owns same);
             no_claim = claims_still w.shape 1 v v' called f.no_claim;
             asks = subst (Asks w.shape u) (sym doing) asks;
@@ -187,13 +190,13 @@ module _ (w : Work) (t : Thread) (v : View) (s : ℕ) (a : CascadeAt) (e : Optio
 
     -- ---- it enters
     pub enters : (found : ℕ) (v' : View) (told : Told w.shape deinit (Store (number (extent_of w.shape) (Next s)) 0) v found v') → a ≡ ats.Entering → v.working ≡ idle
-        → Comes w v (Store (number (extent_of w.shape) (Next s)) 0) deinit found v' (told.between ++ v.seen) (dying w s ats.Entering e) (turned_at (Some found) (dying w s ats.Entering e) (quiet t))
+        → Comes w t v (Store (number (extent_of w.shape) (Next s)) 0) deinit found v' (told.between ++ v.seen) (dying w s ats.Entering e) (turned_at (Some found) (dying w s ats.Entering e) (quiet t))
     enters found v' told at is =
         let st = Store (number (extent_of w.shape) (Next s)) 0 in
         let none : act_of w.shape v st deinit found ≡ None = ap (λ (pl : Place). stored_act v pl deinit) (place_at-number (extent_of w.shape) (Next s) below) in
         let works : v'.working ≡ entered s = ap (λ (x : View). x.working) told.after ∙ (ap (λ (pl : Place). working_stored (number (extent_of w.shape)) v.working pl 0 deinit) (place_at-number (extent_of w.shape) (Next s) below)
         ∙ ap (λ (x : Working). record x { stored = but_at (number (extent_of w.shape)) (number (extent_of w.shape) (Next s)) x.stored; entered = record { slot = s; parent = None; next_field = 0 } ∷ x.entered }) is) in
-        subst (λ (b : CascadeAt). Comes w v st deinit found v' (told.between ++ v.seen) (dying w s b e) (turned_at (Some found) (dying w s ats.Entering e) (quiet t))) at
+        subst (λ (b : CascadeAt). Comes w t v st deinit found v' (told.between ++ v.seen) (dying w s b e) (turned_at (Some found) (dying w s ats.Entering e) (quiet t))) at
         (on st found v' told none (turned_at (Some found) (dying w s ats.Entering e) (quiet t)) ats.Naming (subst (λ b. takes_at w.shape (Some found) (dying w s b e)) (sym at) (λ x. cc)) refl refl refl refl (refl, refl)
         (record { working = works; duty = owes_then st found v' told none; rests = tt }) (nothing_shown w.shape (extent_of w.shape) st deinit found w.thread None (told.between ++ v.seen) tt tt))
 
@@ -214,7 +217,7 @@ module _ (w : Work) (t : Thread) (v : View) (s : ℕ) (a : CascadeAt) (e : Optio
       read : NameRead w.shape s found h_name
       read = name_read w.shape h_name (owes_then ReadName found v' told refl).place s found met_name.0 f.sized met_name.4 met_name.5 met_name.1 met_name.2 ((told.read (Isa s) tt below refl).says (λ u. u))
 
-      pub names : a ≡ ats.Naming → v.working ≡ entered s → Comes w v ReadName deinit found v' h_name (dying w s a e) (turned_at (Some found) (dying w s ats.Naming e) (quiet t))
+      pub names : a ≡ ats.Naming → v.working ≡ entered s → Comes w t v ReadName deinit found v' h_name (dying w s a e) (turned_at (Some found) (dying w s ats.Naming e) (quiet t))
       names at is =
           on ReadName found v' told refl (turned_at (Some found) (dying w s ats.Naming e) (quiet t)) ats.Leaving (subst (λ b. takes_at w.shape (Some found) (dying w s b e)) (sym at) read.takes) refl refl refl refl (refl, refl)
           (record { working = works_on (Isa s) found v' told below (λ x. refl) ∙ is; duty = owes_then ReadName found v' told refl; rests = tt }) (name_shown w.shape (extent_of w.shape) s found w.thread deinit h_name read.named)
@@ -227,7 +230,7 @@ module _ (w : Work) (t : Thread) (v : View) (s : ℕ) (a : CascadeAt) (e : Optio
     fin b = ats.Finishing (record { layout = extent_of w.shape; slot = s; at = b })
 
     pub leaves : (found : ℕ) (v' : View) (told : Told w.shape deinit ReadNext v found v') → a ≡ ats.Leaving → v.working ≡ entered s
-        → Comes w v ReadNext deinit found v' (told.between ++ v.seen) (dying w s a e) (turned_at (Some found) (dying w s ats.Leaving e) (quiet t))
+        → Comes w t v ReadNext deinit found v' (told.between ++ v.seen) (dying w s a e) (turned_at (Some found) (dying w s ats.Leaving e) (quiet t))
     leaves found v' told at is =
         let kept : Each (IsKeptAt w.shape (Next s) found) (private_words (entered s)) = subst (λ (x : Working). Each (IsKeptAt w.shape (Next s) found) (private_words x)) is (told.read (Next s) tt below refl).private in
         on ReadNext found v' told refl (turned_at (Some found) (dying w s ats.Leaving e) (quiet t)) (fin attempt.Loading) (subst (λ b. takes_at w.shape (Some found) (dying w s b e)) (sym at) (ap Some (kept.0 refl))) refl refl refl refl (refl, (refl, refl))
@@ -252,7 +255,7 @@ module _ (w : Work) (t : Thread) (v : View) (s : ℕ) (a : CascadeAt) (e : Optio
       Turned r = finish_turned turning (plan (exchanging found r)) (chosen (number (extent_of w.shape) (Count s)) found r)
 
       abbrev Loaded : Choice UnownedDownAnswer → Type 0
-      Loaded r = Comes w v ReadCount deinit found v' (told.between ++ v.seen) (dying w s a e) (dying_on (Turned r) (finish_says (here_at (fin attempt.Loading)) (chosen (number (extent_of w.shape) (Count s)) found r)) (record (quiet t) { event = (Turned r).event }))
+      Loaded r = Comes w t v ReadCount deinit found v' (told.between ++ v.seen) (dying w s a e) (dying_on (Turned r) (finish_says (here_at (fin attempt.Loading)) (chosen (number (extent_of w.shape) (Count s)) found r)) (record (quiet t) { event = (Turned r).event }))
 
       pub loads : IsInline (unpacked found) → Loaded (unowned_down_row (unpacked found))
       loads served =
@@ -280,7 +283,7 @@ module _ (w : Work) (t : Thread) (v : View) (s : ℕ) (a : CascadeAt) (e : Optio
       TurnedTo answer = finish_turned turning (plan attempt.Ended) (nexts.Done answer)
 
       abbrev Swapped : UnownedDownAnswer → Type 0
-      Swapped answer = Comes w v (Swap seen new) deinit found v' h_swap (dying w s a e) (dying_on (TurnedTo answer) (finish_says (here_at (fin (attempt.Exchanging seen new))) (nexts.Done answer)) (record (quiet t) { event = (TurnedTo answer).event }))
+      Swapped answer = Comes w t v (Swap seen new) deinit found v' h_swap (dying w s a e) (dying_on (TurnedTo answer) (finish_says (here_at (fin (attempt.Exchanging seen new))) (nexts.Done answer)) (record (quiet t) { event = (TurnedTo answer).event }))
 
       takes_swap : takes_at w.shape (Some found) (dying w s a e)
       takes_swap = subst (λ b. takes_at w.shape (Some found) (dying w s b e)) (sym at) ((λ x. cc), tt)
@@ -342,6 +345,9 @@ module _ (w : Work) (t : Thread) (v : View) (s : ℕ) (a : CascadeAt) (e : Optio
         owns_end : (n : ℕ) (M : (Held → ℕ) → ℕ) → n ≡ t.hands → ((g : Held → ℕ) → M g ≡ in_vars t.vars g) → Owns v' n M
         owns_end n M hands is = subst (λ k. Owns v' k M) (sym hands) (owns_on w.shape 1 ended v v' t.hands (references t.vars t.hands (dying w s a e)) M called_end (λ k. refl) refl f.owns (λ g. let x = is g in omega arith))
 
+        classed_end : AreOfClasses w.classes v' t.vars
+        classed_end = classed_on w.shape 1 ended w.classes v v' t.vars called_end (λ x held e. refl) f.classed
+
         no_claim_end : (n : ℕ) → HasClaim v' n → ⊥
         no_claim_end = claims_on w.shape 1 ended v v' called_end (λ m n. refl) f.no_claim
 
@@ -349,12 +355,15 @@ module _ (w : Work) (t : Thread) (v : View) (s : ℕ) (a : CascadeAt) (e : Optio
       more same act =
           let q : Thread = record (quiet t) { event = Some (acts.Finish s false) } in
           let u : Thread = next_op q in
-          let walk = next_walks w.shape q f.is_for f.stepper.vars_fit in record {
+          let walk = next_walks w (LeadsTo v') q f.is_for f.fit (classed_end same false act) in record {
             takes_it = takes_swap;
             event = act ∙ sym walk.event;
-            holds = subst (λ (x : Option Act). WordsHold Judged w.shape (extent_of w.shape) (Some (Swap seen new, deinit)) (Some found) w.thread x h_swap) (sym walk.event)
+            holds = subst (λ (x : Option Act). WordsHold Judged w.shape (extent_of w.shape) (Some (Swap seen new, deinit)) (Some found) w.thread x None h_swap) (sym walk.event)
                 (nothing_shown w.shape (extent_of w.shape) (Swap seen new) deinit found w.thread (Some (acts.Finish s false)) h_swap tt tt);
+            knows = knows_none v';
             count = walk.count ∙ f.count;
+            classed = walk.classed;
+            coming = fresh_coming w.classes v' u.doing walk.fresh;
             owns = owns_end same false act u.hands (references u.vars u.hands u.doing) walk.hands walk.same;
             no_claim = no_claim_end same false act;
             asks = walk.asks;
@@ -367,7 +376,10 @@ module _ (w : Work) (t : Thread) (v : View) (s : ℕ) (a : CascadeAt) (e : Optio
         takes_it = takes_swap;
         event = act;
         holds = no_entry_shown w.shape (extent_of w.shape) s seen new found w.thread deinit (acts.Finish s true) h_swap entry_none;
+        knows = knows_none v';
         count = f.count;
+        classed = classed_end same true act;
+        coming = tt;
         owns = owns_end same true act t.hands (references t.vars t.hands (dying w s (ats.Vacating (record { layout = extent_of w.shape; slot = s; at = once.Asked })) (Some (acts.Finish s true)))) refl (λ g. omega arith);
         no_claim = no_claim_end same true act;
         asks = (refl, (refl, refl));

@@ -13,8 +13,8 @@ use Rattle.arc_model.specs.Needs.{passes}
 use Rattle.arc_model.specs.Holders.{is_in, at_slot, is_claimed_by, has_entry, kind_in, held_by, list_of}
 use Rattle.arc_model.specs.History.{History, heap_after, IsLegal}
 use Rattle.arc_model.proofs.Others.{lookup_after, others_leave}
-use Rattle.arc_cells.specs.declared.cascade.At.TheVariants as ats
-use Rattle.arc_cells.specs.Cascades.{IsInline}
+use Rattle.arc_cells.specs.declared.bare.At.TheVariants as ats
+use Rattle.arc_cells.specs.BareCascades.{IsInline}
 use Rattle.arc_view_laws.specs.Hands.{Moves}
 use Rattle.arc_rule.specs.declared.layout.Place.TheVariants as places
 use Rattle.arc_model.specs.SpellingTies.Causes.{Judged}
@@ -36,7 +36,7 @@ use Rattle.arc_ops.specs.declared.stepper.Held.{Held}
 use Rattle.arc_ops.specs.declared.stepper.Doing.{Doing}
 use Rattle.arc_ops.specs.declared.stepper.Doing.TheVariants as doings
 use Rattle.arc_ops.specs.declared.stepper.Move.TheVariants as moves
-use Rattle.arc_ops.specs.Thread.{Thread}
+use Rattle.arc_ops.specs.Thread.{Thread, value}
 use Rattle.arc_ops.specs.Begins.{next_op}
 use Rattle.arc_ops.specs.Turns.{turned_at}
 use Rattle.arc_spelled.specs.StepperStands.{Work}
@@ -44,8 +44,8 @@ use Rattle.arc_view.specs.declared.view.Working.{Working}
 use Rattle.arc_view.specs.declared.view.View.{View}
 use Rattle.arc_view.specs.Steps.{Told}
 use Rattle.arc_view.specs.Calls.{Called}
-use Rattle.arc_ops_passes.specs.References.{in_vars, references, Leads, Owns}
-use Rattle.arc_ops_passes.proofs.Walks.{next_walks, drops_again}
+use Rattle.arc_ops_passes.specs.References.{in_vars, references, one_if, has_hand, Leads, LeadsTo, Owns}
+use Rattle.arc_ops_passes.proofs.Walks.{next_walks, drops_again, vars-least}
 use Rattle.std.proofs.Common.{◌≡◌, ◌≢◌, inl, ℕ, ◌/◌, ◌≤◌, ◌<◌, ◌==◌, ◌&&◌, ◌||◌, Bool, true, false, cond, [], ◌∷◌, ◌++◌, length, option_map, Option, Some, None, refl, sym, ap, ◌∙◌, subst, arith, eq-eqb, ne_eqb}
 use Rattle.arc_bits.specs.Words.{IsWordOf, counts_word, unpacked}
 use Rattle.arc_bits.specs.Moves.{strong_less, unowned_less}
@@ -78,12 +78,12 @@ use Rattle.arc_view.proofs.Held.{Held as HeldLater, Stays, held_stays, hand_list
 use Rattle.arc_view.proofs.Strongs.{slot_found}
 use Rattle.arc_view_laws.proofs.Entries.{none_after}
 use Rattle.arc_view_laws.proofs.Moving.{moved, legal_tail}
-use Rattle.arc_ops_passes.specs.Drives.{Asks, MayGoDown, OwesOne, UnderWay}
+use Rattle.arc_ops_passes.specs.Drives.{Asks, MayGoDown, OwesOne, UnderWay, AreOfClasses, ComesOfClass}
 use Rattle.arc_ops_passes.specs.Laws.{IsServedWord}
-use Rattle.arc_ops_passes.proofs.Owned.{not_weak, leads_on, owns_less, ref-itself}
+use Rattle.arc_ops_passes.proofs.Owned.{not_weak, leads_on, owns_less, ref-itself, hand-itself}
 use Rattle.arc_ops_passes.proofs.Counts.{CountsHeld, ShowsHeld, counts, slow, forever, loads_held, counted_in, kind_there, counted_there, inline_unpacked, counts_not_one}
 use Rattle.arc_ops_passes.proofs.Names.{no_entry_shown}
-use Rattle.arc_ops_passes.proofs.Goes.{quiet, Facts, Comes, attempt_asked, told_by, fresh_under, owes_still, owes_on, claims_on, ReadsNoName, nothing_shown, stays}
+use Rattle.arc_ops_passes.proofs.Goes.{quiet, Facts, Comes, knows_none, attempt_asked, told_by, fresh_under, fresh_coming, classed_still, classed_on, owes_still, owes_on, claims_on, ReadsNoName, nothing_shown, stays}
 use Rattle.arc_view.specs.Views.{idle}
 
 abbrev pub fall : Work → Held → AttemptAt → Fall
@@ -201,6 +201,15 @@ module _ (w : Work) (t : Thread) (v : View) (held : Held) (a : AttemptAt) (f : F
   counted : IsCountedInline held.kind
   counted = leads.0
 
+  -- no variable has its hand
+  away : (x : ℕ) (h : Held) → value t.vars x ≡ Some h → h.hand ≢ held.hand
+  away x h e same =
+      let least = vars-least (has_hand held.hand) t.vars x h e in
+      let one : has_hand held.hand h ≡ 1 = ap one_if (eq-eqb h.hand held.hand same) in
+      let its = hand-itself held in
+      let once = f.owns.once held.hand in
+      absurd (omega arith)
+
   free : v.working.owes ≡ None
   free = ap (λ (x : Working). x.owes) f.under_way.0.working
 
@@ -244,22 +253,28 @@ module _ (w : Work) (t : Thread) (v : View) (held : Held) (a : AttemptAt) (f : F
       gone : spot (Hand v'.number held.hand) (heap_of v') ≡ None
       gone = m.hands held.hand ∙ ap (λ b. cond b None (spot (Hand v.number held.hand) (heap_of v))) (eq-eqb held.hand held.hand refl)
 
+      classed_then : AreOfClasses w.classes v' t.vars
+      classed_then = classed_on w.shape 1 lost w.classes v v' t.vars called (λ x h e. ne_eqb held.hand h.hand (λ same. away x h e (sym same))) f.classed
+
       owns_then : (M : (Held → ℕ) → ℕ) → ((g : Held → ℕ) → M g ≡ in_vars t.vars g) → Owns v' t.hands M
       owns_then M same = owns_less v v' t.hands t.vars (references t.vars t.hands (dropping w held a)) M held f.owns (λ g. refl) same
           (λ x ne. leads_on w.shape lost 1 v v' x called (ne_eqb held.hand x.hand (λ e. ne (sym e)))) gone spots
 
-    gives_up : (d : Doing) → takes_at w.shape (Some found) d → ReadsNoName (extent_of w.shape) step drop → v'.working ≡ v.working → act_of w.shape v step drop found ≡ Some (acts.Drop held.hand false)
-        → Comes w v step drop found v' met d (next_op (record (quiet t) { event = Some (acts.Drop held.hand false) }))
-    gives_up d takes reads works act =
+    gives_up : (b : AttemptAt) → takes_at w.shape (Some found) (dropping w held b) → ReadsNoName (extent_of w.shape) step drop → v'.working ≡ v.working → act_of w.shape v step drop found ≡ Some (acts.Drop held.hand false)
+        → Comes w t v step drop found v' met (dropping w held b) (next_op (record (quiet t) { event = Some (acts.Drop held.hand false) }))
+    gives_up b takes reads works act =
         let q : Thread = record (quiet t) { event = Some (acts.Drop held.hand false) } in
         let u : Thread = next_op q in
-        let walk = next_walks w.shape q f.is_for f.stepper.vars_fit in
+        let walk = next_walks w (LeadsTo v') q f.is_for f.fit (classed_then false act) in
         let c = called false act in record {
           takes_it = takes;
           event = act ∙ sym walk.event;
-          holds = subst (λ e. WordsHold Judged w.shape (extent_of w.shape) (Some (step, drop)) (Some found) w.thread e met) (sym walk.event)
+          holds = subst (λ e. WordsHold Judged w.shape (extent_of w.shape) (Some (step, drop)) (Some found) w.thread e None met) (sym walk.event)
               (nothing_shown w.shape (extent_of w.shape) step drop found w.thread (Some (acts.Drop held.hand false)) met reads tt);
+          knows = knows_none v';
           count = walk.count ∙ f.count;
+          classed = walk.classed;
+          coming = fresh_coming w.classes v' u.doing walk.fresh;
           owns = subst (λ n. Owns v' n (references u.vars u.hands u.doing)) (sym walk.hands) (owns_then false act (references u.vars u.hands u.doing) walk.same);
           no_claim = claims_on w.shape 1 (acts.Drop held.hand false) v v' c (λ m e. refl) f.no_claim;
           asks = walk.asks;
@@ -272,7 +287,7 @@ module _ (w : Work) (t : Thread) (v : View) (held : Held) (a : AttemptAt) (f : F
     loading = fall w held attempt.Loading
 
     abbrev Loaded : Option ℕ × Choice DownAnswer → Type 0
-    Loaded x = Comes w v (Load at) drop found v' (told.between ++ v.seen) (dropping w held attempt.Loading)
+    Loaded x = Comes w t v (Load at) drop found v' (told.between ++ v.seen) (dropping w held attempt.Loading)
         (dropped_on held (turned_by down_moved loading (down_in loading x.0) (exchanging found x.1)) (answer_by down_place (down_in loading x.0) (chosen at found x.1)) (quiet t))
 
     abbrev choice : Choice DownAnswer
@@ -289,7 +304,7 @@ module _ (w : Work) (t : Thread) (v : View) (held : Held) (a : AttemptAt) (f : F
         by o (forever one some immortal) =
             let act : act_of w.shape v (Load at) drop found ≡ Some (acts.Drop held.hand false) = load_act found ∙ ap (λ b. when b (acts.Drop held.hand false)) (eq-eqb found 1 one) in
             by_word (Some Immortal) (Tell (downs.More None)) some (choice_forever held.kind found counted some) refl
-            (gives_up (Load at) found v' told (dropping w held attempt.Loading) (takes_forever w held held.kind found counted some served) tt (ap (λ (x : View). x.working) told.after ∙ load_same found) act)
+            (gives_up (Load at) found v' told attempt.Loading (takes_forever w held held.kind found counted some served) tt (ap (λ (x : View). x.working) told.after ∙ load_same found) act)
         by o (counts some word_is unowned fact none) =
             let c : Inline = counts_in o in
             let new = less_in held.kind c in
@@ -298,7 +313,7 @@ module _ (w : Work) (t : Thread) (v : View) (held : Held) (a : AttemptAt) (f : F
             let c_none = told_by w.shape drop (Load at) v found v' None act told in
             let u : Thread = record (quiet t) { doing = dropping w held (attempt.Exchanging found new); asked = moves.Step (Exchange at found new) drop } in
             by_word (Some (Counts c)) (Write new) some (choice_less held.kind c found counted some) refl
-            (stays w t v (Load at) drop found v' (dropping w held attempt.Loading) u told fact_at (takes_counts w held held.kind c found some unowned fact served) act refl tt refl refl (λ g. refl) (refl, refl)
+            (stays w t v (Load at) drop found v' (dropping w held attempt.Loading) u told fact_at (takes_counts w held held.kind c found some unowned fact served) refl act refl tt refl refl (λ g. refl) (classed_still w.shape 1 w.classes v v' t.vars c_none f.classed) tt (refl, refl)
             (record { working = ap (λ (x : View). x.working) told.after ∙ (load_same found ∙ f.under_way.0.working); none = owes_still w.shape 1 v v' c_none f.under_way.0.none }, is_down held.kind c held.place found word_is unowned fact))
 
   -- ---- it exchanges it
@@ -320,15 +335,15 @@ module _ (w : Work) (t : Thread) (v : View) (held : Held) (a : AttemptAt) (f : F
         go false = refl
 
     abbrev Swapped : DownAnswer → Type 0
-    Swapped answer = Comes w v (Exchange at seen new) drop found v' h d (dropped_on held (fall w held attempt.Ended) (nexts.Done answer) (quiet t))
+    Swapped answer = Comes w t v (Exchange at seen new) drop found v' h d (dropped_on held (fall w held attempt.Ended) (nexts.Done answer) (quiet t))
 
     -- another word is there
     missed : found ≢ seen → Swapped (downs.Again (record { seen = seen; found = found }))
     missed ne =
         let act : act_of w.shape v (Exchange at seen new) drop found ≡ None = ap (λ b. cond b (hit_act v (place_at (extent_of w.shape) at) seen new drop) None) (ne_eqb found seen ne) in
         let c_none = told_by w.shape drop (Exchange at seen new) v found v' None act told in
-        let walk = drops_again w.shape held (quiet t) f.is_for in
-        stays w t v (Exchange at seen new) drop found v' d (drop_begun held (quiet t)) told fact ((λ e. cc), tt) act walk.event tt walk.hands walk.count walk.same walk.asks
+        let walk = drops_again w (LeadsTo v') held (quiet t) f.is_for (classed_still w.shape 1 w.classes v v' t.vars c_none f.classed) in
+        stays w t v (Exchange at seen new) drop found v' d (drop_begun held (quiet t)) told fact ((λ e. cc), tt) refl act walk.event tt walk.hands walk.count walk.same walk.classed (fresh_coming w.classes v' (drop_begun held (quiet t)).doing walk.fresh) walk.asks
         (fresh_under w.shape v' (drop_begun held (quiet t)).doing walk.fresh (swap_works ∙ f.under_way.0.working) (owes_still w.shape 1 v v' c_none f.under_way.0.none))
 
     -- ---- the last one of its list: the object, as the event met it and as it left it
@@ -408,14 +423,17 @@ module _ (w : Work) (t : Thread) (v : View) (held : Held) (a : AttemptAt) (f : F
       abbrev q : Thread
       q = record (quiet t) { event = Some (acts.Drop held.hand true) }
 
-      leaves : (u : Thread) → u.event ≡ Some (acts.Drop held.hand true) → u.hands ≡ t.hands → u.vars ≡ t.vars → ((g : Held → ℕ) → references u.vars u.hands u.doing g ≡ in_vars t.vars g) → Asks w.shape u u.doing → UnderWay w.shape v' u.doing
-          → Comes w v (Exchange at seen new) drop found v' h d u
-      leaves u event_is hands vars all asks under = record {
+      leaves : (u : Thread) → u.event ≡ Some (acts.Drop held.hand true) → u.hands ≡ t.hands → u.vars ≡ t.vars → ((g : Held → ℕ) → references u.vars u.hands u.doing g ≡ in_vars t.vars g) → ComesOfClass w.classes v' u.doing → Asks w.shape u u.doing → UnderWay w.shape v' u.doing
+          → Comes w t v (Exchange at seen new) drop found v' h d u
+      leaves u event_is hands vars all coming asks under = record {
         takes_it = ((λ e. cc), tt);
         event = act ∙ sym event_is;
-        holds = subst (λ e. WordsHold Judged w.shape (extent_of w.shape) (Some (Exchange at seen new, drop)) (Some found) w.thread e h) (sym event_is)
+        holds = subst (λ e. WordsHold Judged w.shape (extent_of w.shape) (Some (Exchange at seen new, drop)) (Some found) w.thread e None h) (sym event_is)
             (no_entry_shown w.shape (extent_of w.shape) held.place seen new found w.thread drop (acts.Drop held.hand true) h entry_none);
+        knows = knows_none v';
         count = ap length vars ∙ f.count;
+        classed = subst (AreOfClasses w.classes v') (sym vars) (classed_then (Exchange at seen new) found v' told true act);
+        coming = coming;
         owns = subst (λ n. Owns v' n (references u.vars u.hands u.doing)) (sym hands) (owns_then (Exchange at seen new) found v' told true act (references u.vars u.hands u.doing) all);
         no_claim = claims_on w.shape 1 (acts.Drop held.hand true) v v' (called (Exchange at seen new) found v' told true act) no_entry f.no_claim;
         asks = asks;
@@ -428,12 +446,12 @@ module _ (w : Work) (t : Thread) (v : View) (held : Held) (a : AttemptAt) (f : F
           works : v'.working ≡ idle
           works = swap_works ∙ f.under_way.0.working
 
-          go : (kind : Kind) → IsCountedInline kind → OwesOne v' (duty_after kind) held.place → Comes w v (Exchange at seen new) drop found v' h d (last_gone kind held.place q)
-          go Strong counted_is owes = leaves (last_gone Strong held.place q) refl refl refl (λ g. omega arith) (
+          go : (kind : Kind) → IsCountedInline kind → OwesOne v' (duty_after kind) held.place → Comes w t v (Exchange at seen new) drop found v' h d (last_gone kind held.place q)
+          go Strong counted_is owes = leaves (last_gone Strong held.place q) refl refl refl (λ g. omega arith) tt (
             (λ j. record { layout = f.is_for.0 j; shape = f.is_for.1 j; slot = held.place; at = ats.Entering; event = None }),
             ap (λ (l : Extent). moves.Step (Store (number l (places.Next held.place)) 0) (intents.Deinit held.place)) f.is_for.0,
           ) (record { working = works; duty = owes; rests = tt })
-          go Unowned counted_is owes = leaves (last_gone Unowned held.place q) refl refl refl (λ g. omega arith) (
+          go Unowned counted_is owes = leaves (last_gone Unowned held.place q) refl refl refl (λ g. omega arith) tt (
             (λ j. record { layout = f.is_for.0 j; slot = held.place; at = once.Asked }),
             ap (λ (l : Extent). moves.Step (And (number l (SlotBits (held.place / 64))) (but_bit_of held.place)) intents.Vacate) f.is_for.0,
           ) (works, owes)
@@ -452,7 +470,7 @@ module _ (w : Work) (t : Thread) (v : View) (held : Held) (a : AttemptAt) (f : F
       where
         go : (c : Inline) → IsWordOf (Counts c) seen → (b : Bool) → act_of w.shape v (Exchange at seen new) drop found ≡ Some (acts.Drop held.hand b) → Swapped (ends_with b)
         go c word_is true act = last_one same c word_is act
-        go c word_is false act = gives_up (Exchange at seen new) found v' told d ((λ e. cc), tt) tt swap_works act
+        go c word_is false act = gives_up (Exchange at seen new) found v' told (attempt.Exchanging seen new) ((λ e. cc), tt) tt swap_works act
 
     abbrev answer : Bool → DownAnswer
     answer b = cond b (down_end_at None held.kind seen) (downs.Again (record { seen = seen; found = found }))
@@ -464,17 +482,17 @@ module _ (w : Work) (t : Thread) (v : View) (held : Held) (a : AttemptAt) (f : F
 
 pub drops_allowed : (w : Work) (t : Thread) (v : View) (held : Held) (plan : Fall) (step : Step) (intent : Intent) → Facts w t v (doings.Dropping held plan) → t.asked ≡ moves.Step step intent → Admits w.shape v step intent
 drops_allowed w t v held plan step intent f asked =
-    attempt_asked w.shape t.asked held.place (intents.Drop held.hand) (λ a x. Facts w t v (dropping w held a) → Admits w.shape v x.0 x.1) step intent asked
+    attempt_asked t.asked (number (extent_of w.shape) (Count held.place)) (intents.Drop held.hand) (λ a x. Facts w t v (dropping w held a) → Admits w.shape v x.0 x.1) step intent asked
     (λ g. load_allowed w t v held attempt.Loading g) (λ seen new g. swap_allowed w t v held (attempt.Exchanging seen new) g seen new refl) plan.at f.asks.1
     (subst (λ (p : Fall). Facts w t v (doings.Dropping held p)) f.asks.0 f)
 
 pub drops_come : (w : Work) (t : Thread) (v : View) (held : Held) (plan : Fall) (step : Step) (intent : Intent) (found : ℕ) (v' : View) → Facts w t v (doings.Dropping held plan) → t.asked ≡ moves.Step step intent → IsServedWord w.shape step intent found
-    → (told : Told w.shape intent step v found v') → Comes w v step intent found v' (told.between ++ v.seen) (doings.Dropping held plan) (turned_at (Some found) (doings.Dropping held plan) (quiet t))
+    → (told : Told w.shape intent step v found v') → Comes w t v step intent found v' (told.between ++ v.seen) (doings.Dropping held plan) (turned_at (Some found) (doings.Dropping held plan) (quiet t))
 drops_come w t v held plan step intent found v' f asked =
-    subst (λ (p : Fall). IsServedWord w.shape step intent found → (told : Told w.shape intent step v found v') → Comes w v step intent found v' (told.between ++ v.seen) (doings.Dropping held p) (turned_at (Some found) (doings.Dropping held p) (quiet t))) (sym f.asks.0)
-    (attempt_asked w.shape t.asked held.place (intents.Drop held.hand) Case step intent asked (λ g served told. load_comes w t v held attempt.Loading g found v' told refl served)
+    subst (λ (p : Fall). IsServedWord w.shape step intent found → (told : Told w.shape intent step v found v') → Comes w t v step intent found v' (told.between ++ v.seen) (doings.Dropping held p) (turned_at (Some found) (doings.Dropping held p) (quiet t))) (sym f.asks.0)
+    (attempt_asked t.asked (number (extent_of w.shape) (Count held.place)) (intents.Drop held.hand) Case step intent asked (λ g served told. load_comes w t v held attempt.Loading g found v' told refl served)
     (λ seen new g served told. swap_comes w t v held (attempt.Exchanging seen new) g seen new found v' told refl) plan.at f.asks.1 (subst (λ (p : Fall). Facts w t v (doings.Dropping held p)) f.asks.0 f))
   where
     Case : AttemptAt → Step × Intent → Type 0
     Case a x = Facts w t v (dropping w held a) → IsServedWord w.shape x.0 x.1 found
-        → (told : Told w.shape x.1 x.0 v found v') → Comes w v x.0 x.1 found v' (told.between ++ v.seen) (dropping w held a) (turned_at (Some found) (dropping w held a) (quiet t))
+        → (told : Told w.shape x.1 x.0 v found v') → Comes w t v x.0 x.1 found v' (told.between ++ v.seen) (dropping w held a) (turned_at (Some found) (dropping w held a) (quiet t))

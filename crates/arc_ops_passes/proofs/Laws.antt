@@ -28,27 +28,30 @@ use Rattle.arc_plan.specs.declared.slots.Once.TheVariants as once
 use Rattle.arc_plan.specs.Attempts.{Attempt}
 use Rattle.arc_plan.specs.Slots.{OneStep}
 use Rattle.arc_rule.specs.Bits.{but_bit_of}
-use Rattle.arc_cells.specs.declared.cascade.At.{At as CascadeAt}
-use Rattle.arc_cells.specs.declared.cascade.At.TheVariants as ats
-use Rattle.arc_cells.specs.Cascades.{CascadeState}
+use Rattle.arc_cells.specs.declared.bare.At.{At as CascadeAt}
+use Rattle.arc_cells.specs.declared.bare.At.TheVariants as ats
+use Rattle.arc_cells.specs.BareCascades.{CascadeState}
 use Rattle.arc_ops.specs.declared.stepper.Held.{Held}
 use Rattle.arc_ops.specs.declared.stepper.Doing.{Doing}
 use Rattle.arc_ops.specs.declared.stepper.Doing.TheVariants as doings
 use Rattle.arc_ops.specs.declared.stepper.Move.{Move}
 use Rattle.arc_ops.specs.declared.stepper.Move.TheVariants as moves
 use Rattle.arc_script.specs.declared.script.Op.{Op}
-use Rattle.arc_ops.specs.Programs.{program_of, vars_of, VarsFit}
+use Rattle.arc_programs.specs.Programs.{OpsDone}
+use Rattle.arc_programs.specs.ProgramsTied.{hands_in}
+use Rattle.arc_ops.specs.Programs.{phases_of, program_of, ops_in_first, vars_of, VarsFit}
 use Rattle.arc_ops.proofs.Made.{is_stepper}
-use Rattle.arc_ops.specs.Thread.{Thread}
+use Rattle.arc_ops.specs.Thread.{Thread, value}
 use Rattle.arc_ops.specs.Begins.{begun}
 use Rattle.arc_ops.specs.Turns.{turned_at}
 use Rattle.arc_ops.specs.Takes.{takes_at}
-use Rattle.arc_spelled.specs.StepperStands.{Work, StandsFor, IsStep, step_in}
+use Rattle.arc_spelled.specs.Came.{came_out_at}
+use Rattle.arc_spelled.specs.StepperStands.{Work, StandsFor, IsStep, step_in, variables}
 use Rattle.arc_spelled.specs.StepperStands as spelled
 use Rattle.arc_spelled.specs.Shown.{Adds}
 use Rattle.arc_model.specs.Spelling.{Note}
 use Rattle.arc_spelled.specs.Spelled.{with_event_of, WordsHold}
-use Rattle.arc_spelled.proofs.StepperKeeps.{stepper_goes_on}
+use Rattle.arc_spelled.proofs.StepperKeeps.{stepper_goes_on, served-too}
 use Rattle.arc_spelled.proofs.SteppersSpell.{steppers_begin, added_notes_are_tied, ready_steppers_have_done}
 use Rattle.arc_view.specs.declared.view.View.{View}
 use Rattle.arc_view.specs.Views.{private_words}
@@ -56,14 +59,16 @@ use Rattle.arc_view.specs.Holding.{heap_of}
 use Rattle.arc_view.specs.Admission.{Admits}
 use Rattle.arc_view.specs.Steps.{Told}
 use Rattle.arc_view.specs.Passes.{HoldsNothing}
-use Rattle.arc_ops_passes.specs.References.{weigh, in_vars, references, is_ref, has_hand, Owns}
+use Rattle.arc_ops_passes.specs.References.{weigh, in_vars, references, is_ref, has_hand, LeadsTo, Owns}
 use Rattle.arc_ops_passes.specs.Drives.{Asks, UnderWay, Drives}
 use Rattle.arc_ops_passes.specs.Laws.{NewSteppersDrive, ScriptsNameVariables, PhasesAreDone, PhasesBegin, StepsAreAllowed, SteppersDriveOn, EndedSteppersHoldNothing, IsServedWord}
 use Rattle.arc_ops_passes.proofs.Walks.{begins_walks}
-use Rattle.arc_ops_passes.proofs.Goes.{quiet, Facts, Comes, facts, goes_on, as_asked, fresh_under}
+use Rattle.arc_ops_passes.proofs.Goes.{quiet, known, ops_fit, Facts, Comes, facts, goes_on, as_asked, fresh_under, fresh_coming}
 use Rattle.arc_ops_passes.proofs.Owned.{owns_same}
 use Rattle.arc_ops_passes.proofs.Makes.{makes_allowed, makes_come}
 use Rattle.arc_ops_passes.proofs.Gains.{gains_allowed, gains_come}
+use Rattle.arc_ops_passes.proofs.Gets.{opens_allowed, opens_come, closes_allowed, closes_come}
+use Rattle.arc_ops_passes.proofs.Sets.{sets_allowed, sets_come, clears_allowed, clears_come}
 use Rattle.arc_ops_passes.proofs.Loads.{naming_allowed, naming_comes}
 use Rattle.arc_ops_passes.proofs.Vacates as vacates
 use Rattle.arc_ops_passes.proofs.Vacates.{vacating_allowed, vacating_comes}
@@ -92,7 +97,7 @@ dies_allowed w t v c step intent f asked = at c.at (subst (λ (d : CascadeState)
 
     vacating : (n : Once) → Facts w t v (dying w c.slot (ats.Vacating (record { layout = extent_of w.shape; slot = c.slot; at = n })) c.event) → Admits w.shape v step intent
     vacating once.Start g = absurd g.asks.1.1
-    vacating once.Asked g = may w v t.asked step (And (number (extent_of w.shape) (SlotBits (c.slot / 64))) (but_bit_of c.slot)) intent intents.Vacate g.asks.1.1 asked (vacates.vacate_allowed w t v c.slot (dying w c.slot (ats.Vacating (record { layout = extent_of w.shape; slot = c.slot; at = once.Asked })) c.event) g (λ x. omega arith) g.under_way.duty g.under_way.working)
+    vacating once.Asked g = may w v t.asked step (And (number (extent_of w.shape) (SlotBits (c.slot / 64))) (but_bit_of c.slot)) intent intents.Vacate g.asks.1.1 asked (vacates.vacate_allowed w t v c.slot (dying w c.slot (ats.Vacating (record { layout = extent_of w.shape; slot = c.slot; at = once.Asked })) c.event) g (λ x. omega arith) (λ found. refl) g.under_way.duty g.under_way.working)
     vacating once.Ended g = absurd g.asks.1.1
 
     at : (a : CascadeAt) → Facts w t v (dying w c.slot a c.event) → Admits w.shape v step intent
@@ -106,15 +111,15 @@ dies_allowed w t v c step intent f asked = at c.at (subst (λ (d : CascadeState)
     at ats.Ended g = absurd g.asks.1
 
 abbrev DyingCase : Work → Thread → View → ℕ → View → ℕ → Option Act → CascadeAt → Step × Intent → Type 0
-DyingCase w t v found v' s e a x = IsServedWord w.shape x.0 x.1 found → (told : Told w.shape x.1 x.0 v found v') → Comes w v x.0 x.1 found v' (told.between ++ v.seen) (dying w s a e) (turned_at (Some found) (dying w s a e) (quiet t))
+DyingCase w t v found v' s e a x = IsServedWord w.shape x.0 x.1 found → (told : Told w.shape x.1 x.0 v found v') → Comes w t v x.0 x.1 found v' (told.between ++ v.seen) (dying w s a e) (turned_at (Some found) (dying w s a e) (quiet t))
 
 come : (w : Work) (t : Thread) (v : View) (found : ℕ) (v' : View) (s : ℕ) (e : Option Act) (a : CascadeAt) (step other : Step) (intent its : Intent) → t.asked ≡ moves.Step other its → t.asked ≡ moves.Step step intent → DyingCase w t v found v' s e a (other, its) → DyingCase w t v found v' s e a (step, intent)
 come w t v found v' s e a = as_asked t.asked (DyingCase w t v found v' s e a)
 
 dies_come : (w : Work) (t : Thread) (v : View) (c : CascadeState) (step : Step) (intent : Intent) (found : ℕ) (v' : View) → Facts w t v (doings.Dying c) → t.asked ≡ moves.Step step intent → IsServedWord w.shape step intent found
-    → (told : Told w.shape intent step v found v') → Comes w v step intent found v' (told.between ++ v.seen) (doings.Dying c) (turned_at (Some found) (doings.Dying c) (quiet t))
+    → (told : Told w.shape intent step v found v') → Comes w t v step intent found v' (told.between ++ v.seen) (doings.Dying c) (turned_at (Some found) (doings.Dying c) (quiet t))
 dies_come w t v c step intent found v' f asked =
-    subst (λ (d : CascadeState). IsServedWord w.shape step intent found → (told : Told w.shape intent step v found v') → Comes w v step intent found v' (told.between ++ v.seen) (doings.Dying d) (turned_at (Some found) (doings.Dying d) (quiet t))) (sym f.asks.0)
+    subst (λ (d : CascadeState). IsServedWord w.shape step intent found → (told : Told w.shape intent step v found v') → Comes w t v step intent found v' (told.between ++ v.seen) (doings.Dying d) (turned_at (Some found) (doings.Dying d) (quiet t))) (sym f.asks.0)
     (at c.at (subst (λ (d : CascadeState). Facts w t v (doings.Dying d)) f.asks.0 f))
   where
     Case : CascadeAt → Type 0
@@ -131,7 +136,7 @@ dies_come w t v c step intent found v' f asked =
     vacating : (n : Once) → Facts w t v (dying w c.slot (ats.Vacating (record { layout = extent_of w.shape; slot = c.slot; at = n })) c.event) → Case (ats.Vacating (record { layout = extent_of w.shape; slot = c.slot; at = n }))
     vacating once.Start g = absurd g.asks.1.1
     vacating once.Asked g = let a = ats.Vacating (record { layout = extent_of w.shape; slot = c.slot; at = once.Asked }) in
-        come w t v found v' c.slot c.event a step (And (number (extent_of w.shape) (SlotBits (c.slot / 64))) (but_bit_of c.slot)) intent intents.Vacate g.asks.1.1 asked (λ served told. vacates.vacates w t v c.slot (dying w c.slot a c.event) g (λ x. omega arith) g.under_way.duty g.under_way.working found v' told tt)
+        come w t v found v' c.slot c.event a step (And (number (extent_of w.shape) (SlotBits (c.slot / 64))) (but_bit_of c.slot)) intent intents.Vacate g.asks.1.1 asked (λ served told. vacates.vacates w t v c.slot (dying w c.slot a c.event) g (λ x. omega arith) (λ found. refl) g.under_way.duty g.under_way.working found v' told tt)
     vacating once.Ended g = absurd g.asks.1.1
 
     at : (a : CascadeAt) → Facts w t v (dying w c.slot a c.event) → Case a
@@ -160,6 +165,10 @@ steps_are_allowed w t v step intent served stepper sized d asked = at t.doing (f
     at (doings.Making to name plan) f = makes_allowed w t v to name plan step intent f asked
     at (doings.Gaining gain to from plan) f = gains_allowed w t v gain to from plan step intent f asked
     at (doings.Naming to held plan) f = naming_allowed w t v to held plan step intent f asked
+    at (doings.Opening to cell plan) f = opens_allowed w t v to cell plan step intent f asked
+    at (doings.Closing to cell held plan) f = closes_allowed w t v to cell held plan step intent f asked
+    at (doings.Setting from cell plan) f = sets_allowed w t v from cell plan step intent f asked
+    at (doings.Clearing plan) f = clears_allowed w t v plan step intent f asked
     at (doings.Dropping held plan) f = drops_allowed w t v held plan step intent f asked
     at (doings.Dying c) f = dies_allowed w t v c step intent f asked
     at (doings.Vacating s plan) f = vacating_allowed w t v s plan step intent f asked
@@ -169,11 +178,15 @@ pub steppers_drive_on : SteppersDriveOn
 steppers_drive_on w t v step intent found v' served stepper sized d asked told word =
     goes_on w t v step intent found v' served d asked told (at t.doing (facts w t v served stepper sized d) word)
   where
-    at : (e : Doing) → Facts w t v e → IsServedWord w.shape step intent found → Comes w v step intent found v' (told.between ++ v.seen) e (turned_at (Some found) e (quiet t))
+    at : (e : Doing) → Facts w t v e → IsServedWord w.shape step intent found → Comes w t v step intent found v' (told.between ++ v.seen) e (turned_at (Some found) e (quiet t))
     at doings.Ready f word = no_step t.asked step intent f.asks asked
     at (doings.Making to name plan) f word = makes_come w t v to name plan step intent found v' f asked told
     at (doings.Gaining gain to from plan) f word = gains_come w t v gain to from plan step intent found v' f asked word told
     at (doings.Naming to held plan) f word = naming_comes w t v to held plan step intent found v' f asked told
+    at (doings.Opening to cell plan) f word = opens_come w t v to cell plan step intent found v' f asked told
+    at (doings.Closing to cell held plan) f word = closes_come w t v to cell held plan step intent found v' f asked told
+    at (doings.Setting from cell plan) f word = sets_come w t v from cell plan step intent found v' f asked told
+    at (doings.Clearing plan) f word = clears_come w t v plan step intent found v' f asked told
     at (doings.Dropping held plan) f word = drops_come w t v held plan step intent found v' f asked word told
     at (doings.Dying c) f word = dies_come w t v c step intent found v' f asked word told
     at (doings.Vacating s plan) f word = vacating_comes w t v s plan step intent found v' f asked told
@@ -185,6 +198,11 @@ none_in : (n : ℕ) (f : Held → ℕ) → in_vars (replicate n None) f ≡ 0
 none_in zero f = refl
 none_in (suc n) f = let c = sum_by-cons (weigh f) None (replicate n None) in let h = none_in n f in omega arith
 
+nil_in : (n x : ℕ) (held : Held) → value (replicate n None) x ≡ Some held → ⊥
+nil_in zero x held e = cc
+nil_in (suc n) zero held e = cc
+nil_in (suc n) (suc x) held e = nil_in n x held e
+
 pub new_steppers_drive : NewSteppersDrive
 new_steppers_drive script p came v n = record {
   pass = n.pass;
@@ -192,7 +210,7 @@ new_steppers_drive script p came v n = record {
   legal = n.legal;
   in_shape = n.in_shape;
   notes = [];
-  stands = steppers_begin script p came;
+  stands = steppers_begin script p (hands_in v.number v.seen);
   tied = subst (Ties Judged script.shape p []) (append-nil v.seen) (ties_others Judged script.shape p [] [] v.seen n.unused start);
   count = length-replicate (vars_of script p) None;
   owns = record {
@@ -201,6 +219,8 @@ new_steppers_drive script p came v n = record {
     below = λ k one. let z = zero_of (has_hand k) in absurd (omega arith);
     only = λ k none. ap (λ q. spot (Hand q k) (heap_of v)) n.number ∙ untouched.hands k;
   };
+  classed = λ x held e. absurd (nil_in (vars_of script p) x held e);
+  coming = tt;
   no_claim = λ e has. true≢false (sym has ∙ (ap (λ q. is_claimed_by q e (heap_of v)) n.number ∙ untouched.claims e));
   asks = refl;
   under_way = record { working = n.working; none = λ i. ap (λ q. duty_of q i (heap_of v)) n.number ∙ untouched.duties i };
@@ -217,13 +237,21 @@ scripts_name_variables script p came valid served within =
     subst (λ n. All (VarsFit n) (program_of script p)) (length-replicate (vars_of script p) None) (is_stepper script p valid served within).vars_fit
 
 pub phases_are_done : PhasesAreDone
-phases_are_done script p came any t v served d asked = record { notes = d.notes; tied = d.tied; done = ready_steppers_have_done script p came any t d.notes served d.stands asked }
+phases_are_done script p came t v d asked = record {
+  notes = d.notes;
+  tied = d.tied;
+  done = subst (λ q. OpsDone script.shape p (hands_in q v.seen) (program_of script p) (vars_of script p) (ops_in_first t.phase (phases_of script p)) (variables t.vars) d.notes) d.number
+      (ready_steppers_have_done script p (hands_in v.number v.seen) t d.notes d.stands asked);
+}
 
 pub phases_begin : PhasesBegin
-phases_begin w t v served fits d asked = at t.doing d.stands.asks d.owns d.under_way (λ takes. let g = stepper_goes_on w served t None d.notes d.stands takes in (g.after, g.adds, g.stands))
+phases_begin w t v served fits d asked = at t.doing d.stands.asks d.owns d.under_way (λ takes out.
+    let more = hands_in v.number v.seen in
+    let g = stepper_goes_on (known v w) (served-too w more served) more t None d.notes d.stands takes (λ k r e. e) (λ x e. absurd (None≢Some x (sym out ∙ e))) in
+    (g.after, g.adds, g.stands))
   where
     Went : Doing → Type 0
-    Went e = takes_at t.shape None e → (after : List Note) × Adds (extent_of w.shape) (step_in t.asked) None (turned_at None e (quiet t)).event d.notes after × StandsFor w (turned_at None e (quiet t)) after
+    Went e = takes_at t.shape None e → came_out_at t None e ≡ None → (after : List Note) × Adds (extent_of w.shape) (step_in t.asked) None (turned_at None e (quiet t)).event (came_out_at t None e) d.notes after × StandsFor (known v w) (turned_at None e (quiet t)) after
 
     Begins : Doing → Type 0
     Begins e = takes_at t.shape None e × Drives w (turned_at None e (quiet t)) v × ((turned_at None e (quiet t)).event ≡ None)
@@ -240,11 +268,11 @@ phases_begin w t v served fits d asked = at t.doing d.stands.asks d.owns d.under
 
     at : (e : Doing) → spelled.Asks e t.asked → Owns v t.hands (references t.vars t.hands e) → UnderWay w.shape v e → Went e → Begins e
     at doings.Ready asks owns under went =
-        let g = went refl in
+        let g = went refl refl in
         let u : Thread = begun (quiet t) in
-        let walk = begins_walks w.shape (quiet t) (d.stands.works.layout_is, d.stands.works.shape_is) vars_fit in
-        let holds : WordsHold Judged w.shape (extent_of w.shape) (step_in t.asked) None w.thread u.event v.seen = record { names = λ slot x i a why l. absurd (None≢Some x l); entries = λ slot x n act i c e a takes l. absurd (None≢Some x l) } in
-        let tied = added_notes_are_tied Judged w.shape (extent_of w.shape) (step_in t.asked) None w.thread u.event v.seen d.notes g.0 g.1 holds d.tied in (
+        let walk = begins_walks w (LeadsTo v) (quiet t) (d.stands.works.layout_is, d.stands.works.shape_is) (ops_fit w (length t.vars) t.program served vars_fit d.stands.works.program_is) d.classed in
+        let holds : WordsHold Judged w.shape (extent_of w.shape) (step_in t.asked) None w.thread u.event None v.seen = record { names = λ slot x i a why l. absurd (None≢Some x l); refers = λ x e. absurd (None≢Some x e); entries = λ slot x n act i c e a takes l. absurd (None≢Some x l) } in
+        let tied = added_notes_are_tied Judged w.shape (extent_of w.shape) (step_in t.asked) None w.thread u.event None v.seen d.notes g.0 g.1 holds d.tied in (
           refl,
           record {
             pass = d.pass;
@@ -256,6 +284,8 @@ phases_begin w t v served fits d asked = at t.doing d.stands.asks d.owns d.under
             tied = subst (λ (x : Option Act). Ties Judged w.shape w.thread g.0 (with_event_of w.thread x v.seen)) walk.event tied;
             count = walk.count ∙ d.count;
             owns = subst (λ n. Owns v n (references u.vars u.hands u.doing)) (sym walk.hands) (owns_same v t.hands (references t.vars t.hands doings.Ready) (references u.vars u.hands u.doing) owns (λ f. let x = walk.same f in omega arith));
+            classed = walk.classed;
+            coming = fresh_coming w.classes v u.doing walk.fresh;
             no_claim = d.no_claim;
             asks = walk.asks;
             under_way = fresh_under w.shape v u.doing walk.fresh under.working under.none;
@@ -265,6 +295,10 @@ phases_begin w t v served fits d asked = at t.doing d.stands.asks d.owns d.under
     at (doings.Making to name plan) asks owns under went = no (doings.Making to name plan) asks
     at (doings.Gaining gain to from plan) asks owns under went = no (doings.Gaining gain to from plan) asks
     at (doings.Naming to held plan) asks owns under went = no (doings.Naming to held plan) asks
+    at (doings.Opening to cell plan) asks owns under went = no (doings.Opening to cell plan) asks
+    at (doings.Closing to cell held plan) asks owns under went = no (doings.Closing to cell held plan) asks
+    at (doings.Setting from cell plan) asks owns under went = no (doings.Setting from cell plan) asks
+    at (doings.Clearing plan) asks owns under went = no (doings.Clearing plan) asks
     at (doings.Dropping held plan) asks owns under went = no (doings.Dropping held plan) asks
     at (doings.Dying c) asks owns under went = no (doings.Dying c) asks
     at (doings.Vacating s plan) asks owns under went = no (doings.Vacating s plan) asks
@@ -285,6 +319,10 @@ ended_steppers_hold_nothing w t v d ended = at t.doing d.stands.asks d.asks d.ow
     at (doings.Making to name plan) step asks owns under = no step
     at (doings.Gaining gain to from plan) step asks owns under = no step
     at (doings.Naming to held plan) step asks owns under = no step
+    at (doings.Opening to cell plan) step asks owns under = no step
+    at (doings.Closing to cell held plan) step asks owns under = no step
+    at (doings.Setting from cell plan) step asks owns under = no step
+    at (doings.Clearing plan) step asks owns under = no step
     at (doings.Dropping held plan) step asks owns under = no step
     at (doings.Dying c) step asks owns under = no step
     at (doings.Vacating s plan) step asks owns under = no step

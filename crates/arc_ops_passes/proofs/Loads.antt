@@ -21,6 +21,7 @@ use Rattle.arc_ops.specs.declared.stepper.Held.{Held}
 use Rattle.arc_ops.specs.declared.stepper.Doing.{Doing}
 use Rattle.arc_ops.specs.declared.stepper.Doing.TheVariants as doings
 use Rattle.arc_ops.specs.declared.stepper.Move.TheVariants as moves
+use Rattle.arc_ops.specs.Programs.{class_of}
 use Rattle.arc_ops.specs.Thread.{Thread, put}
 use Rattle.arc_ops.specs.Drops.{replaced}
 use Rattle.arc_ops.specs.Turns.{turned_at}
@@ -33,11 +34,11 @@ use Rattle.arc_view.specs.Admission.{Admits}
 use Rattle.arc_view.specs.Steps.{Told}
 use Rattle.arc_view.proofs.Held.{held_stays}
 use Rattle.arc_view_laws.proofs.Moving.{legal_tail}
-use Rattle.arc_ops_passes.specs.References.{Leads}
-use Rattle.arc_ops_passes.proofs.Walks.{replaced_walks}
-use Rattle.arc_ops_passes.proofs.Owned.{not_weak, ref-itself}
+use Rattle.arc_ops_passes.specs.References.{Leads, LeadsTo}
+use Rattle.arc_ops_passes.proofs.Walks.{replaced_walks, new-some}
+use Rattle.arc_ops_passes.proofs.Owned.{not_weak, ref-itself, to_still}
 use Rattle.arc_ops_passes.proofs.Names.{NameRead, name_read, name_shown}
-use Rattle.arc_ops_passes.proofs.Goes.{quiet, Facts, Comes, once_asked, told_by, fresh_under, owes_still, stays_shown}
+use Rattle.arc_ops_passes.proofs.Goes.{quiet, Facts, Comes, once_asked, told_by, fresh_under, fresh_coming, owes_still, classed_still, stays_shown}
 
 abbrev pub naming : Work → ℕ → Held → Once → Doing
 naming w to held a = doings.Naming to held (record { layout = extent_of w.shape; slot = held.place; at = a })
@@ -82,12 +83,13 @@ module _ (w : Work) (t : Thread) (v : View) (to : ℕ) (held : Held) (f : Facts 
     abbrev got : Thread
     got = put (answers.Got (isa_name_of found)) (quiet t)
 
-    pub name_comes : Comes w v ReadName intents.Look found v' h (naming w to held once.Asked) (replaced to (Some held) got)
+    pub name_comes : Comes w t v ReadName intents.Look found v' h (naming w to held once.Asked) (replaced to (Some held) got)
     name_comes =
         let c = told_by w.shape intents.Look ReadName v found v' None act told in
         let u : Thread = replaced to (Some held) got in
-        let walk = replaced_walks w.shape got to (Some held) f.is_for f.stepper.vars_fit f.fits.0 in
-        stays_shown w t v ReadName intents.Look found v' (naming w to held once.Asked) u told f (read.takes.0, read.takes) act walk.event (name_shown w.shape (extent_of w.shape) held.place found w.thread intents.Look h read.named) walk.hands walk.count walk.same walk.asks
+        let here = to_still w.shape 1 v v' held (class_of w.classes to) c f.coming in
+        let walk = replaced_walks w (LeadsTo v') got to (Some held) f.is_for f.fit f.fits.0 (classed_still w.shape 1 w.classes v v' t.vars c f.classed) (new-some (LeadsTo v') (class_of w.classes to) held here) in
+        stays_shown w t v ReadName intents.Look found v' (naming w to held once.Asked) u told f (read.takes.0, read.takes) refl act walk.event (name_shown w.shape (extent_of w.shape) held.place found w.thread intents.Look h read.named) walk.hands walk.count walk.same walk.classed (fresh_coming w.classes v' u.doing walk.fresh) walk.asks
         (fresh_under w.shape v' u.doing walk.fresh (works ∙ f.under_way.working) (owes_still w.shape 1 v v' c f.under_way.none))
 
 -- ---- by where the plan is
@@ -98,11 +100,11 @@ naming_allowed w t v to held plan step intent f asked =
     (λ g. name_allowed w t v to held g) plan.at f.asks.1 (subst (λ (p : OneStep). Facts w t v (doings.Naming to held p)) f.asks.0 f)
 
 pub naming_comes : (w : Work) (t : Thread) (v : View) (to : ℕ) (held : Held) (plan : OneStep) (step : Step) (intent : Intent) (found : ℕ) (v' : View) → Facts w t v (doings.Naming to held plan) → t.asked ≡ moves.Step step intent
-    → (told : Told w.shape intent step v found v') → Comes w v step intent found v' (told.between ++ v.seen) (doings.Naming to held plan) (turned_at (Some found) (doings.Naming to held plan) (quiet t))
+    → (told : Told w.shape intent step v found v') → Comes w t v step intent found v' (told.between ++ v.seen) (doings.Naming to held plan) (turned_at (Some found) (doings.Naming to held plan) (quiet t))
 naming_comes w t v to held plan step intent found v' f asked =
-    subst (λ (p : OneStep). (told : Told w.shape intent step v found v') → Comes w v step intent found v' (told.between ++ v.seen) (doings.Naming to held p) (turned_at (Some found) (doings.Naming to held p) (quiet t))) (sym f.asks.0)
+    subst (λ (p : OneStep). (told : Told w.shape intent step v found v') → Comes w t v step intent found v' (told.between ++ v.seen) (doings.Naming to held p) (turned_at (Some found) (doings.Naming to held p) (quiet t))) (sym f.asks.0)
     (once_asked t.asked (Load (number (extent_of w.shape) (Isa held.place))) intents.Look Case step intent asked (λ g told. name_comes w t v to held g found v' told) plan.at f.asks.1
     (subst (λ (p : OneStep). Facts w t v (doings.Naming to held p)) f.asks.0 f))
   where
     Case : Once → Step × Intent → Type 0
-    Case a x = Facts w t v (naming w to held a) → (told : Told w.shape x.1 x.0 v found v') → Comes w v x.0 x.1 found v' (told.between ++ v.seen) (naming w to held a) (turned_at (Some found) (naming w to held a) (quiet t))
+    Case a x = Facts w t v (naming w to held a) → (told : Told w.shape x.1 x.0 v found v') → Comes w t v x.0 x.1 found v' (told.between ++ v.seen) (naming w to held a) (turned_at (Some found) (naming w to held a) (quiet t))

@@ -47,7 +47,8 @@ use Rattle.arc_script.specs.declared.script.Op.TheVariants as op
 use Rattle.arc_ops.specs.declared.stepper.Doing.{Doing}
 use Rattle.arc_ops.specs.declared.stepper.Doing.TheVariants as doings
 use Rattle.arc_ops.specs.declared.stepper.Move.TheVariants as moves
-use Rattle.arc_ops.specs.Programs.{ClassFits}
+use Rattle.arc_ops.specs.Programs.{ClassFits, ClassesFit, class_of}
+use Rattle.arc_spelled.proofs.KindsKept.{holds-at}
 use Rattle.arc_ops.specs.Thread.{Thread, put}
 use Rattle.arc_ops.specs.Plans.{make_begun_as}
 use Rattle.arc_ops.specs.Begins.{next_op}
@@ -72,11 +73,11 @@ use Rattle.arc_view.proofs.Strongs.{slot_found}
 use Rattle.arc_view.proofs.Held.{held_stays, strong≢weak}
 use Rattle.arc_view_laws.proofs.Counted.{counted_same}
 use Rattle.arc_view_laws.proofs.Moving.{moved}
-use Rattle.arc_ops_passes.specs.References.{in_vars, references, Leads, Owns}
+use Rattle.arc_ops_passes.specs.References.{in_vars, references, Leads, LeadsTo, Owns}
 use Rattle.arc_ops_passes.specs.Drives.{SearchAsks, IsMade}
-use Rattle.arc_ops_passes.proofs.Walks.{Walks, make_walks, next_walks, replaced_walks}
-use Rattle.arc_ops_passes.proofs.Owned.{leads_on, owns_more, ref-itself}
-use Rattle.arc_ops_passes.proofs.Goes.{quiet, Facts, Comes, as_asked, told_by, fresh_under, owes_still, owes_on, claims_on, owns_on, nothing_shown, stays}
+use Rattle.arc_ops_passes.proofs.Walks.{Walks, make_walks, next_walks, replaced_walks, new-some}
+use Rattle.arc_ops_passes.proofs.Owned.{leads_on, to_still, owns_more, ref-itself}
+use Rattle.arc_ops_passes.proofs.Goes.{quiet, Facts, Comes, known, knows_none, as_asked, told_by, fresh_under, fresh_coming, classed_still, classed_on, owes_still, owes_on, claims_on, owns_on, nothing_shown, stays}
 
 lt_true : (a b : ℕ) → a < b → nat_lt a b ≡ true
 lt_true a b lt = lt-ltb a b lt
@@ -177,13 +178,13 @@ module _ (w : Work) (t : Thread) (v : View) (to : ℕ) (name : ObjectName) where
       abbrev asks : Search → Step → Thread
       asks a step = record (quiet t) { doing = making w to name a; asked = moves.Step step new }
 
-      pub takes_it_up : (s : ℕ) → free_slot w.shape.slots k found ≡ Some s → Comes w v (looking (extent_of w.shape) k) new found v' h d (asks (search.Taking s found) (taking (extent_of w.shape) s))
+      pub takes_it_up : (s : ℕ) → free_slot w.shape.slots k found ≡ Some s → Comes w t v (looking (extent_of w.shape) k) new found v' h d (asks (search.Taking s found) (taking (extent_of w.shape) s))
       takes_it_up s e =
           let clear = free_is_clear w.shape.slots k found s e in
           let act : act_of w.shape v (looking (extent_of w.shape) k) new found ≡ None =
           act_is false (second_fails (suc k == words_of w.shape.slots) (found == full) (searched at w.shape.slots (made_in v.number v.seen) k v.trail) (ne_eqb found full (not_full w.shape.slots k s found clear.0 clear.1))) in
           let c = told_by w.shape new (looking (extent_of w.shape) k) v found v' None act told in
-          stays w t v (looking (extent_of w.shape) k) new found v' d (asks (search.Taking s found) (taking (extent_of w.shape) s)) told f (λ x. cc) act refl tt refl refl (λ g. refl) (refl, refl)
+          stays w t v (looking (extent_of w.shape) k) new found v' d (asks (search.Taking s found) (taking (extent_of w.shape) s)) told f (λ x. cc) refl act refl tt refl refl (λ g. refl) (classed_still w.shape 1 w.classes v v' t.vars c f.classed) tt (refl, refl)
           (works ∙ f.under_way.0, owes_still w.shape 1 v v' c f.under_way.1, tt)
 
       -- the words with this one
@@ -198,28 +199,31 @@ module _ (w : Work) (t : Thread) (v : View) (to : ℕ) (name : ObjectName) where
           ∙ (ap (λ n. searched at w.shape.slots n k v.trail) made_is ∙ tries) in
           (λ j. searched at w.shape.slots (made_in (number_is j) (seen j)) (add-one k j) (trail j)) ∙ step
 
-      pub looks_on : found ≡ full → k + 1 < words_of w.shape.slots → Comes w v (looking (extent_of w.shape) k) new found v' h d (asks (search.Looking (k + 1)) (looking (extent_of w.shape) (k + 1)))
+      pub looks_on : found ≡ full → k + 1 < words_of w.shape.slots → Comes w t v (looking (extent_of w.shape) k) new found v' h d (asks (search.Looking (k + 1)) (looking (extent_of w.shape) (k + 1)))
       looks_on is_full less =
           let act : act_of w.shape v (looking (extent_of w.shape) k) new found ≡ None =
           act_is false (first_fails (suc k == words_of w.shape.slots) (found == full) (searched at w.shape.slots (made_in v.number v.seen) k v.trail) (ne_eqb (suc k) (words_of w.shape.slots) (λ e. omega (arith, e, less)))) in
           let c = told_by w.shape new (looking (extent_of w.shape) k) v found v' None act told in
           let seen : v'.seen ≡ h = ap (λ (x : View). x.seen) told.after ∙ ap (λ a. event_list v.number a ++ h) act in
-          stays w t v (looking (extent_of w.shape) k) new found v' d (asks (search.Looking (k + 1)) (looking (extent_of w.shape) (k + 1))) told f (λ x. cc) act refl tt refl refl (λ g. refl) (refl, refl)
+          stays w t v (looking (extent_of w.shape) k) new found v' d (asks (search.Looking (k + 1)) (looking (extent_of w.shape) (k + 1))) told f (λ x. cc) refl act refl tt refl refl (λ g. refl) (classed_still w.shape 1 w.classes v v' t.vars c f.classed) tt (refl, refl)
           (works ∙ f.under_way.0, owes_still w.shape 1 v v' c f.under_way.1, more_tries seen is_full)
 
       abbrev finds_full : Thread
       finds_full = next_op (put answers.Full (record (quiet t) { event = Some acts.Full }))
 
-      pub finds_none : found ≡ full → k + 1 ≡ words_of w.shape.slots → Comes w v (looking (extent_of w.shape) k) new found v' h d finds_full
+      pub finds_none : found ≡ full → k + 1 ≡ words_of w.shape.slots → Comes w t v (looking (extent_of w.shape) k) new found v' h d finds_full
       finds_none is_full last =
           let act : act_of w.shape v (looking (extent_of w.shape) k) new found ≡ Some acts.Full =
           act_is true (three (suc k == words_of w.shape.slots) (found == full) (searched at w.shape.slots (made_in v.number v.seen) k v.trail) (eq-eqb (suc k) (words_of w.shape.slots) (omega (arith, last))) (eq-eqb found full is_full) tries) in
           let c = told_by w.shape new (looking (extent_of w.shape) k) v found v' (Some acts.Full) act told in
-          let m : Walks w.shape (put answers.Full (record (quiet t) { event = Some acts.Full })) finds_full (in_vars t.vars) = next_walks w.shape (put answers.Full (record (quiet t) { event = Some acts.Full })) f.is_for f.stepper.vars_fit in record {
+          let m : Walks w (LeadsTo v') (put answers.Full (record (quiet t) { event = Some acts.Full })) finds_full (in_vars t.vars) = next_walks w (LeadsTo v') (put answers.Full (record (quiet t) { event = Some acts.Full })) f.is_for f.fit (classed_on w.shape 1 acts.Full w.classes v v' t.vars c (λ x held e. refl) f.classed) in record {
             takes_it = λ e. cc;
             event = act ∙ sym m.event;
-            holds = subst (λ e. WordsHold Judged w.shape (extent_of w.shape) (Some (looking (extent_of w.shape) k, new)) (Some found) w.thread e h) (sym m.event) (nothing_shown w.shape (extent_of w.shape) (looking (extent_of w.shape) k) new found w.thread (Some acts.Full) h tt tt);
+            holds = subst (λ e. WordsHold Judged w.shape (extent_of w.shape) (Some (looking (extent_of w.shape) k, new)) (Some found) w.thread e None h) (sym m.event) (nothing_shown w.shape (extent_of w.shape) (looking (extent_of w.shape) k) new found w.thread (Some acts.Full) h tt tt);
+            knows = knows_none v';
             count = m.count ∙ f.count;
+            classed = m.classed;
+            coming = fresh_coming w.classes v' finds_full.doing m.fresh;
             owns = subst (λ n. Owns v' n (references finds_full.vars finds_full.hands finds_full.doing)) (sym m.hands)
                 (owns_on w.shape 1 acts.Full v v' t.hands (references t.vars t.hands d) (references finds_full.vars finds_full.hands finds_full.doing) c (λ h. refl) refl f.owns (λ g. let e = m.same g in omega arith));
             no_claim = claims_on w.shape 1 acts.Full v v' c (λ m e. refl) f.no_claim;
@@ -227,11 +231,11 @@ module _ (w : Work) (t : Thread) (v : View) (to : ℕ) (name : ObjectName) where
             under_way = fresh_under w.shape v' finds_full.doing m.fresh (works ∙ f.under_way.0) (owes_on w.shape 1 acts.Full v v' c (λ i h. refl) f.under_way.1);
           }
 
-      pub look_comes : Comes w v (looking (extent_of w.shape) k) new found v' h d (turned_at (Some found) d (quiet t))
+      pub look_comes : Comes w t v (looking (extent_of w.shape) k) new found v' h d (turned_at (Some found) d (quiet t))
       look_comes = go (free_slot w.shape.slots k found) refl
         where
           Then : Search → Next NewObjectAnswer → Type 0
-          Then a next = Comes w v (looking (extent_of w.shape) k) new found v' h d (made_on to name (plan a) next (quiet t))
+          Then a next = Comes w t v (looking (extent_of w.shape) k) new found v' h d (made_on to name (plan a) next (quiet t))
 
           next_if : Bool → Search
           next_if b = cond b (search.Looking (k + 1)) search.Ended
@@ -258,7 +262,7 @@ module _ (w : Work) (t : Thread) (v : View) (to : ℕ) (name : ObjectName) where
     not_owed : v.working.owes ≡ None
     not_owed = ap (λ (x : Working). x.owes) f.under_way.0
 
-    is_making : IsMaking w t.index to name t.vars f.notes
+    is_making : IsMaking (known v w) t.index to name t.vars f.notes
     is_making = f.up_to
 
     room : news v.number v.seen < 100000
@@ -346,12 +350,15 @@ module _ (w : Work) (t : Thread) (v : View) (to : ℕ) (name : ObjectName) where
             let m = moved w.shape look 1 v v' called in
             m.hands k ∙ ap (λ b. cond b (brought (heap_after m.met) v.number look) (spot (Hand v.number k) (heap_of v))) (ne_eqb (t.hands + 1) k (λ e. ne (sym e)))
 
-        pub takes_slot : Comes w v (taking (extent_of w.shape) s) new found v' h_taken d_taking took
+        pub takes_slot : Comes w t v (taking (extent_of w.shape) s) new found v' h_taken d_taking took
         takes_slot = record {
           takes_it = λ e. cc;
           event = hit_act_is hit;
           holds = nothing_shown w.shape (extent_of w.shape) (taking (extent_of w.shape) s) new found w.thread took.event h_taken tt tt;
+          knows = knows_none v';
           count = f.count;
+          classed = classed_on w.shape 1 look w.classes v v' t.vars called (λ x held e. refl) f.classed;
+          coming = tt;
           owns = owns_more v v' t.hands (references t.vars t.hands d_taking) (references took.vars took.hands took.doing) (strong_to (t.hands + 1) s) f.owns refl (λ g. omega arith) leads (λ x. leads_on w.shape look 1 v v' x called refl) spots;
           no_claim = claims_on w.shape 1 look v v' called (λ m e. refl) f.no_claim;
           asks = (refl, refl);
@@ -366,20 +373,20 @@ module _ (w : Work) (t : Thread) (v : View) (to : ℕ) (name : ObjectName) where
       abbrev anew : Thread
       anew = make_begun_as to name (quiet t)
 
-      pub begins_anew : bits ≢ 0 → Comes w v (taking (extent_of w.shape) s) new found v' h_taken d_taking anew
+      pub begins_anew : bits ≢ 0 → Comes w t v (taking (extent_of w.shape) s) new found v' h_taken d_taking anew
       begins_anew ne =
           let act : act_of w.shape v (taking (extent_of w.shape) s) new found ≡ None =
           ap (λ b. cond b (or_act v (place_at (extent_of w.shape) (at (s / 64))) (bit_of s) new) None) (ne_eqb bits 0 ne) in
           let c = told_by w.shape new (taking (extent_of w.shape) s) v found v' None act told in
-          let m = make_walks w.shape to name (quiet t) (quiet t) (in_vars t.vars) f.is_for refl refl refl (λ g. refl) in
-          stays w t v (taking (extent_of w.shape) s) new found v' d_taking anew told f (λ x. cc) act m.event tt m.hands m.count (λ g. let e = m.same g in omega arith) m.asks
+          let m = make_walks w (LeadsTo v') to name (quiet t) (quiet t) (in_vars t.vars) f.is_for refl refl refl (λ g. refl) (classed_still w.shape 1 w.classes v v' t.vars c f.classed) in
+          stays w t v (taking (extent_of w.shape) s) new found v' d_taking anew told f (λ x. cc) refl act m.event tt m.hands m.count (λ g. let e = m.same g in omega arith) m.classed (fresh_coming w.classes v' anew.doing m.fresh) m.asks
           (fresh_under w.shape v' anew.doing m.fresh (works_taken false (ne_eqb bits 0 ne) ∙ f.under_way.0) (owes_still w.shape 1 v v' c f.under_way.1))
 
-      pub take_comes : Comes w v (taking (extent_of w.shape) s) new found v' h_taken d_taking (turned_at (Some found) d_taking (quiet t))
+      pub take_comes : Comes w t v (taking (extent_of w.shape) s) new found v' h_taken d_taking (turned_at (Some found) d_taking (quiet t))
       take_comes = dite (ℕ_discrete bits 0) (λ e. subst Then (sym (eq-eqb bits 0 e)) (takes_slot e)) (λ ne. subst Then (sym (ne_eqb bits 0 ne)) (begins_anew ne))
         where
           Then : Bool → Type 0
-          Then b = Comes w v (taking (extent_of w.shape) s) new found v' h_taken d_taking
+          Then b = Comes w t v (taking (extent_of w.shape) s) new found v' h_taken d_taking
               (made_on to name (plan (cond b (search.Counting s) search.Ended)) (cond b (nexts.Step (counting (extent_of w.shape) immortal s)) (nexts.Done (Again (record { seen = seen; found = found })))) (quiet t))
 
   -- ---- while it stores the inline word
@@ -438,10 +445,10 @@ module _ (w : Work) (t : Thread) (v : View) (to : ℕ) (name : ObjectName) where
       abbrev counted : Thread
       counted = record (quiet t) { doing = making w to name (search.Naming s); asked = moves.Step (naming (extent_of w.shape) name s) new }
 
-      pub count_comes : Comes w v (counting (extent_of w.shape) immortal s) new found v' h_counted d_counting counted
+      pub count_comes : Comes w t v (counting (extent_of w.shape) immortal s) new found v' h_counted d_counting counted
       count_comes =
           let c = told_by w.shape new (counting (extent_of w.shape) immortal s) v found v' None act_none told in
-          stays w t v (counting (extent_of w.shape) immortal s) new found v' d_counting counted told f (λ e. cc) act_none refl tt refl refl (λ g. refl) (refl, refl) (
+          stays w t v (counting (extent_of w.shape) immortal s) new found v' d_counting counted told f (λ e. cc) refl act_none refl tt refl refl (λ g. refl) (classed_still w.shape 1 w.classes v v' t.vars c f.classed) tt (refl, refl) (
             ap (λ (x : View). x.working) told.after ∙ (ap (λ (q : Place). working_stored (number (extent_of w.shape)) v.working q (new_word immortal) new) (place_at-number (extent_of w.shape) (Count s) in_slot_of)
                 ∙ ap (λ (x : Working). record x { owes = Some (record { slot = s; counted = true }) }) f.under_way.0),
             owes_still w.shape 1 v v' c f.under_way.1,
@@ -456,6 +463,15 @@ module _ (w : Work) (t : Thread) (v : View) (to : ℕ) (name : ObjectName) where
     pub name_allowed : Admits w.shape v (naming (extent_of w.shape) name s) new
     name_allowed = let n = f.under_way.2 in (Isa s, refl, in_slot, (record { slot = s; counted = true }, n.0, ap (λ (x : Working). x.owes) f.under_way.0, n.1, inr (refl, refl, ap isa_word_of (sym n.2))))
 
+    -- its object is of the variable's class
+    of_class : LeadsTo v (strong_to t.hands s) (class_of w.classes to)
+    of_class =
+        let r = f.owns.leads (strong_to t.hands s) (let one = ref-itself (strong_to t.hands s) in omega arith) in
+        let n : IsMade v name s = f.under_way.2 in
+        let same : r.2 ≡ n.0 = Some-inj (sym (slot_found w.shape v.seen r.1 s r.2 f.legal r.4 r.5) ∙ n.1) in
+        let fits : class_of w.classes to ≡ name.class = holds-at (ClassesFit w.shape.globals w.classes) w.program t.index (op.New to name.class) f.served.classes_fit f.up_to.making.begun.there in
+        (r.0, r.1, r.2, r.3, r.4, r.5, ap (λ (o : Object). o.class) same ∙ (ap (λ (x : ObjectName). x.class) n.2 ∙ sym fits))
+
     module _ (found : ℕ) (v' : View) (told : Told w.shape new (naming (extent_of w.shape) name s) v found v') where
       abbrev named_thread : Thread
       named_thread = put (answers.New name) (quiet t)
@@ -466,13 +482,14 @@ module _ (w : Work) (t : Thread) (v : View) (to : ℕ) (name : ObjectName) where
       name_act : act_of w.shape v (naming (extent_of w.shape) name s) new found ≡ None
       name_act = ap (λ (q : Place). stored_act v q new) (place_at-number (extent_of w.shape) (Isa s) in_slot)
 
-      pub name_comes : Comes w v (naming (extent_of w.shape) name s) new found v' (told.between ++ v.seen) (making w to name (search.Naming s)) done
+      pub name_comes : Comes w t v (naming (extent_of w.shape) name s) new found v' (told.between ++ v.seen) (making w to name (search.Naming s)) done
       name_comes =
           let c = told_by w.shape new (naming (extent_of w.shape) name s) v found v' None name_act told in
-          let m = replaced_walks w.shape named_thread to (Some (strong_to t.hands s)) f.is_for f.stepper.vars_fit f.fits.0 in
+          let there = to_still w.shape 1 v v' (strong_to t.hands s) (class_of w.classes to) c of_class in
+          let m = replaced_walks w (LeadsTo v') named_thread to (Some (strong_to t.hands s)) f.is_for f.fit f.fits.0 (classed_still w.shape 1 w.classes v v' t.vars c f.classed) (new-some (LeadsTo v') (class_of w.classes to) (strong_to t.hands s) there) in
           let works : v'.working ≡ record v.working { owes = None } =
           ap (λ (x : View). x.working) told.after ∙ ap (λ (q : Place). working_stored (number (extent_of w.shape)) v.working q (isa_word_of name) new) (place_at-number (extent_of w.shape) (Isa s) in_slot) in
-          stays w t v (naming (extent_of w.shape) name s) new found v' (making w to name (search.Naming s)) done told f (λ e. cc) name_act m.event tt m.hands m.count m.same m.asks
+          stays w t v (naming (extent_of w.shape) name s) new found v' (making w to name (search.Naming s)) done told f (λ e. cc) refl name_act m.event tt m.hands m.count m.same m.classed (fresh_coming w.classes v' done.doing m.fresh) m.asks
           (fresh_under w.shape v' done.doing m.fresh (works ∙ ap (λ (x : Working). record x { owes = None }) f.under_way.0) (owes_still w.shape 1 v v' c f.under_way.1))
 
 -- ---- by where the making is
@@ -492,13 +509,13 @@ makes_allowed w t v to name plan step intent f asked = at plan.at f.asks.1 (subs
     at search.Ended ask g = absurd ask
 
 pub makes_come : (w : Work) (t : Thread) (v : View) (to : ℕ) (name : ObjectName) (plan : Creation) (step : Step) (intent : Intent) (found : ℕ) (v' : View) → Facts w t v (doings.Making to name plan) → t.asked ≡ moves.Step step intent
-    → (told : Told w.shape intent step v found v') → Comes w v step intent found v' (told.between ++ v.seen) (doings.Making to name plan) (turned_at (Some found) (doings.Making to name plan) (quiet t))
+    → (told : Told w.shape intent step v found v') → Comes w t v step intent found v' (told.between ++ v.seen) (doings.Making to name plan) (turned_at (Some found) (doings.Making to name plan) (quiet t))
 makes_come w t v to name plan step intent found v' f asked =
-    subst (λ (p : Creation). (told : Told w.shape intent step v found v') → Comes w v step intent found v' (told.between ++ v.seen) (doings.Making to name p) (turned_at (Some found) (doings.Making to name p) (quiet t))) (sym f.asks.0)
+    subst (λ (p : Creation). (told : Told w.shape intent step v found v') → Comes w t v step intent found v' (told.between ++ v.seen) (doings.Making to name p) (turned_at (Some found) (doings.Making to name p) (quiet t))) (sym f.asks.0)
     (at plan.at f.asks.1 (subst (λ (p : Creation). Facts w t v (doings.Making to name p)) f.asks.0 f))
   where
     Case : Search → Step × Intent → Type 0
-    Case a x = (told : Told w.shape x.1 x.0 v found v') → Comes w v x.0 x.1 found v' (told.between ++ v.seen) (making w to name a) (turned_at (Some found) (making w to name a) (quiet t))
+    Case a x = (told : Told w.shape x.1 x.0 v found v') → Comes w t v x.0 x.1 found v' (told.between ++ v.seen) (making w to name a) (turned_at (Some found) (making w to name a) (quiet t))
 
     is : (a : Search) (x : Step) → t.asked ≡ moves.Step x (intents.New name.class) → Case a (x, intents.New name.class) → Case a (step, intent)
     is a x ask = as_asked t.asked (Case a) step x intent (intents.New name.class) ask asked

@@ -116,19 +116,21 @@ no_exchange : (place other seen new : ℕ) → Load place ≡ Exchange other see
 no_exchange place other seen new e = cc
 
 -- a load of a name, with no event
-pub name_shown : (shape : HeapShape) (l : Extent) (s found p : ℕ) (intent : Intent) (h : History) → option_map name_of (at_slot s (heap_after h)) ≡ Some (isa_name_of found) → WordsHold Judged shape l (Some (Load (number l (Isa s)), intent)) (Some found) p None h
+pub name_shown : (shape : HeapShape) (l : Extent) (s found p : ℕ) (intent : Intent) (h : History) → option_map name_of (at_slot s (heap_after h)) ≡ Some (isa_name_of found) → WordsHold Judged shape l (Some (Load (number l (Isa s)), intent)) (Some found) p None None h
 name_shown shape l s found p intent h named = record {
   names = λ slot w i asked why last.
       let same = isa_slot l s slot (step_is (Load (number l (Isa s))) (Load (number l (Isa slot))) intent i asked) in
       subst (λ (x : ℕ × ℕ). option_map name_of (at_slot x.0 (heap_after h)) ≡ Some (isa_name_of x.1)) (λ j. (same j, Some-inj last j)) named;
+  refers = λ x e. absurd (None≢Some x e);
   entries = λ slot w n act i c event. absurd (None≢Some act event);
 }
 
 -- an exchange of counts whose event takes the last of a list of an object that has no entry
 pub no_entry_shown : (shape : HeapShape) (l : Extent) (s seen new found p : ℕ) (intent : Intent) (act : Act) (h : History) → option_map (λ (o : Object). o.entry) (at_slot s (heap_after (record { thread = p; act = act } ∷ h))) ≡ Some None
-    → WordsHold Judged shape l (Some (Exchange (number l (Count s)) seen new, intent)) (Some found) p (Some act) h
+    → WordsHold Judged shape l (Some (Exchange (number l (Count s)) seen new, intent)) (Some found) p (Some act) None h
 no_entry_shown shape l s seen new found p intent act h none = record {
   names = λ slot w i asked. absurd (no_exchange (number l (Isa slot)) (number l (Count s)) seen new (sym (step_is (Exchange (number l (Count s)) seen new) (Load (number l (Isa slot))) intent i asked)));
+  refers = λ x e. absurd (None≢Some x e);
   entries = λ slot w n a i c event asked.
       let same = count_slot l s slot seen new w n (step_is (Exchange (number l (Count s)) seen new) (Exchange (number l (Count slot)) w n) intent i asked) in
       λ takes last counts. subst (λ (x : ℕ). option_map (λ (o : Object). o.entry) (at_slot x (heap_after (record { thread = p; act = act } ∷ h))) ≡ Some None) same none;

@@ -1,5 +1,5 @@
 -- The references of a stepper stay its pass's hands.
-use Rattle.std.proofs.Common.{◌≡◌, ◌≢◌, ℕ, zero, suc, ◌+◌, ◌≤◌, ◌==◌, ◌&&◌, Bool, true, false, List, [], ◌∷◌, ◌++◌, Option, Some, None, refl, sym, ap, ◌∙◌, subst, arith, eq-eqb, append_assoc}
+use Rattle.std.proofs.Common.{◌≡◌, ◌≢◌, ℕ, zero, suc, ◌+◌, ◌≤◌, ◌==◌, ◌&&◌, Bool, true, false, List, [], ◌∷◌, ◌++◌, Option, Some, None, ◌⊎◌, inl, inr, refl, sym, ap, ◌∙◌, subst, arith, eq-eqb, append_assoc}
 use Rattle.std.specs.Prelude.{is_some}
 use Rattle.std.proofs.lemmas.Bool.{eqb-true}
 use Rattle.std.proofs.lemmas.List.Sums.{sum_by-cons}
@@ -21,10 +21,10 @@ use Rattle.arc_view.specs.Holding.{At, heap_of}
 use Rattle.arc_view.specs.Calls.{Called}
 use Rattle.arc_view.proofs.Held.{hand_listed, listed_busy, stays_after, held_stays}
 use Rattle.arc_view_laws.proofs.Moving.{called_follows, cut, legal_tail}
-use Rattle.arc_model.proofs.Basics.{true≢false}
+use Rattle.arc_model.proofs.Basics.{true≢false, None≢Some, Some-inj}
 use Rattle.arc_model.proofs.Others.{others_leave, own_leave}
 use Rattle.arc_side.specs.Inline.{IsCountedInline}
-use Rattle.arc_ops_passes.specs.References.{weigh, in_vars, one_if, is_ref, has_hand, Leads, Owns}
+use Rattle.arc_ops_passes.specs.References.{weigh, in_vars, one_if, is_ref, has_hand, Leads, LeadsTo, Owns}
 
 -- ---- kinds
 
@@ -93,32 +93,38 @@ other-hand k x ne = go (x.hand == k) refl
 
 -- ---- a reference stays where the pass doesn't give it up
 
--- it leads to an object in its slot
-abbrev Stands : ℕ → Held → Heap → Type 0
-Stands p held heap = (i : ℕ) × (o : Object) × (spot (Hand p held.hand) heap ≡ Some (record { place = i; kind = held.kind })) × At heap i o × (o.slot ≡ Some held.place)
+-- it leads to an object of this class in its slot
+abbrev Stands : ℕ → Held → (class : ℕ) → Heap → Type 0
+Stands p held class heap = (i : ℕ) × (o : Object) × (spot (Hand p held.hand) heap ≡ Some (record { place = i; kind = held.kind })) × At heap i o × (o.slot ≡ Some held.place) × (o.class ≡ class)
 
-others_stand : (shape : HeapShape) (p : ℕ) (held : Held) (before after : History) → held.kind ≢ Weak → IsLegal shape (after ++ before) → share after p ≡ [] → Stands p held (heap_after before) → Stands p held (heap_after (after ++ before))
-others_stand shape p held before after ne legal none (i, o, hand, here, slot) =
+others_stand : (shape : HeapShape) (p : ℕ) (held : Held) (class : ℕ) (before after : History) → held.kind ≢ Weak → IsLegal shape (after ++ before) → share after p ≡ [] → Stands p held class (heap_after before) → Stands p held class (heap_after (after ++ before))
+others_stand shape p held class before after ne legal none (i, o, hand, here, slot, is) =
     let q = held_stays shape p held.hand i held.kind o before after legal none hand here in
-    (i, q.q, (others_leave shape p before after legal none).hands held.hand ∙ hand, q.here, q.slot ne ∙ slot)
+    (i, q.q, (others_leave shape p before after legal none).hands held.hand ∙ hand, q.here, q.slot ne ∙ slot, q.class ∙ is)
 
-own_stands : (shape : HeapShape) (held : Held) (e : Event) (h : History) → held.kind ≢ Weak → IsLegal shape (e ∷ h) → ends_hand held.hand e.act ≡ false → Stands e.thread held (heap_after h) → Stands e.thread held (heap_after (e ∷ h))
-own_stands shape held e h ne legal ends (i, o, hand, here, slot) =
+own_stands : (shape : HeapShape) (held : Held) (class : ℕ) (e : Event) (h : History) → held.kind ≢ Weak → IsLegal shape (e ∷ h) → ends_hand held.hand e.act ≡ false → Stands e.thread held class (heap_after h) → Stands e.thread held class (heap_after (e ∷ h))
+own_stands shape held class e h ne legal ends (i, o, hand, here, slot, is) =
     let q = stays_after shape e h legal i o here in
     let busy = listed_busy held.kind (Hand e.thread held.hand) o (hand_listed shape h e.thread held.hand i held.kind o legal.1 hand here) ne in
-    (i, q.q, own_leave shape h e held.hand legal (ap is_some hand) ends ∙ hand, q.here, q.slot busy ∙ slot)
+    (i, q.q, own_leave shape h e held.hand legal (ap is_some hand) ends ∙ hand, q.here, q.slot busy ∙ slot, q.class ∙ is)
 
-leads_by : (v : View) (held : Held) → IsCountedInline held.kind → Stands v.number held (heap_of v) → Leads v held
-leads_by v held counted (i, o, hand, here, slot) = (counted, i, o, hand, here, slot)
+to_by : (v : View) (held : Held) (class : ℕ) → IsCountedInline held.kind → Stands v.number held class (heap_of v) → LeadsTo v held class
+to_by v held class counted (i, o, hand, here, slot, is) = (counted, i, o, hand, here, slot, is)
 
-pub leads_still : (shape : HeapShape) (n : ℕ) (v w : View) (held : Held) → Called shape [] n v w → Leads v held → Leads w held
-leads_still shape n v w held c (counted, i, o, hand, here, slot) =
+pub leads_to : (v : View) (held : Held) (leads : Leads v held) → LeadsTo v held leads.2.class
+leads_to v held (counted, i, o, hand, here, slot) = (counted, i, o, hand, here, slot, refl)
+
+pub to_leads : (v : View) (held : Held) (class : ℕ) → LeadsTo v held class → Leads v held
+to_leads v held class (counted, i, o, hand, here, slot, is) = (counted, i, o, hand, here, slot)
+
+pub to_still : (shape : HeapShape) (n : ℕ) (v w : View) (held : Held) (class : ℕ) → Called shape [] n v w → LeadsTo v held class → LeadsTo w held class
+to_still shape n v w held class c (counted, i, o, hand, here, slot, is) =
     let f = called_follows shape [] n v w c in
-    let later = others_stand shape v.number held v.seen f.rest (not_weak held.kind counted) f.legal f.mine (i, o, hand, here, slot) in
-    leads_by w held counted (subst (λ (x : ℕ × History). Stands x.0 held (heap_after x.1)) (λ j. (sym f.number j, sym f.is j)) later)
+    let later = others_stand shape v.number held class v.seen f.rest (not_weak held.kind counted) f.legal f.mine (i, o, hand, here, slot, is) in
+    to_by w held class counted (subst (λ (x : ℕ × History). Stands x.0 held class (heap_after x.1)) (λ j. (sym f.number j, sym f.is j)) later)
 
-pub leads_on : (shape : HeapShape) (a : Act) (n : ℕ) (v w : View) (held : Held) → Called shape (a ∷ []) n v w → ends_hand held.hand a ≡ false → Leads v held → Leads w held
-leads_on shape a n v w held c ends (counted, i, o, hand, here, slot) =
+pub to_on : (shape : HeapShape) (a : Act) (n : ℕ) (v w : View) (held : Held) (class : ℕ) → Called shape (a ∷ []) n v w → ends_hand held.hand a ≡ false → LeadsTo v held class → LeadsTo w held class
+to_on shape a n v w held class c ends (counted, i, o, hand, here, slot, of) =
     let p = v.number in
     let ne = not_weak held.kind counted in
     let e : Event = record { thread = p; act = a } in
@@ -128,9 +134,15 @@ leads_on shape a n v w held c ends (counted, i, o, hand, here, slot) =
     let is : f.rest ++ v.seen ≡ at.later ++ e ∷ met = ap (λ l. l ++ v.seen) at.is ∙ append_assoc at.later (e ∷ at.earlier) v.seen in
     let legal : IsLegal shape (at.later ++ e ∷ met) = subst (IsLegal shape) is f.legal in
     let then : IsLegal shape (e ∷ met) = legal_tail shape at.later (e ∷ met) legal in
-    let own = own_stands shape held e met ne then ends (others_stand shape p held v.seen at.earlier ne then.1 at.before (i, o, hand, here, slot)) in
-    let later = others_stand shape p held (e ∷ met) at.later ne legal at.after own in
-    leads_by w held counted (subst (λ (x : ℕ × History). Stands x.0 held (heap_after x.1)) (λ j. (sym f.number j, sym (f.is ∙ is) j)) later)
+    let own = own_stands shape held class e met ne then ends (others_stand shape p held class v.seen at.earlier ne then.1 at.before (i, o, hand, here, slot, of)) in
+    let later = others_stand shape p held class (e ∷ met) at.later ne legal at.after own in
+    to_by w held class counted (subst (λ (x : ℕ × History). Stands x.0 held class (heap_after x.1)) (λ j. (sym f.number j, sym (f.is ∙ is) j)) later)
+
+pub leads_still : (shape : HeapShape) (n : ℕ) (v w : View) (held : Held) → Called shape [] n v w → Leads v held → Leads w held
+leads_still shape n v w held c leads = to_leads w held leads.2.class (to_still shape n v w held leads.2.class c (leads_to v held leads))
+
+pub leads_on : (shape : HeapShape) (a : Act) (n : ℕ) (v w : View) (held : Held) → Called shape (a ∷ []) n v w → ends_hand held.hand a ≡ false → Leads v held → Leads w held
+leads_on shape a n v w held c ends leads = to_leads w held leads.2.class (to_on shape a n v w held leads.2.class c ends (leads_to v held leads))
 
 -- the references are the same
 pub owns_stay : (v w : View) (n : ℕ) (L M : (Held → ℕ) → ℕ) → Owns v n L → ((f : Held → ℕ) → M f ≡ L f) → ((h : Held) → Leads v h → Leads w h)
@@ -180,23 +192,82 @@ owns_more v w n L M new o next same there leads spots = record { leads = its; on
         let its : has_hand k new ≡ 0 = omega arith in
         spots k (λ e. no-hand k new its (next ∙ sym e)) ∙ o.only k (omega arith)
 
+-- one goes that is in none of these variables, or none, and the next one comes, or none
+pub owns_exchanged : (v w : View) (n next : ℕ) (vars : List (Option Held)) (L M : (Held → ℕ) → ℕ) (put there : Option Held) → Owns v n L → ((f : Held → ℕ) → L f ≡ in_vars vars f + weigh f put) → ((f : Held → ℕ) → M f ≡ in_vars vars f + weigh f there)
+    → n ≤ next → ((h : Held) → there ≡ Some h → (h.hand ≡ n + 1) × (next ≡ n + 1) × Leads w h) → ((h : Held) → ((x : Held) → put ≡ Some x → h.hand ≢ x.hand) → Leads v h → Leads w h)
+    → ((x : Held) → put ≡ Some x → spot (Hand w.number x.hand) (heap_of w) ≡ None) → ((k : ℕ) → ((x : Held) → put ≡ Some x → k ≢ x.hand) → ((h : Held) → there ≡ Some h → k ≢ h.hand) → spot (Hand w.number k) (heap_of w) ≡ spot (Hand v.number k) (heap_of v))
+    → Owns w next M
+owns_exchanged v w n next vars L M put there o was is grows comes leads gone spots = record { leads = its; once = once; below = below; only = only }
+  where
+    -- the hands in variables are none that goes
+    apart : (h : Held) → 1 ≤ in_vars vars (is_ref h) → (x : Held) → put ≡ Some x → h.hand ≢ x.hand
+    apart h one x put_is e =
+        let a = was (has_hand h.hand) in
+        let m = vars-mono (is_ref h) (has_hand h.hand) (ref-hand h) vars in
+        let c = o.once h.hand in
+        let same : weigh (has_hand h.hand) put ≡ 1 = ap (weigh (has_hand h.hand)) put_is ∙ ap one_if (eq-eqb x.hand h.hand (sym e)) in
+        absurd (omega arith)
+
+    its : (h : Held) → 1 ≤ M (is_ref h) → Leads w h
+    its h one = go there refl (weigh (is_ref h) there) refl
+      where
+        go : (m : Option Held) → there ≡ m → (k : ℕ) → weigh (is_ref h) there ≡ k → Leads w h
+        go m e zero z = let a = was (is_ref h) in let b = is (is_ref h) in let some : 1 ≤ in_vars vars (is_ref h) = omega arith in leads h (apart h some) (o.leads h (omega arith))
+        go None e (suc k) z = let none : weigh (is_ref h) there ≡ 0 = ap (weigh (is_ref h)) e in absurd (omega arith)
+        go (Some x) e (suc k) z = let some : weigh (is_ref h) there ≡ is_ref h x = ap (weigh (is_ref h)) e in ref-is w h x (omega arith) (comes x e).2
+
+    old : (k : ℕ) → k ≡ n + 1 → L (has_hand k) ≡ 0
+    old k e = go (L (has_hand k)) refl
+      where
+        go : (m : ℕ) → L (has_hand k) ≡ m → L (has_hand k) ≡ 0
+        go zero h = h
+        go (suc m) h = let b = o.below k (omega arith) in absurd (omega arith)
+
+    -- the one that comes is new
+    new : (k : ℕ) → (weigh (has_hand k) there ≡ 0) ⊎ ((weigh (has_hand k) there ≡ 1) × (k ≡ n + 1) × (next ≡ n + 1))
+    new k = go there refl
+      where
+        go : (m : Option Held) → there ≡ m → (weigh (has_hand k) there ≡ 0) ⊎ ((weigh (has_hand k) there ≡ 1) × (k ≡ n + 1) × (next ≡ n + 1))
+        go None e = inl (ap (weigh (has_hand k)) e)
+        go (Some x) e = dite (ℕ_discrete x.hand k)
+            (λ same. inr (ap (weigh (has_hand k)) e ∙ ap one_if (eq-eqb x.hand k same), sym same ∙ (comes x e).0, (comes x e).1))
+            (λ ne. inl (ap (weigh (has_hand k)) e ∙ other-hand k x ne))
+
+    once : (k : ℕ) → M (has_hand k) ≤ 1
+    once k = go (new k)
+      where
+        go : (weigh (has_hand k) there ≡ 0) ⊎ ((weigh (has_hand k) there ≡ 1) × (k ≡ n + 1) × (next ≡ n + 1)) → M (has_hand k) ≤ 1
+        go (inl none) = let a = was (has_hand k) in let b = is (has_hand k) in let c = o.once k in omega arith
+        go (inr (one, at, after)) = let a = was (has_hand k) in let b = is (has_hand k) in let c = old k at in omega arith
+
+    below : (k : ℕ) → 1 ≤ M (has_hand k) → k ≤ next
+    below k some = go (new k)
+      where
+        go : (weigh (has_hand k) there ≡ 0) ⊎ ((weigh (has_hand k) there ≡ 1) × (k ≡ n + 1) × (next ≡ n + 1)) → k ≤ next
+        go (inl none) = let a = was (has_hand k) in let b = is (has_hand k) in let c = o.below k (omega arith) in omega arith
+        go (inr (one, at, after)) = omega arith
+
+    only : (k : ℕ) → M (has_hand k) ≡ 0 → spot (Hand w.number k) (heap_of w) ≡ None
+    only k none = go put refl
+      where
+        comes_not : (h : Held) → there ≡ Some h → k ≢ h.hand
+        comes_not h e same =
+            let b = is (has_hand k) in
+            let one : weigh (has_hand k) there ≡ 1 = ap (weigh (has_hand k)) e ∙ ap one_if (eq-eqb h.hand k (sym same)) in
+            absurd (omega arith)
+
+        stood : ((x : Held) → put ≡ Some x → k ≢ x.hand) → L (has_hand k) ≡ 0 → spot (Hand w.number k) (heap_of w) ≡ None
+        stood goes_not zero_is = spots k goes_not comes_not ∙ o.only k zero_is
+
+        go : (m : Option Held) → put ≡ m → spot (Hand w.number k) (heap_of w) ≡ None
+        go None e = stood (λ x put_is. absurd (None≢Some x (sym e ∙ put_is))) (let a = was (has_hand k) in let b = is (has_hand k) in let z : weigh (has_hand k) put ≡ 0 = ap (weigh (has_hand k)) e in omega arith)
+        go (Some x) e = dite (ℕ_discrete k x.hand)
+            (λ same. ap (λ m. spot (Hand w.number m) (heap_of w)) same ∙ gone x e)
+            (λ ne. stood (λ y put_is same. ne (same ∙ ap (λ (r : Held). r.hand) (Some-inj (sym put_is ∙ e)))) (let a = was (has_hand k) in let b = is (has_hand k) in let z : weigh (has_hand k) put ≡ 0 = ap (weigh (has_hand k)) e ∙ other-hand k x (λ q. ne (sym q)) in omega arith))
+
 -- one goes that is in no variable
 pub owns_less : (v w : View) (n : ℕ) (vars : List (Option Held)) (L M : (Held → ℕ) → ℕ) (held : Held) → Owns v n L → ((f : Held → ℕ) → L f ≡ in_vars vars f + f held) → ((f : Held → ℕ) → M f ≡ in_vars vars f)
     → ((h : Held) → h.hand ≢ held.hand → Leads v h → Leads w h) → spot (Hand w.number held.hand) (heap_of w) ≡ None → ((k : ℕ) → k ≢ held.hand → spot (Hand w.number k) (heap_of w) ≡ spot (Hand v.number k) (heap_of v)) → Owns w n M
-owns_less v w n vars L M held o was is leads gone spots = record {
-  leads = λ h one. leads h (apart h one) (o.leads h (let a = was (is_ref h) in let b = is (is_ref h) in omega arith));
-  once = λ k. let a = was (has_hand k) in let b = is (has_hand k) in let c = o.once k in omega arith;
-  below = λ k one. o.below k (let a = was (has_hand k) in let b = is (has_hand k) in omega arith);
-  only = λ k none. dite (ℕ_discrete k held.hand)
-      (λ e. ap (λ m. spot (Hand w.number m) (heap_of w)) e ∙ gone)
-      (λ ne. spots k ne ∙ o.only k (let a = was (has_hand k) in let b = is (has_hand k) in let c = other-hand k held (λ e. ne (sym e)) in omega arith));
-}
-  where
-    apart : (h : Held) → 1 ≤ M (is_ref h) → h.hand ≢ held.hand
-    apart h one e =
-        let a = was (has_hand h.hand) in
-        let b = is (is_ref h) in
-        let m = vars-mono (is_ref h) (has_hand h.hand) (ref-hand h) vars in
-        let c = o.once h.hand in
-        let same : has_hand h.hand held ≡ 1 = ap one_if (eq-eqb held.hand h.hand (sym e)) in
-        absurd (omega arith)
+owns_less v w n vars L M held o was is leads gone spots =
+    owns_exchanged v w n n vars L M (Some held) None o was (λ f. let e = is f in omega arith) (omega arith) (λ h e. absurd (None≢Some h e)) (λ h other. leads h (other held refl))
+    (λ x e. ap (λ (r : Held). spot (Hand w.number r.hand) (heap_of w)) (sym (Some-inj e)) ∙ gone) (λ k other new. spots k (other held refl))

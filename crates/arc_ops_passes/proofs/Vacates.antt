@@ -32,6 +32,7 @@ use Rattle.arc_ops.specs.Begins.{next_op}
 use Rattle.arc_ops.specs.Turns.{turned_at}
 use Rattle.arc_ops.specs.Takes.{takes_at}
 use Rattle.arc_spelled.specs.StepperStands.{Work}
+use Rattle.arc_spelled.specs.Came.{CameOut, came_out_at}
 use Rattle.arc_spelled.specs.Spelled.{WordsHold}
 use Rattle.arc_view.specs.declared.view.Working.{Working}
 use Rattle.arc_view.specs.declared.view.View.{View}
@@ -46,17 +47,17 @@ use Rattle.arc_view.proofs.Within.{each_at}
 use Rattle.arc_view.proofs.Owed.{OwedLater, owed_stays}
 use Rattle.arc_model.proofs.Others.{others_leave}
 use Rattle.arc_view_laws.proofs.Entries.{none_stays}
-use Rattle.arc_ops_passes.specs.References.{in_vars, references, Owns}
+use Rattle.arc_ops_passes.specs.References.{in_vars, references, LeadsTo, Owns}
 use Rattle.arc_ops_passes.specs.Drives.{OwesOne}
 use Rattle.arc_ops_passes.proofs.Walks.{next_walks}
 use Rattle.arc_ops_passes.proofs.Owed.{slot_is, not_in}
-use Rattle.arc_ops_passes.proofs.Goes.{quiet, Facts, Comes, told_by, fresh_under, claims_on, owns_on, nothing_shown, once_asked}
+use Rattle.arc_ops_passes.proofs.Goes.{quiet, Facts, Comes, KnowsOf, knows_none, told_by, fresh_under, fresh_coming, classed_on, claims_on, owns_on, nothing_shown, once_asked}
 use Rattle.arc_plan.specs.declared.slots.Once.{Once}
 use Rattle.arc_plan.specs.Slots.{OneStep}
 use Rattle.arc_ops.specs.declared.stepper.Move.TheVariants as moves
 
 -- a stepper that does this holds no reference but those in its variables
-module _ (w : Work) (t : Thread) (v : View) (s : ℕ) (d : Doing) (f : Facts w t v d) (in_vars_all : (g : Held → ℕ) → references t.vars t.hands d g ≡ in_vars t.vars g) (owes : OwesOne v Vacating s) (is : v.working ≡ idle) where
+module _ (w : Work) (t : Thread) (v : View) (s : ℕ) (d : Doing) (f : Facts w t v d) (in_vars_all : (g : Held → ℕ) → references t.vars t.hands d g ≡ in_vars t.vars g) (brings_none : (found : ℕ) → came_out_at t (Some found) d ≡ None) (owes : OwesOne v Vacating s) (is : v.working ≡ idle) where
   abbrev Clear : Step
   Clear = And (number (extent_of w.shape) (SlotBits (s / 64))) (but_bit_of s)
 
@@ -112,15 +113,18 @@ module _ (w : Work) (t : Thread) (v : View) (s : ℕ) (d : Doing) (f : Facts w t
     abbrev q : Thread
     q = record (quiet t) { event = Some left }
 
-    pub vacates : takes_at w.shape (Some found) d → Comes w v Clear intents.Vacate found v' h_left d (next_op q)
+    pub vacates : takes_at w.shape (Some found) d → Comes w t v Clear intents.Vacate found v' h_left d (next_op q)
     vacates takes =
         let u : Thread = next_op q in
-        let walk = next_walks w.shape q f.is_for f.stepper.vars_fit in record {
+        let walk = next_walks w (LeadsTo v') q f.is_for f.fit (classed_on w.shape 1 left w.classes v v' t.vars called_left (λ x held e. refl) f.classed) in record {
           takes_it = takes;
           event = act_is ∙ sym walk.event;
-          holds = subst (λ (x : Option Act). WordsHold Judged w.shape (extent_of w.shape) (Some (Clear, intents.Vacate)) (Some found) w.thread x h_left) (sym walk.event) (nothing_shown w.shape (extent_of w.shape) Clear intents.Vacate found w.thread (Some left) h_left tt tt);
+          holds = subst (λ (x : Option Act × Option CameOut). WordsHold Judged w.shape (extent_of w.shape) (Some (Clear, intents.Vacate)) (Some found) w.thread x.0 x.1 h_left) (λ j. (sym walk.event j, sym (brings_none found) j)) (nothing_shown w.shape (extent_of w.shape) Clear intents.Vacate found w.thread (Some left) h_left tt tt);
+          knows = subst (KnowsOf v') (sym (brings_none found)) (knows_none v');
           count = walk.count ∙ f.count;
           owns = subst (λ n. Owns v' n (references u.vars u.hands u.doing)) (sym walk.hands) (owns_on w.shape 1 left v v' t.hands (references t.vars t.hands d) (references u.vars u.hands u.doing) called_left (λ k. refl) refl f.owns (λ g. walk.same g ∙ sym (in_vars_all g)));
+          classed = walk.classed;
+          coming = fresh_coming w.classes v' u.doing walk.fresh;
           no_claim = claims_on w.shape 1 left v v' called_left (λ m n. refl) f.no_claim;
           asks = walk.asks;
           under_way = fresh_under w.shape v' u.doing walk.fresh (ap (λ (x : View). x.working) told.after ∙ (ap (λ (u : Place). working_and (number (extent_of w.shape)) v.working u (but_bit_of s) intents.Vacate) (place_at-number (extent_of w.shape) (SlotBits (s / 64)) word_in) ∙ is)) none_left;
@@ -134,15 +138,15 @@ vacating w s a = doings.Vacating s (record { layout = extent_of w.shape; slot = 
 pub vacating_allowed : (w : Work) (t : Thread) (v : View) (s : ℕ) (plan : OneStep) (step : Step) (intent : Intent) → Facts w t v (doings.Vacating s plan) → t.asked ≡ moves.Step step intent → Admits w.shape v step intent
 vacating_allowed w t v s plan step intent f asked =
     once_asked t.asked (And (number (extent_of w.shape) (SlotBits (s / 64))) (but_bit_of s)) intents.Vacate (λ a x. Facts w t v (vacating w s a) → Admits w.shape v x.0 x.1) step intent asked
-    (λ g. vacate_allowed w t v s (vacating w s once.Asked) g (λ x. omega arith) g.under_way.1 g.under_way.0) plan.at f.asks.1 (subst (λ (p : OneStep). Facts w t v (doings.Vacating s p)) f.asks.0 f)
+    (λ g. vacate_allowed w t v s (vacating w s once.Asked) g (λ x. omega arith) (λ found. refl) g.under_way.1 g.under_way.0) plan.at f.asks.1 (subst (λ (p : OneStep). Facts w t v (doings.Vacating s p)) f.asks.0 f)
 
 pub vacating_comes : (w : Work) (t : Thread) (v : View) (s : ℕ) (plan : OneStep) (step : Step) (intent : Intent) (found : ℕ) (v' : View) → Facts w t v (doings.Vacating s plan) → t.asked ≡ moves.Step step intent
-    → (told : Told w.shape intent step v found v') → Comes w v step intent found v' (told.between ++ v.seen) (doings.Vacating s plan) (turned_at (Some found) (doings.Vacating s plan) (quiet t))
+    → (told : Told w.shape intent step v found v') → Comes w t v step intent found v' (told.between ++ v.seen) (doings.Vacating s plan) (turned_at (Some found) (doings.Vacating s plan) (quiet t))
 vacating_comes w t v s plan step intent found v' f asked =
-    subst (λ (p : OneStep). (told : Told w.shape intent step v found v') → Comes w v step intent found v' (told.between ++ v.seen) (doings.Vacating s p) (turned_at (Some found) (doings.Vacating s p) (quiet t))) (sym f.asks.0)
+    subst (λ (p : OneStep). (told : Told w.shape intent step v found v') → Comes w t v step intent found v' (told.between ++ v.seen) (doings.Vacating s p) (turned_at (Some found) (doings.Vacating s p) (quiet t))) (sym f.asks.0)
     (once_asked t.asked (And (number (extent_of w.shape) (SlotBits (s / 64))) (but_bit_of s)) intents.Vacate Case step intent asked
-    (λ g told. vacates w t v s (vacating w s once.Asked) g (λ x. omega arith) g.under_way.1 g.under_way.0 found v' told tt) plan.at f.asks.1
+    (λ g told. vacates w t v s (vacating w s once.Asked) g (λ x. omega arith) (λ found. refl) g.under_way.1 g.under_way.0 found v' told tt) plan.at f.asks.1
     (subst (λ (p : OneStep). Facts w t v (doings.Vacating s p)) f.asks.0 f))
   where
     Case : Once → Step × Intent → Type 0
-    Case a x = Facts w t v (vacating w s a) → (told : Told w.shape x.1 x.0 v found v') → Comes w v x.0 x.1 found v' (told.between ++ v.seen) (vacating w s a) (turned_at (Some found) (vacating w s a) (quiet t))
+    Case a x = Facts w t v (vacating w s a) → (told : Told w.shape x.1 x.0 v found v') → Comes w t v x.0 x.1 found v' (told.between ++ v.seen) (vacating w s a) (turned_at (Some found) (vacating w s a) (quiet t))

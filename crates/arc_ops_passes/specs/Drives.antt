@@ -1,6 +1,10 @@
 -- A stepper drives a pass: what it is doing fits what the pass has, by what the pass has seen.
-use Rattle.std.specs.Prelude.{ℕ, true, false, ◌≡◌, ◌≢◌, List, [], ◌∷◌, ◌/◌, length, Some, None, ⊤}
+use Rattle.std.specs.Prelude.{ℕ, true, false, ◌≡◌, ◌≢◌, ◌≤◌, ◌+◌, List, [], ◌∷◌, ◌/◌, length, Option, Some, None, ⊤}
+use Rattle.arc_model.specs.declared.event.CellName.{CellName}
+use Rattle.arc_model.specs.declared.event.CellName.TheVariants as cells
 use Rattle.arc_model.specs.declared.event.ObjectName.{ObjectName}
+use Rattle.arc_model.specs.declared.event.Origin.{Origin}
+use Rattle.arc_model.specs.declared.event.Origin.TheVariants as origins
 use Rattle.arc_model.specs.declared.shape.Kind.{Kind}
 use Rattle.arc_model.specs.declared.shape.Kind.TheVariants.{Unowned}
 use Rattle.arc_model.specs.Shapes.{HeapShape, class_at}
@@ -25,16 +29,21 @@ use Rattle.arc_plan.specs.declared.slots.Making.TheVariants.{Looking, Taking, Co
 use Rattle.arc_plan.specs.declared.slots.Once.{Once}
 use Rattle.arc_plan.specs.declared.slots.Once.TheVariants.{Asked}
 use Rattle.arc_plan.specs.Slots.{looking, taking, counting, naming}
-use Rattle.arc_cells.specs.declared.cascade.At.{At as CascadeAt}
-use Rattle.arc_cells.specs.declared.cascade.At.TheVariants as at
-use Rattle.arc_cells.specs.Cascades.{CascadeState}
+use Rattle.arc_cells.specs.declared.bare.At.{At as CascadeAt}
+use Rattle.arc_cells.specs.declared.bare.At.TheVariants as at
+use Rattle.arc_cells.specs.BareCascades.{CascadeState}
+use Rattle.arc_programs.specs.ProgramsTied.{hands_in}
+use Rattle.arc_ops.specs.declared.gain.Source.{Source}
 use Rattle.arc_ops.specs.declared.stepper.Held.{Held}
 use Rattle.arc_ops.specs.declared.stepper.Doing.{Doing}
 use Rattle.arc_ops.specs.declared.stepper.Doing.TheVariants as doings
 use Rattle.arc_ops.specs.declared.stepper.Move.{Move}
 use Rattle.arc_ops.specs.declared.stepper.Move.TheVariants as moves
-use Rattle.arc_ops.specs.Thread.{Thread}
+use Rattle.arc_ops.specs.Cells.{cell_number, word_of, hand_in}
+use Rattle.arc_ops.specs.Programs.{class_of}
+use Rattle.arc_ops.specs.Thread.{Thread, value}
 use Rattle.arc_ops.specs.Plans.{list_of, intent_of}
+use Rattle.arc_spelled.specs.Came.{knowing}
 use Rattle.arc_spelled.specs.StepperStands.{Work, StandsFor}
 use Rattle.arc_view.specs.declared.view.Role.TheVariants.{Pass}
 use Rattle.arc_view.specs.declared.view.Working.{Working}
@@ -44,7 +53,7 @@ use Rattle.arc_view.specs.Holding.{At, HasDuty, HasClaim, heap_of}
 use Rattle.arc_view.specs.Rule.{InShape}
 use Rattle.arc_view.specs.Kinds.{searched}
 use Rattle.arc_view.specs.Admission.{IsUp, IsDown}
-use Rattle.arc_ops_passes.specs.References.{in_vars, references, Owns}
+use Rattle.arc_ops_passes.specs.References.{in_vars, references, LeadsTo, LeadsFrom, Owns}
 
 -- ---- its plans are for this heap, and wait for the word of the step that it asks for
 
@@ -55,11 +64,15 @@ SearchAsks shape asked name (Counting s) = asked ≡ moves.Step (counting (exten
 SearchAsks shape asked name (Naming s) = asked ≡ moves.Step (naming (extent_of shape) name s) (intents.New name.class)
 SearchAsks shape asked name _ = ⊥
 
--- an attempt on the inline word of a slot
-abbrev pub AttemptAsks : HeapShape → Move → ℕ → Intent → AttemptAt → Type 0
-AttemptAsks shape asked s intent Loading = asked ≡ moves.Step (Load (number (extent_of shape) (Count s))) intent
-AttemptAsks shape asked s intent (Exchanging seen new) = asked ≡ moves.Step (Exchange (number (extent_of shape) (Count s)) seen new) intent
-AttemptAsks shape asked s intent _ = ⊥
+-- an attempt on the word at this place
+abbrev pub AttemptAsks : Move → (place : ℕ) → Intent → AttemptAt → Type 0
+AttemptAsks asked place intent Loading = asked ≡ moves.Step (Load place) intent
+AttemptAsks asked place intent (Exchanging seen new) = asked ≡ moves.Step (Exchange place seen new) intent
+AttemptAsks asked place intent _ = ⊥
+
+-- on the inline word of a slot
+abbrev pub CountAsks : HeapShape → Move → (slot : ℕ) → Intent → AttemptAt → Type 0
+CountAsks shape asked s intent at = AttemptAsks asked (number (extent_of shape) (Count s)) intent at
 
 -- a plan of this one step
 abbrev pub OnceAsks : Move → Step → Intent → Once → Type 0
@@ -78,7 +91,7 @@ abbrev pub CascadeAsks : HeapShape → Move → ℕ → CascadeAt → Type 0
 CascadeAsks shape asked s at.Entering = asked ≡ moves.Step (Store (number (extent_of shape) (Next s)) 0) (intents.Deinit s)
 CascadeAsks shape asked s at.Naming = asked ≡ moves.Step (Load (number (extent_of shape) (Isa s))) (intents.Deinit s)
 CascadeAsks shape asked s at.Leaving = asked ≡ moves.Step (Load (number (extent_of shape) (Next s))) (intents.Deinit s)
-CascadeAsks shape asked s (at.Finishing p) = (p ≡ record { layout = extent_of shape; slot = s; at = p.at }) × AttemptAsks shape asked s (intents.Deinit s) p.at
+CascadeAsks shape asked s (at.Finishing p) = (p ≡ record { layout = extent_of shape; slot = s; at = p.at }) × CountAsks shape asked s (intents.Deinit s) p.at
 CascadeAsks shape asked s (at.Vacating p) = (p ≡ record { layout = extent_of shape; slot = s; at = p.at }) × VacateAsks shape asked s p.at
 CascadeAsks shape asked s _ = ⊥
 
@@ -88,10 +101,22 @@ Asks shape t (doings.Making to name plan) =
     (plan ≡ record { layout = extent_of shape; name = name; immortal = (class_at shape name.class).immortal; at = plan.at }) × SearchAsks shape t.asked name plan.at
 Asks shape t (doings.Gaining gain to from plan) =
     (plan ≡ record { layout = extent_of shape; slot = from.place; list = list_of gain from; caps = shape.caps; entry = None; at = plan.at })
-    × AttemptAsks shape t.asked from.place (intent_of gain from) plan.at
+    × CountAsks shape t.asked from.place (intent_of gain from) plan.at
 Asks shape t (doings.Naming to held plan) = (plan ≡ record { layout = extent_of shape; slot = held.place; at = plan.at }) × NameAsks shape t.asked held.place plan.at
+Asks shape t (doings.Opening to cell plan) =
+    (plan ≡ record { layout = extent_of shape; place = cell_number (extent_of shape) cell.name; at = plan.at })
+    × AttemptAsks t.asked (cell_number (extent_of shape) cell.name) (intents.Access cell.name) plan.at
+Asks shape t (doings.Closing to cell held plan) =
+    (plan ≡ record { layout = extent_of shape; place = cell_number (extent_of shape) cell; value = held.place + 2; at = plan.at })
+    × OnceAsks t.asked (Store (cell_number (extent_of shape) cell) (held.place + 2)) (intents.Access cell) plan.at
+Asks shape t (doings.Setting from cell plan) =
+    (plan ≡ record { layout = extent_of shape; place = cell_number (extent_of shape) cell.name; new = word_of (value t.vars from); at = plan.at })
+    × AttemptAsks t.asked (cell_number (extent_of shape) cell.name) (intents.Swap cell.name (hand_in (value t.vars from))) plan.at
+Asks shape t (doings.Clearing plan) =
+    (plan ≡ record { layout = extent_of shape; place = cell_number (extent_of shape) (cells.Global t.cleared); new = 0; at = plan.at })
+    × AttemptAsks t.asked (cell_number (extent_of shape) (cells.Global t.cleared)) (intents.Swap (cells.Global t.cleared) None) plan.at
 Asks shape t (doings.Dropping held plan) =
-    (plan ≡ record { layout = extent_of shape; slot = held.place; list = held.kind; entry = None; at = plan.at }) × AttemptAsks shape t.asked held.place (intents.Drop held.hand) plan.at
+    (plan ≡ record { layout = extent_of shape; slot = held.place; list = held.kind; entry = None; at = plan.at }) × CountAsks shape t.asked held.place (intents.Drop held.hand) plan.at
 Asks shape t (doings.Dying c) = (c ≡ record { layout = extent_of shape; shape = shape; slot = c.slot; at = c.at; event = c.event }) × CascadeAsks shape t.asked c.slot c.at
 Asks shape t (doings.Vacating slot plan) = (plan ≡ record { layout = extent_of shape; slot = slot; at = plan.at }) × VacateAsks shape t.asked slot plan.at
 Asks shape t doings.Ended = (t.asked ≡ moves.Ended) × ((f : Held → ℕ) → in_vars t.vars f ≡ 0)
@@ -117,6 +142,16 @@ MayGoUp shape list s _ = ⊤
 abbrev pub MayGoDown : Kind → ℕ → AttemptAt → Type 0
 MayGoDown kind s (Exchanging seen new) = IsDown kind (Count s) seen new
 MayGoDown kind s _ = ⊤
+
+-- the word that an attempt on a cell has read may be exchanged for the mark of an access
+abbrev pub MayBegin : AttemptAt → Type 0
+MayBegin (Exchanging seen new) = (2 ≤ seen) × (new ≡ 1)
+MayBegin _ = ⊤
+
+-- or for this one
+abbrev pub MaySwap : (word : ℕ) → AttemptAt → Type 0
+MaySwap word (Exchanging seen new) = (seen ≢ 1) × (new ≡ word)
+MaySwap word _ = ⊤
 
 abbrev pub MayEnd : ℕ → CascadeAt → Type 0
 MayEnd s (at.Finishing p) = MayGoDown Unowned s p.at
@@ -162,13 +197,43 @@ pub record IsFree (v : View) : Type 0 where
   pub working : v.working ≡ idle
   pub none : OwesNothing v
 
+-- an access to a cell whose reference leads to this slot
+abbrev pub accessing : CellName → (place : ℕ) → Working
+accessing cell place = record idle { access = Some (record { cell = cell; value = place + 2 }) }
+
+-- the cell is accessed whose reference is to be copied
+pub record IsCopying (v : View) (cell : CellName) (from : Source) : Type 0 where
+  pub working : v.working ≡ accessing cell from.place
+  pub none : OwesNothing v
+  pub source : LeadsFrom v from
+
+abbrev pub GainsFrom : View → Origin → Source → Type 0
+GainsFrom v (origins.Hand hand) from = IsFree v
+GainsFrom v (origins.Cell cell) from = IsCopying v cell from
+
 abbrev pub UnderWay : HeapShape → View → Doing → Type 0
 UnderWay shape v (doings.Making to name plan) = (v.working ≡ search_works plan.at) × OwesNothing v × Searched shape v name plan.at
-UnderWay shape v (doings.Gaining gain to from plan) = IsFree v × MayGoUp shape (list_of gain from) from.place plan.at
+UnderWay shape v (doings.Gaining gain to from plan) = GainsFrom v from.origin from × MayGoUp shape (list_of gain from) from.place plan.at
+UnderWay shape v (doings.Opening to cell plan) = IsFree v × MayBegin plan.at
+UnderWay shape v (doings.Closing to cell held plan) = (v.working ≡ accessing cell held.place) × OwesNothing v
+UnderWay shape v (doings.Setting from cell plan) = IsFree v × MaySwap plan.new plan.at
+UnderWay shape v (doings.Clearing plan) = IsFree v × MaySwap plan.new plan.at
 UnderWay shape v (doings.Dropping held plan) = IsFree v × MayGoDown held.kind held.place plan.at
 UnderWay shape v (doings.Dying c) = IsDying shape v c
 UnderWay shape v (doings.Vacating slot plan) = (v.working ≡ idle) × OwesOne v Vacating slot
 UnderWay shape v _ = IsFree v
+
+-- ---- classes
+
+-- what a variable has leads to an object of the variable's class
+abbrev pub AreOfClasses : List ℕ → View → List (Option Held) → Type 0
+AreOfClasses classes v vars = (x : ℕ) (held : Held) → value vars x ≡ Some held → LeadsTo v held (class_of classes x)
+
+-- so does a reference that is still to come into a variable
+abbrev pub ComesOfClass : List ℕ → View → Doing → Type 0
+ComesOfClass classes v (doings.Naming to held plan) = LeadsTo v held (class_of classes to)
+ComesOfClass classes v (doings.Closing to cell held plan) = LeadsTo v held (class_of classes to)
+ComesOfClass classes v _ = ⊤
 
 -- The stepper, at work on these operations, drives the pass.
 pub record Drives (w : Work) (t : Thread) (v : View) : Type 0 where
@@ -176,13 +241,15 @@ pub record Drives (w : Work) (t : Thread) (v : View) : Type 0 where
   pub number : v.number ≡ w.thread
   pub legal : IsLegal w.shape v.seen
   pub in_shape : InShape w.shape v.seen
-  -- the notes that it stands for are the pass's, in what it has seen
+  -- the notes that it stands for are the pass's, in what it has seen, which tells what its hands referred to when they came
   pub notes : List Note
-  pub stands : StandsFor w t notes
+  pub stands : StandsFor (knowing (hands_in v.number v.seen) w) t notes
   pub tied : Ties Judged w.shape w.thread notes v.seen
   -- it has the variables of its thread, and its references are the pass's hands
   pub count : length t.vars ≡ w.count
   pub owns : Owns v t.hands (references t.vars t.hands t.doing)
+  pub classed : AreOfClasses w.classes v t.vars
+  pub coming : ComesOfClass w.classes v t.doing
   pub no_claim : (e : ℕ) → HasClaim v e → ⊥
   pub asks : Asks w.shape t t.doing
   pub under_way : UnderWay w.shape v t.doing

@@ -1,5 +1,5 @@
 -- The laws of a stepper that drives a pass.
-use Rattle.std.specs.Prelude.{ℕ, ◌≡◌, ◌<◌, ◌≤◌, List, [], length, All, Option, Some, None, ⊤}
+use Rattle.std.specs.Prelude.{ℕ, false, ◌≡◌, ◌<◌, ◌≤◌, List, [], length, All, Option, Some, None, ⊤}
 use Rattle.arc_model.specs.History.{History, share, IsLegal}
 use Rattle.arc_rule.specs.Places.{extent_of, number}
 use Rattle.arc_rule.specs.declared.layout.Place.TheVariants.{Count}
@@ -11,16 +11,18 @@ use Rattle.arc_rule.specs.declared.step.Step.TheVariants.{Load}
 use Rattle.arc_rule.specs.declared.step.Intent.{Intent}
 use Rattle.arc_rule.specs.declared.step.Intent.TheVariants as intents
 use Rattle.arc_programs.specs.Programs.{Hands, OpsDone}
+use Rattle.arc_programs.specs.ProgramsTied.{hands_in}
 use Rattle.arc_script.specs.declared.script.Script.{Script}
 use Rattle.arc_script.specs.Valid.{IsScript}
 use Rattle.arc_ops.specs.Served.{IsServed}
 use Rattle.arc_ops.specs.Programs.{VarsFit, phases_of, program_of, ops_in_first, vars_of}
-use Rattle.arc_cells.specs.Cascades.{IsInline}
+use Rattle.arc_cells.specs.BareCascades.{IsInline}
 use Rattle.arc_ops.specs.declared.stepper.Move.TheVariants as moves
-use Rattle.arc_ops.specs.Thread.{Thread, stepper_of}
+use Rattle.arc_ops.specs.Thread.{Thread, stepper_of, in_access}
 use Rattle.arc_ops.specs.Turns.{turned}
 use Rattle.arc_ops.specs.Takes.{takes}
 use Rattle.arc_ops.specs.Steppers.{IsStepper}
+use Rattle.arc_spelled.specs.Came.{Extends}
 use Rattle.arc_spelled.specs.StepperStands.{Work, IsServedWork, variables}
 use Rattle.arc_spelled.specs.Spelled.{work_of}
 use Rattle.arc_view.specs.declared.view.Role.TheVariants.{Pass}
@@ -65,14 +67,14 @@ abbrev pub PhasesBegin : Type 0
 PhasesBegin = (w : Work) (t : Thread) (v : View) → IsServedWork w → NamesVariables w → Drives w t v → t.asked ≡ moves.PhaseEnd →
     takes t None × Drives w (turned t None) v × ((turned t None).event ≡ None)
 
--- What the pass did is what the thread has in the phases before the one that its stepper waits for, no less and no more, whatever came out of cells.
-pub record HasDonePhases (script : Script) (p : ℕ) (any : Hands) (t : Thread) (h : History) : Type 0 where
+-- What the pass did is what the thread has in the phases before the one that its stepper waits for, no less and no more.
+pub record HasDonePhases (script : Script) (p : ℕ) (t : Thread) (h : History) : Type 0 where
   pub notes : List Note
   pub tied : Ties Judged script.shape p notes h
-  pub done : OpsDone script.shape p any (program_of script p) (vars_of script p) (ops_in_first t.phase (phases_of script p)) (variables t.vars) notes
+  pub done : OpsDone script.shape p (hands_in p h) (program_of script p) (vars_of script p) (ops_in_first t.phase (phases_of script p)) (variables t.vars) notes
 
 abbrev pub PhasesAreDone : Type 0
-PhasesAreDone = (script : Script) (p : ℕ) (came any : Hands) (t : Thread) (v : View) → IsServed script → Drives (work_of script p came) t v → t.asked ≡ moves.PhaseEnd → HasDonePhases script p any t v.seen
+PhasesAreDone = (script : Script) (p : ℕ) (came : Hands) (t : Thread) (v : View) → Drives (work_of script p came) t v → t.asked ≡ moves.PhaseEnd → HasDonePhases script p t v.seen
 
 -- The pass may make the step that its stepper asks for.
 abbrev pub StepsAreAllowed : Type 0
@@ -104,6 +106,10 @@ abbrev pub SteppersDriveOn : Type 0
 SteppersDriveOn = (w : Work) (t : Thread) (v : View) (step : Step) (intent : Intent) (found : ℕ) (v' : View) → IsServedWork w → IsStepper t → IsSized w.shape → Drives w t v → t.asked ≡ moves.Step step intent →
     Told w.shape intent step v found v' → IsServedWord w.shape step intent found → GoesOn w t v step intent found v'
 
+-- A pass accesses no cell while its stepper is outside all accesses.
+abbrev pub OutsideIsNoAccess : Type 0
+OutsideIsNoAccess = (w : Work) (t : Thread) (v : View) → Drives w t v → in_access t ≡ false → v.working.access ≡ None
+
 -- A stepper that has ended leaves its pass with nothing.
 abbrev pub EndedSteppersHoldNothing : Type 0
 EndedSteppersHoldNothing = (w : Work) (t : Thread) (v : View) → Drives w t v → t.asked ≡ moves.Ended → HoldsNothing v
@@ -115,3 +121,7 @@ SteppersMeet = (w : Work) (t : Thread) (v v' : View) (n : ℕ) → Drives w t v 
 -- The notes of a pass that another takes in are its own in what that has seen then.
 abbrev pub NotesAreTakenIn : Type 0
 NotesAreTakenIn = (shape : HeapShape) (p : ℕ) (notes : List Note) (v u v' : View) → Ties Judged shape p notes u.seen → u.number ≡ p → Took shape v u v' → Ties Judged shape p notes v'.seen
+
+-- It knows then what the pass's hands referred to when they came.
+abbrev pub HandsAreTakenIn : Type 0
+HandsAreTakenIn = (shape : HeapShape) (p : ℕ) (v u v' : View) → u.number ≡ p → Took shape v u v' → Extends (hands_in p u.seen) (hands_in p v'.seen)

@@ -1,13 +1,13 @@
 //! A thread's stepper drives its pass of a shared heap: one relation between the two, and the laws of the steps that it asks for. No function
 //! does anything.
 //!
-//! Each reference of the stepper is a hand of the pass, of its kind, and the pass has no other; what is under way in its plan is what the pass has
-//! under way; and its notes are the acts of the pass. So each step that it asks for is one that the rule allows, what the step finds it may be
+//! Each reference of the stepper is a hand of the pass, of its kind and for its variable's class, and the pass has no other; what is under way in
+//! its plan is what the pass has under way, accesses to cells too; and its notes are the acts of the pass. So each step that it asks for is one that the rule allows, what the step finds it may be
 //! given, and the act that it tells is the one that the pass made. What runs scripts over the shared heap, and what replays them over plain words,
 //! rest on these laws.
 #![tactic(auto)]
 
-ghost use Rattle.arc_ops_passes.specs.Laws.{NewSteppersDrive, ScriptsNameVariables, PhasesBegin, PhasesAreDone, StepsAreAllowed, SteppersDriveOn, EndedSteppersHoldNothing, SteppersMeet, NotesAreTakenIn};
+ghost use Rattle.arc_ops_passes.specs.Laws.{NewSteppersDrive, ScriptsNameVariables, PhasesBegin, PhasesAreDone, StepsAreAllowed, SteppersDriveOn, OutsideIsNoAccess, EndedSteppersHoldNothing, SteppersMeet, NotesAreTakenIn, HandsAreTakenIn};
 
 /// A new stepper drives a new pass.
 pub fn steppers_begin()
@@ -32,10 +32,16 @@ pub fn steppers_drive_on()
     ensures { SteppersDriveOn }
 {}
 
+/// A pass accesses no cell while its stepper is outside all accesses.
+pub fn accesses_are_known()
+    ensures { OutsideIsNoAccess }
+{}
+
 /// Between phases a pass may take in what others had seen, and what a pass did stays its own where another takes it in.
 pub fn passes_meet()
     ensures meet { SteppersMeet }
     ensures taken { NotesAreTakenIn }
+    ensures hands { HandsAreTakenIn }
 {}
 
 /// A stepper that has ended leaves its pass with no hand, duty or claim, and nothing under way.

@@ -1,9 +1,10 @@
--- A thread makes steps alone, until its phase has ended.
-use Rattle.std.proofs.Common.{◌≡◌, ◌≢◌, ℕ, zero, suc, ◌+◌, ◌-◌, ◌/◌, ◌≤◌, ◌<◌, ◌^◌, Bool, true, false, cond, eqb, List, [], ◌∷◌, length, map, Option, Some, None, refl, ap, ◌∙◌, sym, subst, arith}
+-- A thread makes steps alone, until its phase has ended, or its operation with an access.
+use Rattle.std.proofs.Common.{◌≡◌, ◌≢◌, ℕ, zero, suc, ◌+◌, ◌-◌, ◌/◌, ◌≤◌, ◌<◌, ◌^◌, Bool, true, false, not, ◌&&◌, cond, eqb, ltb, List, [], ◌∷◌, length, map, Option, Some, None, refl, ap, ◌∙◌, sym, subst, arith}
 use Rattle.std.specs.List.{AllByRecursion}
 use Rattle.std.specs.Prelude.{All, bit_and, slice_get, slice_index, sum_by}
 use Rattle.std.proofs.lemmas.List.{length-map, length-set, get_or-set_same}
 use Rattle.std.proofs.lemmas.List.Sums.{sum_by-cons}
+use Rattle.std.proofs.lemmas.Bool.{lt-ltb}
 use Rattle.arc_rule.specs.Bits.{words_of, bit_of}
 use Rattle.arc_rule.specs.Extents.{Extent}
 use Rattle.arc_rule.specs.Places.{number}
@@ -15,8 +16,8 @@ use Rattle.arc_rule.specs.declared.attempt.At.{At as AttemptAt}
 use Rattle.arc_rule.specs.declared.attempt.At.TheVariants as attempt
 use Rattle.arc_plan.specs.declared.slots.Making.{Making as Search}
 use Rattle.arc_plan.specs.declared.slots.Making.TheVariants as search
-use Rattle.arc_cells.specs.declared.cascade.At.{At}
-use Rattle.arc_cells.specs.declared.cascade.At.TheVariants as at
+use Rattle.arc_cells.specs.declared.bare.At.{At}
+use Rattle.arc_cells.specs.declared.bare.At.TheVariants as at
 use Rattle.arc_script.specs.declared.script.ThreadDecl.{ThreadDecl}
 use Rattle.arc_script.specs.declared.script.VarDecl.{VarDecl}
 use Rattle.arc_script.specs.declared.script.Script.{Script}
@@ -27,17 +28,18 @@ use Rattle.arc_ops.specs.declared.stepper.Doing.{Doing}
 use Rattle.arc_ops.specs.declared.stepper.Doing.TheVariants as doings
 use Rattle.arc_ops.specs.declared.stepper.Move.{Move}
 use Rattle.arc_ops.specs.declared.stepper.Move.TheVariants as moves
-use Rattle.arc_ops.specs.Thread.{Thread, stepper_of}
+use Rattle.arc_ops.specs.Thread.{Thread, stepper_of, is_busy, is_accessing, in_access, in_operation}
 use Rattle.arc_ops.specs.Turns.{turned}
-use Rattle.arc_ops.specs.Steppers.{IsStepper, IsUnderWay as IsAtWork}
-use Rattle.arc_replays.specs.Stages.{Reached, MayStep, is_step, is_phase_end, awaits_phase, stepped}
-use Rattle.arc_replays.specs.Stages.Reached.{by_number, last_step}
-use Rattle.arc_plain.specs.Crews.{Progress, IsUnderWay, MayGoOn, ThreadFinished, thread_at, has_made}
-use Rattle.arc_plain.specs.Left.{held_unit, count_at, search_left, attempt_left, count_left, cascade_left, doing_left, left}
+use Rattle.arc_ops.specs.Steppers.{IsStepper, IsInOperation, IsUnderWay as IsAtWork}
+use Rattle.arc_replays.specs.Stages.{Reached, MayStep, is_step, is_phase_end, has_step, awaits_phase, stepped}
+use Rattle.arc_replays.specs.Stages.Reached.{inside, ends_it, outside, by_number, last_step}
+use Rattle.arc_plain.specs.Crews.{Progress, IsAtStage, IsUnderWay, IsAlone, MayGoOn, MayEnd, ThreadFinished, AccessEnded, thread_at, has_made}
+use Rattle.arc_plain.specs.Left.{held_unit, count_at, search_left, attempt_left, count_left, cascade_left, doing_left, left, FindsFree}
 use Rattle.arc_replays.proofs.Laws.{threads_are_at_work}
 use Rattle.arc_plain.proofs.Lists.{set_apart}
 use Rattle.arc_plain.proofs.Walks.{IsPhase, unit_few}
-use Rattle.arc_plain.proofs.Falls.{Goes, falls}
+use Rattle.arc_plain.proofs.Falls.{IsBehindCells, IsPast, Goes, falls, stops}
+use Rattle.arc_plain.proofs.Free.{finds_free}
 use Rattle.arc_plain.proofs.Keeps.{all_keep}
 use Rattle.arc_plain.proofs.Places.{there, may_step}
 
@@ -90,16 +92,20 @@ cascade_few words (at.Finishing p) = let h = attempt_few (count_at words p.layou
 cascade_few words (at.Vacating p) = omega arith
 cascade_few words at.Ended = omega arith
 
-doing_few : (words : List ℕ) (t : Thread) (d : Doing) → t.layout.slots ≤ 4096 → length t.program ≤ 100000 → length t.vars ≤ 256 → IsAtWork t.layout t.shape (length t.vars) d → doing_left words t d ≤ 2 ^ 40
-doing_few words t doings.Ready slots program vars under = omega arith
-doing_few words t (doings.Making to name plan) slots program vars under =
+doing_few : (words : List ℕ) (t : Thread) (d : Doing) → t.layout.slots ≤ 4096 → t.layout.globals ≤ 64 → length t.program ≤ 100000 → length t.vars ≤ 256 → IsAtWork t.layout t.shape (length t.vars) d → doing_left words t d ≤ 2 ^ 40
+doing_few words t doings.Ready slots globals program vars under = omega arith
+doing_few words t (doings.Making to name plan) slots globals program vars under =
     let h = held_few t.vars in let k = search_few words plan.layout plan.at in let same : plan.layout.slots ≡ t.layout.slots = ap (λ (l : Extent). l.slots) under.1 in omega arith
-doing_few words t (doings.Gaining gain to from plan) slots program vars under = let h = held_few t.vars in let k = counted_few plan.entry (count_at words plan.layout plan.slot) plan.at in omega arith
-doing_few words t (doings.Naming to held plan) slots program vars under = let h = held_few t.vars in omega arith
-doing_few words t (doings.Dropping held plan) slots program vars under = let h = held_few t.vars in let k = counted_few plan.entry (count_at words plan.layout plan.slot) plan.at in omega arith
-doing_few words t (doings.Dying c) slots program vars under = let h = held_few t.vars in let k = cascade_few words c.at in omega arith
-doing_few words t (doings.Vacating slot plan) slots program vars under = let h = held_few t.vars in omega arith
-doing_few words t doings.Ended slots program vars under = omega arith
+doing_few words t (doings.Gaining gain to from plan) slots globals program vars under = let h = held_few t.vars in let k = counted_few plan.entry (count_at words plan.layout plan.slot) plan.at in omega arith
+doing_few words t (doings.Naming to held plan) slots globals program vars under = let h = held_few t.vars in omega arith
+doing_few words t (doings.Opening to cell plan) slots globals program vars under = let h = held_few t.vars in let k = attempt_few (slice_index words plan.place) plan.at in omega arith
+doing_few words t (doings.Closing to cell held plan) slots globals program vars under = let h = held_few t.vars in omega arith
+doing_few words t (doings.Setting from cell plan) slots globals program vars under = let h = held_few t.vars in let k = attempt_few (slice_index words plan.place) plan.at in omega arith
+doing_few words t (doings.Clearing plan) slots globals program vars under = let h = held_few t.vars in let k = attempt_few (slice_index words plan.place) plan.at in omega arith
+doing_few words t (doings.Dropping held plan) slots globals program vars under = let h = held_few t.vars in let k = counted_few plan.entry (count_at words plan.layout plan.slot) plan.at in omega arith
+doing_few words t (doings.Dying c) slots globals program vars under = let h = held_few t.vars in let k = cascade_few words c.at in omega arith
+doing_few words t (doings.Vacating slot plan) slots globals program vars under = let h = held_few t.vars in omega arith
+doing_few words t doings.Ended slots globals program vars under = omega arith
 
 declared_few : (classes : _) (globals : _) (ts : List ThreadDecl) (i : ℕ) → AllByRecursion (IsThread classes globals) ts → count_of_vars (slice_get ts i) ≤ 256
 declared_few classes globals [] i all = omega arith
@@ -116,21 +122,22 @@ vars_few script p valid = go (eqb p 0)
     go true = omega arith
     go false = declared_few script.classes script.globals script.threads (p - 1) valid.threads
 
-pub left_few : (c : Progress) (p : ℕ) → IsUnderWay c → p < length c.stage.threads → left c.stage.words (thread_at p c) ≤ 2 ^ 40
-left_few c p u lt =
+pub left_few : (n : ℕ) (c : Progress) (p : ℕ) → IsAtStage n c → p < length c.stage.threads → left c.stage.words (thread_at p c) ≤ 2 ^ 40
+left_few n c p u lt =
     let s = u.steppers p (stepper_of c.script p) lt in
-    let k = all_keep c.script u.script u.served c.stage u.reached p (thread_at p c) (there c p lt) in
+    let k = all_keep c.script u.script u.served n c.stage u.reached p (thread_at p c) (there c p lt) in
     let vars = vars_few c.script p u.script in
     let count = k.count in
-    doing_few c.stage.words (thread_at p c) (thread_at p c).doing s.slots s.few (omega arith) s.under_way
+    doing_few c.stage.words (thread_at p c) (thread_at p c).doing s.slots s.globals s.few (omega arith) s.under_way
 
--- ---- the loop
+-- ---- the steps of a phase
 
 -- what holds before each step
 pub record Alone (p : ℕ) (before c : Progress) : Type 0 where
   pub under_way : IsUnderWay c
   pub within : p < length c.stage.threads
   pub may : MayGoOn p c
+  pub alone : IsAlone p c
   pub script : c.script ≡ before.script
   pub begun : c.stage.begun ≡ before.stage.begun
   pub places : c.stage.places ≡ before.stage.places
@@ -138,16 +145,17 @@ pub record Alone (p : ℕ) (before c : Progress) : Type 0 where
   pub bound : c.stage.steps + left c.stage.words (thread_at p c) ≤ before.stage.steps + 2 ^ 40
   pub begun_once : (awaits_phase (thread_at p before) ≡ true → 1 ≤ (thread_at p before).phase) → awaits_phase (thread_at p c) ≡ true → 1 ≤ (thread_at p c).phase
 
-pub alone_first : (p : ℕ) (c : Progress) → IsUnderWay c → p < length c.stage.threads → MayGoOn p c → Alone p c c
-alone_first p c u lt may = record {
+pub alone_first : (p : ℕ) (c : Progress) → IsUnderWay c → p < length c.stage.threads → MayGoOn p c → IsAlone p c → Alone p c c
+alone_first p c u lt may alone = record {
   under_way = u;
   within = lt;
   may = may;
+  alone = alone;
   script = refl;
   begun = refl;
   places = refl;
   others = λ q ne. refl;
-  bound = let few = left_few c p u lt in omega arith;
+  bound = let few = left_few 0 c p u lt in omega arith;
   begun_once = λ h w. h w;
 }
 
@@ -159,45 +167,45 @@ came_to k n moves.Ended e h = absurd (cc)
 is_asked : (m : Move) (step : Step) (intent : Intent) → m ≡ moves.Step step intent → is_step m ≡ true
 is_asked m step intent e = ap is_step e
 
+-- the thread is given what its step finds
+abbrev after : ℕ → Progress → Step → Thread
+after p c step = turned (thread_at p c) (Some (found_by step c.stage.words))
+
+now : (p : ℕ) (c : Progress) (step : Step) → p < length c.stage.threads → thread_at p (has_made p step c) ≡ after p c step
+now p c step lt = get_or-set_same c.stage.threads p (after p c step) (stepper_of c.script p) lt
+
+goes_on : (n : ℕ) (p : ℕ) (c : Progress) (step : Step) (intent : Intent) → IsAtStage n c → p < length c.stage.threads → (thread_at p c).asked ≡ moves.Step step intent →
+    Goes (thread_at p c) c.stage.words (made_by step c.stage.words) (thread_at p c).doing (after p c step)
+goes_on n p c step intent u lt asked =
+    falls c.script.shape (thread_at p c) c.stage.words step intent (u.steppers p (stepper_of c.script p) lt) (threads_are_at_work c.script n c.stage p (thread_at p c) u.script u.served u.reached (there c p lt)).asks asked
+
 -- the thread makes a step, and has fewer left
 pub alone_on : (p : ℕ) (before c : Progress) (step : Step) (intent : Intent) → Alone p before c → (thread_at p c).asked ≡ moves.Step step intent → All IsStepper (has_made p step c).stage.threads →
     Alone p before (has_made p step c) × (left (made_by step c.stage.words) (thread_at p (has_made p step c)) < left c.stage.words (thread_at p c))
 alone_on p before c step intent a asked steppers =
-    let fewer = goes.fewer in
+    let goes = goes_on 0 p c step intent a.under_way a.within asked in
+    let fewer = goes.fewer (finds_free 0 c p a.under_way a.within a.alone) in
     let bound = a.bound in
-    let less : left (made_by step c.stage.words) (thread_at p (has_made p step c)) < left c.stage.words (thread_at p c) = rw now fewer in (
+    let is = now p c step a.within in
+    let less : left (made_by step c.stage.words) (thread_at p (has_made p step c)) < left c.stage.words (thread_at p c) = rw is fewer in (
       record {
-        under_way = record { script = u.script; served = u.served; reached = reached p refl; steppers = steppers };
+        under_way = record { script = a.under_way.script; served = a.under_way.served; reached = reached p refl; steppers = steppers };
         within = rw length-set a.within;
-        may = λ h p1. let m = a.may (is_asked t.asked step intent asked) p1 in (m.0, λ q x q1 lt at. m.1 q x q1 lt (sym (set_apart c.stage.threads p q after (λ e. omega arith)) ∙ at));
+        may = λ h p1. let m = a.may (is_asked (thread_at p c).asked step intent asked) p1 in (m.0, λ q x q1 lt at. m.1 q x q1 lt (sym (set_apart c.stage.threads p q (after p c step) (λ e. omega arith)) ∙ at));
+        alone = λ q x q1 ne at. a.alone q x q1 ne (sym (set_apart c.stage.threads p q (after p c step) ne) ∙ at);
         script = a.script;
         begun = a.begun;
         places = a.places;
-        others = λ q ne. set_apart c.stage.threads p q after ne ∙ a.others q ne;
+        others = λ q ne. set_apart c.stage.threads p q (after p c step) ne ∙ a.others q ne;
         bound = omega arith;
-        begun_once = λ h w. rw now (came_to t.phase after.phase after.asked (rw now at w) goes.phase);
+        begun_once = λ h w. rw is (came_to (thread_at p c).phase (after p c step).phase (after p c step).asked (rw is at w) goes.phase);
       },
       less,
     )
   where
-    u : IsUnderWay c
-    u = a.under_way
-
-    t : Thread
-    t = thread_at p c
-
-    after : Thread
-    after = turned (thread_at p c) (Some (found_by step c.stage.words))
-
-    goes : Goes (thread_at p c) c.stage.words (made_by step c.stage.words) (thread_at p c).doing (turned (thread_at p c) (Some (found_by step c.stage.words)))
-    goes = falls c.script.shape (thread_at p c) c.stage.words step intent (a.under_way.steppers p (stepper_of c.script p) a.within) (threads_are_at_work c.script c.stage p (thread_at p c) a.under_way.script a.under_way.served a.under_way.reached (there c p a.within)).asks asked
-
-    now : thread_at p (has_made p step c) ≡ turned (thread_at p c) (Some (found_by step c.stage.words))
-    now = get_or-set_same c.stage.threads p (turned (thread_at p c) (Some (found_by step c.stage.words))) (stepper_of c.script p) a.within
-
-    reached : (n : ℕ) → p ≡ n → Reached c.script (has_made p step c).stage
-    reached zero e = subst (λ (k : ℕ). MayStep c.stage k (thread_at p c) step intent → Reached c.script (stepped k (thread_at p c) step c.stage)) (sym e) (λ m. last_step step intent a.under_way.reached m) (may_step c p step intent a.under_way a.within asked)
-    reached (suc n) e = let m = a.may (is_asked (thread_at p c).asked step intent asked) (omega arith) in by_number step intent a.under_way.reached m.0 (omega arith) m.1 (may_step c p step intent a.under_way a.within asked)
+    reached : (n : ℕ) → p ≡ n → Reached c.script 0 (has_made p step c).stage
+    reached zero e = subst (λ (k : ℕ). MayStep c.stage k (thread_at p c) step intent → Reached c.script 0 (stepped k (thread_at p c) step c.stage)) (sym e) (λ m. last_step step intent a.under_way.reached m) (may_step 0 c p step intent a.under_way a.within asked)
+    reached (suc n) e = let m = a.may (is_asked (thread_at p c).asked step intent asked) (omega arith) in by_number step intent a.under_way.reached m.0 (omega arith) m.1 a.alone (may_step 0 c p step intent a.under_way a.within asked)
 
 pub alone_made : (p : ℕ) (before c c' : Progress) (step : Step) (intent : Intent) → Alone p before c → (thread_at p c).asked ≡ moves.Step step intent → c' ≡ has_made p step c → All IsStepper c'.stage.threads →
     Alone p before c' × (left c'.stage.words (thread_at p c') < left c.stage.words (thread_at p c))
@@ -216,3 +224,195 @@ alone_last p before c a idle =
       done = idle;
       begun_once = a.begun_once;
     }
+
+-- a thread without a step is inside no access
+pub idle_outside : (n : ℕ) (c : Progress) (p : ℕ) → IsAtStage n c → p < length c.stage.threads → has_step (thread_at p c) ≡ false → in_access (thread_at p c) ≡ false
+idle_outside n c p u lt idle =
+    go (thread_at p c).doing (stops c.script.shape (thread_at p c) (thread_at p c).doing (threads_are_at_work c.script n c.stage p (thread_at p c) u.script u.served u.reached (there c p lt)).asks idle)
+  where
+    go : (d : Doing) → is_busy d ≡ false → is_accessing d ≡ false
+    go doings.Ready e = refl
+    go (doings.Making to name plan) e = refl
+    go (doings.Gaining gain to from plan) e = absurd (cc)
+    go (doings.Naming to held plan) e = refl
+    go (doings.Opening to cell plan) e = refl
+    go (doings.Closing to cell held plan) e = absurd (cc)
+    go (doings.Setting from cell plan) e = refl
+    go (doings.Clearing plan) e = refl
+    go (doings.Dropping held plan) e = refl
+    go (doings.Dying x) e = refl
+    go (doings.Vacating slot plan) e = refl
+    go doings.Ended e = refl
+
+-- ---- the steps of an operation with an access
+
+-- what holds before each step
+pub record Ending (p : ℕ) (before c : Progress) : Type 0 where
+  pub at_stage : IsAtStage p c
+  pub other : 1 ≤ p
+  pub followed : c.stage.places ≡ []
+  pub within : p < length c.stage.threads
+  pub script : c.script ≡ before.script
+  pub begun : c.stage.begun ≡ before.stage.begun
+  pub places : c.stage.places ≡ before.stage.places
+  pub others : (q : ℕ) → q ≢ p → slice_get c.stage.threads q ≡ slice_get before.stage.threads q
+  pub bound : c.stage.steps + left c.stage.words (thread_at p c) ≤ before.stage.steps + 2 ^ 40
+  pub past : IsBehindCells (thread_at p c) (thread_at p c).doing
+
+pub ending_first : (p : ℕ) (c : Progress) → IsUnderWay c → p < length c.stage.threads → MayEnd p c → Ending p c c
+ending_first p c u lt m = record {
+  at_stage = record { script = u.script; served = u.served; reached = inside u.reached m.followed m.other m.below (there c p lt) m.inside; steppers = u.steppers };
+  other = m.other;
+  followed = m.followed;
+  within = lt;
+  script = refl;
+  begun = refl;
+  places = refl;
+  others = λ q ne. refl;
+  bound = let few = left_few 0 c p u lt in omega arith;
+  past = go (thread_at p c).doing m.inside;
+}
+  where
+    go : (d : Doing) → is_accessing d ≡ true → IsBehindCells (thread_at p c) d
+    go doings.Ready e = tt
+    go (doings.Making to name plan) e = tt
+    go (doings.Gaining gain to from plan) e = tt
+    go (doings.Naming to held plan) e = tt
+    go (doings.Opening to cell plan) e = absurd (cc)
+    go (doings.Closing to cell held plan) e = tt
+    go (doings.Setting from cell plan) e = absurd (cc)
+    go (doings.Clearing plan) e = absurd (cc)
+    go (doings.Dropping held plan) e = tt
+    go (doings.Dying x) e = tt
+    go (doings.Vacating slot plan) e = tt
+    go doings.Ended e = tt
+
+-- an operation is under way, and not at its first step
+op_busy : (a b c : Bool) → (a && not b && c) ≡ true → (a ≡ true) × (b ≡ false)
+op_busy true true c e = absurd (cc)
+op_busy true false c e = (refl, refl)
+op_busy false b c e = absurd (cc)
+
+op_under_way : (a b c : Bool) → a ≡ true → b ≡ false → c ≡ true → (a && not b && c) ≡ true
+op_under_way a b c p q r = rw (p, q, r) refl
+
+past_free : (words : List ℕ) (d : Doing) → IsPast d → FindsFree words d
+past_free words doings.Ready h = tt
+past_free words (doings.Making to name plan) h = tt
+past_free words (doings.Gaining gain to from plan) h = tt
+past_free words (doings.Naming to held plan) h = tt
+past_free words (doings.Opening to cell plan) h = absurd h
+past_free words (doings.Closing to cell held plan) h = tt
+past_free words (doings.Setting from cell plan) h = absurd h
+past_free words (doings.Clearing plan) h = absurd h
+past_free words (doings.Dropping held plan) h = tt
+past_free words (doings.Dying x) h = tt
+past_free words (doings.Vacating slot plan) h = tt
+past_free words doings.Ended h = tt
+
+-- inside an operation it waits for no cell
+ending_past : (p : ℕ) (before c : Progress) → Ending p before c → in_operation (thread_at p c) ≡ true → IsPast (thread_at p c).doing
+ending_past p before c a busy = go (thread_at p c).doing a.past
+  where
+    started : (thread_at p c).first ≡ false
+    started = (op_busy (is_busy (thread_at p c).doing) (thread_at p c).first (ltb (thread_at p c).index (length (thread_at p c).program)) busy).1
+
+    numbered : (thread_at p c).thread ≡ p
+    numbered = (threads_are_at_work c.script p c.stage p (thread_at p c) a.at_stage.script a.at_stage.served a.at_stage.reached (there c p a.within)).thread
+
+    go : (d : Doing) → IsBehindCells (thread_at p c) d → IsPast d
+    go doings.Ready h = tt
+    go (doings.Making to name plan) h = tt
+    go (doings.Gaining gain to from plan) h = tt
+    go (doings.Naming to held plan) h = tt
+    go (doings.Opening to cell plan) h = absurd (let f = started in cc)
+    go (doings.Closing to cell held plan) h = tt
+    go (doings.Setting from cell plan) h = absurd (let f = started in cc)
+    go (doings.Clearing plan) h = absurd (let k = numbered in let other = a.other in omega arith)
+    go (doings.Dropping held plan) h = tt
+    go (doings.Dying x) h = tt
+    go (doings.Vacating slot plan) h = tt
+    go doings.Ended h = tt
+
+pub ending_on : (p : ℕ) (before c : Progress) (step : Step) (intent : Intent) → Ending p before c → in_operation (thread_at p c) ≡ true → (thread_at p c).asked ≡ moves.Step step intent → All IsStepper (has_made p step c).stage.threads →
+    Ending p before (has_made p step c) × (left (made_by step c.stage.words) (thread_at p (has_made p step c)) < left c.stage.words (thread_at p c))
+ending_on p before c step intent a busy asked steppers =
+    let goes = goes_on p p c step intent a.at_stage a.within asked in
+    let past = ending_past p before c a busy in
+    let fewer = goes.fewer (past_free c.stage.words (thread_at p c).doing past) in
+    let bound = a.bound in
+    let is = now p c step a.within in
+    let less : left (made_by step c.stage.words) (thread_at p (has_made p step c)) < left c.stage.words (thread_at p c) = rw is fewer in (
+      record {
+        at_stage = record {
+          script = a.at_stage.script;
+          served = a.at_stage.served;
+          reached = ends_it step intent a.at_stage.reached a.other (may_step p c p step intent a.at_stage a.within asked) busy;
+          steppers = steppers;
+        };
+        other = a.other;
+        followed = a.followed;
+        within = rw length-set a.within;
+        script = a.script;
+        begun = a.begun;
+        places = a.places;
+        others = λ q ne. set_apart c.stage.threads p q (after p c step) ne ∙ a.others q ne;
+        bound = omega arith;
+        past = rw is (goes.past past);
+      },
+      less,
+    )
+
+pub ending_made : (p : ℕ) (before c c' : Progress) (step : Step) (intent : Intent) → Ending p before c → in_operation (thread_at p c) ≡ true → (thread_at p c).asked ≡ moves.Step step intent → c' ≡ has_made p step c → All IsStepper c'.stage.threads →
+    Ending p before c' × (left c'.stage.words (thread_at p c') < left c.stage.words (thread_at p c))
+ending_made p before c c' step intent a busy asked is steppers = rw is (ending_on p before c step intent a busy asked (rw is at steppers))
+
+-- its operation is over, and with it the access
+pub ending_last : (p : ℕ) (before c : Progress) → Ending p before c → in_operation (thread_at p c) ≡ false → AccessEnded p before c
+ending_last p before c a over =
+    let bound = a.bound in
+    let long : length c.stage.places ≡ length before.stage.places = ap (λ (ps : List ℕ). length ps) a.places in
+    record {
+      under_way = record { script = a.at_stage.script; served = a.at_stage.served; reached = outside a.at_stage.reached a.other (there c p a.within) over; steppers = a.at_stage.steppers };
+      came = record { script = a.script; begun = a.begun; steps = omega arith };
+      places = a.places;
+      others = a.others;
+      outside = go (in_access (thread_at p c)) refl;
+      followed = λ f some. a.followed;
+    }
+  where
+    s : IsStepper (thread_at p c)
+    s = a.at_stage.steppers p (stepper_of c.script p) a.within
+
+    operating : (d : Doing) → is_accessing d ≡ true → IsInOperation (thread_at p c) d → (is_busy d ≡ true) × ((thread_at p c).index < length (thread_at p c).program)
+    operating doings.Ready e o = absurd (cc)
+    operating (doings.Making to name plan) e o = absurd (cc)
+    operating (doings.Gaining gain to from plan) e o = (refl, o.0)
+    operating (doings.Naming to held plan) e o = absurd (cc)
+    operating (doings.Opening to cell plan) e o = absurd (cc)
+    operating (doings.Closing to cell held plan) e o = (refl, o)
+    operating (doings.Setting from cell plan) e o = absurd (cc)
+    operating (doings.Clearing plan) e o = absurd (cc)
+    operating (doings.Dropping held plan) e o = absurd (cc)
+    operating (doings.Dying x) e o = absurd (cc)
+    operating (doings.Vacating slot plan) e o = absurd (cc)
+    operating doings.Ended e o = absurd (cc)
+
+    go : (b : Bool) → in_access (thread_at p c) ≡ b → in_access (thread_at p c) ≡ false
+    go false e = e
+    go true e =
+        let at = operating (thread_at p c).doing e s.in_operation in
+        let started = (all_keep c.script a.at_stage.script a.at_stage.served p c.stage a.at_stage.reached p (thread_at p c) (there c p a.within)).inside e in
+        let busy : in_operation (thread_at p c) ≡ true = op_under_way (is_busy (thread_at p c).doing) (thread_at p c).first (ltb (thread_at p c).index (length (thread_at p c).program)) at.0 started (lt-ltb (thread_at p c).index (length (thread_at p c).program) at.1) in
+        absurd (cc)
+
+-- inside an operation it has a step
+pub ending_steps : (p : ℕ) (before c : Progress) → Ending p before c → in_operation (thread_at p c) ≡ true → is_step (thread_at p c).asked ≡ false → ⊥
+ending_steps p before c a busy idle =
+    let at = (op_busy (is_busy (thread_at p c).doing) (thread_at p c).first (ltb (thread_at p c).index (length (thread_at p c).program)) busy).0 in
+    let none = stops c.script.shape (thread_at p c) (thread_at p c).doing (threads_are_at_work c.script p c.stage p (thread_at p c) a.at_stage.script a.at_stage.served a.at_stage.reached (there c p a.within)).asks idle in
+    cc
+
+-- a thread that is inside none has none to end
+pub outside_anyhow : (p : ℕ) (c : Progress) → IsUnderWay c → in_access (thread_at p c) ≡ false → AccessEnded p c c
+outside_anyhow p c u out = record { under_way = u; came = record { script = refl; begun = refl; steps = omega arith }; places = refl; others = λ q ne. refl; outside = out; followed = λ f. f }

@@ -1,6 +1,8 @@
 -- A step that a thread makes alone brings it nearer to the end of its phase, whatever word it finds.
-use Rattle.std.proofs.Common.{◌≡◌, ℕ, ◌+◌, ◌*◌, ◌/◌, ◌≤◌, ◌<◌, Bool, true, false, cond, eqb, ltb, eq-eqb, List, length, Option, Some, None, refl, ap, ◌∙◌, subst, sym, arith, rules}
-use Rattle.std.specs.Prelude.{bit_and, slice_get, slice_index}
+use Rattle.std.proofs.Common.{◌≡◌, ◌≢◌, ℕ, ◌+◌, ◌-◌, ◌*◌, ◌/◌, ◌≤◌, ◌<◌, Bool, true, false, cond, eqb, ltb, eq-eqb, List, length, Option, Some, None, refl, ap, ◌∙◌, subst, sym, arith, rules}
+use Rattle.std.specs.Prelude.{bit_and, slice_get, slice_index, ⊤}
+use Rattle.std.proofs.lemmas.List.{length-set}
+use Rattle.std.proofs.lemmas.Bool.{eqb-true}
 use Rattle.std.proofs.lemmas.Option.{slice_get_within}
 use Rattle.arc_bits.specs.declared.packing.Word.{Word}
 use Rattle.arc_bits.specs.declared.packing.Word.TheVariants as word
@@ -12,6 +14,10 @@ use Rattle.arc_model.specs.declared.shape.Kind.TheVariants as kinds
 use Rattle.arc_model.specs.declared.event.Act.{Act}
 use Rattle.arc_model.specs.declared.event.Act.TheVariants as acts
 use Rattle.arc_model.specs.declared.event.Got.TheVariants as gots
+use Rattle.arc_model.specs.declared.event.CellName.{CellName}
+use Rattle.arc_model.specs.declared.event.CellName.TheVariants as cells
+use Rattle.arc_model.specs.declared.event.Origin.{Origin}
+use Rattle.arc_model.specs.declared.event.Origin.TheVariants as origins
 use Rattle.arc_model.specs.declared.event.ObjectName.{ObjectName}
 use Rattle.arc_model.specs.declared.answer.Answer.TheVariants as answers
 use Rattle.arc_rule.specs.Extents.{Extent}
@@ -19,7 +25,7 @@ use Rattle.arc_rule.specs.Places.{extent_of, number}
 use Rattle.arc_rule.specs.Steps.{found_by, made_by}
 use Rattle.arc_rule.specs.declared.layout.Place.TheVariants.{Count, SlotBits}
 use Rattle.arc_rule.specs.declared.step.Step.{Step}
-use Rattle.arc_rule.specs.declared.step.Step.TheVariants.{Load, Exchange}
+use Rattle.arc_rule.specs.declared.step.Step.TheVariants.{Load, Exchange, Store}
 use Rattle.arc_rule.specs.declared.step.Intent.{Intent}
 use Rattle.arc_rule.specs.declared.step.Intent.TheVariants as intents
 use Rattle.arc_rule.specs.declared.plan.Next.{Next as NextStep}
@@ -53,9 +59,14 @@ use Rattle.arc_side.specs.Downs.{Fall, of_strong_down, of_unowned_down, down_end
 use Rattle.arc_plan.specs.Slots.{Creation, free_slot, looked, looked_answer, looking, taking, counting}
 use Rattle.arc_plan.proofs.Bits.{free_is_clear}
 use Rattle.arc_rule.specs.Bits.{words_of, bit_of}
-use Rattle.arc_cells.specs.declared.cascade.At.{At}
-use Rattle.arc_cells.specs.declared.cascade.At.TheVariants as at
-use Rattle.arc_cells.specs.Cascades.{CascadeState, finish_turned, finish_says}
+use Rattle.arc_cells.specs.declared.begin.BeginAnswer.{BeginAnswer}
+use Rattle.arc_cells.specs.declared.begin.BeginAnswer.TheVariants as begins
+use Rattle.arc_cells.specs.declared.swap.SwapAnswer.TheVariants as swaps
+use Rattle.arc_cells.specs.Begins.{Beginning}
+use Rattle.arc_cells.specs.Swaps.{SwapAttempt}
+use Rattle.arc_cells.specs.declared.bare.At.{At}
+use Rattle.arc_cells.specs.declared.bare.At.TheVariants as at
+use Rattle.arc_cells.specs.BareCascades.{CascadeState, finish_turned, finish_says}
 use Rattle.arc_script.specs.declared.script.Op.{Op}
 use Rattle.arc_script.specs.declared.script.Op.TheVariants as op
 use Rattle.arc_script.specs.OneList.{in_one_list}
@@ -69,21 +80,41 @@ use Rattle.arc_ops.specs.declared.stepper.Move.{Move}
 use Rattle.arc_ops.specs.declared.stepper.Move.TheVariants as moves
 use Rattle.arc_ops.specs.declared.gain.Gain.{Gain}
 use Rattle.arc_ops.specs.declared.gain.Gain.TheVariants as gains
-use Rattle.arc_ops.specs.Thread.{Thread, put}
-use Rattle.arc_ops.specs.Plans.{list_of, intent_of}
+use Rattle.arc_ops.specs.declared.gain.Source.{Source}
+use Rattle.arc_ops.specs.declared.cell.Cell.{Cell}
+use Rattle.arc_ops.specs.Thread.{Thread, value, set_var, put, is_busy, is_accessing, in_access}
+use Rattle.arc_ops.specs.Cells.{cell_number, word_of, held_in, hand_in, swapped, next_global}
+use Rattle.arc_ops.specs.Plans.{hand_of, list_of, intent_of, drop_begun}
 use Rattle.arc_ops.specs.Gains.{gained, came_by, has_gained, found_dead, gained_on}
 use Rattle.arc_ops.specs.Begins.{begun, next_op}
-use Rattle.arc_ops.specs.Drops.{dropped_on, dying_on}
+use Rattle.arc_ops.specs.Drops.{replaced, dropped_on, dying_on}
+use Rattle.arc_ops.specs.Gets.{opened_on}
+use Rattle.arc_ops.specs.Sets.{set_to, set_on, cleared, cleared_on}
 use Rattle.arc_ops.specs.Makes.{strong_to, made_on}
 use Rattle.arc_ops.specs.Turns.{turned, turned_at}
 use Rattle.arc_ops.specs.Steppers.{IsStepper, IsUnderWay, IsMakingIn, IsInOperation}
-use Rattle.arc_ops_passes.specs.Drives.{Asks, SearchAsks, AttemptAsks, VacateAsks, NameAsks, CascadeAsks}
-use Rattle.arc_plain.specs.Left.{units, busy_units, count_at, doing_left, left}
-use Rattle.arc_plain.proofs.Walks.{IsPhase, IsForth, Fits, Comes, Same, after_same, begins, next_comes, replaced_comes}
+use Rattle.arc_ops_passes.specs.Drives.{Asks, SearchAsks, AttemptAsks, CountAsks, OnceAsks, VacateAsks, NameAsks, CascadeAsks}
+use Rattle.arc_replays.specs.Stages.{is_step}
+use Rattle.arc_plain.specs.Left.{globals_left, units, busy_units, count_at, doing_left, left, FindsFree}
+use Rattle.arc_plain.proofs.Walks.{IsPhase, IsBehind, IsForth, Fits, Comes, Same, units_set, drop_comes, after_same, begins, next_comes, replaced_comes}
 
 -- what the thread is while it is given a word
 abbrev pub quiet : Thread → Thread
 quiet t = record t { doing = doings.Ended; first = false; event = None }
+
+-- a cell that it waits for is that of its operation's first step, or the end section's
+abbrev pub IsBehindCells : Thread → Doing → Type 0
+IsBehindCells t (doings.Opening to cell plan) = t.first ≡ true
+IsBehindCells t (doings.Setting from cell plan) = t.first ≡ true
+IsBehindCells t (doings.Clearing plan) = t.thread ≡ 0
+IsBehindCells t _ = ⊤
+
+-- it doesn't wait for a cell
+abbrev pub IsPast : Doing → Type 0
+IsPast (doings.Opening to cell plan) = ⊥
+IsPast (doings.Setting from cell plan) = ⊥
+IsPast (doings.Clearing plan) = ⊥
+IsPast _ = ⊤
 
 -- The thread, which was doing this, became another state of it. It has fewer steps left on the words then than it had before.
 pub record Goes (t : Thread) (words after : List ℕ) (d : Doing) (u : Thread) : Type 0 where
@@ -92,7 +123,39 @@ pub record Goes (t : Thread) (words after : List ℕ) (d : Doing) (u : Thread) :
   pub program : u.program ≡ t.program
   pub count : length u.vars ≡ length t.vars
   pub phase : IsPhase t.phase u.asked u.phase
-  pub fewer : left after u < doing_left words t d
+  -- inside an access it has made a step of its operation
+  pub inside : in_access u ≡ true → u.first ≡ false
+  pub past : IsPast d → IsBehindCells u u.doing
+  -- where the cell that it waited for isn't accessed
+  pub fewer : FindsFree words d → left after u < doing_left words t d
+
+pub behind_outside : (u : Thread) (d : Doing) → IsBehind u d → is_accessing d ≡ true → ⊥
+behind_outside u doings.Ready b e = cc
+behind_outside u (doings.Making to name plan) b e = cc
+behind_outside u (doings.Gaining gain to from plan) b e = cc
+behind_outside u (doings.Naming to held plan) b e = cc
+behind_outside u (doings.Opening to cell plan) b e = cc
+behind_outside u (doings.Closing to cell held plan) b e = b
+behind_outside u (doings.Setting from cell plan) b e = cc
+behind_outside u (doings.Clearing plan) b e = cc
+behind_outside u (doings.Dropping held plan) b e = cc
+behind_outside u (doings.Dying c) b e = cc
+behind_outside u (doings.Vacating slot plan) b e = cc
+behind_outside u doings.Ended b e = cc
+
+behind_cells : (u : Thread) (d : Doing) → IsBehind u d → IsBehindCells u d
+behind_cells u doings.Ready b = tt
+behind_cells u (doings.Making to name plan) b = tt
+behind_cells u (doings.Gaining gain to from plan) b = tt
+behind_cells u (doings.Naming to held plan) b = tt
+behind_cells u (doings.Opening to cell plan) b = b
+behind_cells u (doings.Closing to cell held plan) b = tt
+behind_cells u (doings.Setting from cell plan) b = b
+behind_cells u (doings.Clearing plan) b = b
+behind_cells u (doings.Dropping held plan) b = tt
+behind_cells u (doings.Dying c) b = tt
+behind_cells u (doings.Vacating slot plan) b = tt
+behind_cells u doings.Ended b = tt
 
 goes_to : (t t' u : Thread) (words after : List ℕ) (d : Doing) (bound : ℕ) → Same t t' → Comes t' u bound → bound < doing_left words t d → Goes t words after d u
 goes_to t t' u words after d bound s c lt = record {
@@ -101,7 +164,9 @@ goes_to t t' u words after d bound s c lt = record {
   program = c.program ∙ s.program;
   count = c.count ∙ s.count;
   phase = subst (λ (k : ℕ). IsPhase k u.asked u.phase) s.phase c.phase;
-  fewer = let f = c.few after in omega arith;
+  inside = λ e. absurd (behind_outside u u.doing c.behind e);
+  past = λ f. behind_cells u u.doing c.behind;
+  fewer = λ free. let f = c.few after in omega arith;
 }
 
 -- a step is asked for, so the phase is the same
@@ -130,9 +195,9 @@ looking_on t words l to name immortal k fits inside = go (free_slot l.slots k (b
     more : (b : Bool) →
         Goes t words words (making_at l to name immortal (search.Looking k))
         (made_on to name (record { layout = l; name = name; immortal = immortal; at = cond b (search.Looking (k + 1)) search.Ended }) (cond b (nexts.Step (looking l (k + 1))) (nexts.Done NoSlot)) (quiet t))
-    more true = record { layout = refl; phases = refl; program = refl; count = refl; phase = refl; fewer = omega (arith, inside) }
+    more true = record { layout = refl; phases = refl; program = refl; count = refl; phase = refl; inside = λ e. refl; past = λ f. tt; fewer = λ free. omega (arith, inside) }
     more false =
-        goes_to t (put answers.Full (record t { doing = doings.Ended; first = false; event = Some acts.Full })) _ words words _ (4200 * busy_units t) (record { layout = refl; phases = refl; program = refl; count = refl; phase = refl })
+        goes_to t (put answers.Full (record t { doing = doings.Ended; first = false; event = Some acts.Full })) _ words words _ (4200 * busy_units t) (record { layout = refl; phases = refl; program = refl; count = refl; phase = refl; globals = omega arith })
         (next_comes (put answers.Full (record t { doing = doings.Ended; first = false; event = Some acts.Full })) fits) (omega arith)
 
     go : (o : Option ℕ) → free_slot l.slots k (bits_at words l k) ≡ o →
@@ -141,7 +206,7 @@ looking_on t words l to name immortal k fits inside = go (free_slot l.slots k (b
     go (Some s) e =
         let clear = free_is_clear l.slots k (bits_at words l k) s e in
         let same : eqb (bit_and (bits_at words l (s / 64)) (bit_of s)) 0 ≡ true = subst (λ j. eqb (bit_and (bits_at words l j) (bit_of s)) 0 ≡ true) (sym clear.1) (eq-eqb (bit_and (bits_at words l k) (bit_of s)) 0 clear.0.clear) in
-        record { layout = refl; phases = refl; program = refl; count = refl; phase = refl; fewer = rw same (omega (arith, inside)) }
+        record { layout = refl; phases = refl; program = refl; count = refl; phase = refl; inside = λ e. refl; past = λ f. tt; fewer = λ free. rw same (omega (arith, inside)) }
     go None e = more (ltb (k + 1) (words_of l.slots))
 
 -- the bit of a slot was to be set
@@ -153,19 +218,19 @@ taking_on t words after l to name immortal s seen same = go (eqb (bit_and (bits_
         Goes t words after (making_at l to name immortal (search.Taking s seen))
         (made_on to name (record { layout = l; name = name; immortal = immortal; at = cond b (search.Counting s) search.Ended })
         (cond b (nexts.Step (counting l immortal s)) (nexts.Done (Again (record { seen = seen; found = bits_at words l (s / 64) })))) (quiet t))
-    go true e = record { layout = refl; phases = refl; program = refl; count = refl; phase = refl; fewer = rw e (omega arith) }
+    go true e = record { layout = refl; phases = refl; program = refl; count = refl; phase = refl; inside = λ e. refl; past = λ f. tt; fewer = λ free. rw e (omega arith) }
     go false e =
         let many : words_of l.slots ≡ words_of t.layout.slots = ap (λ (x : Extent). words_of x.slots) same in
-        record { layout = refl; phases = refl; program = refl; count = refl; phase = refl; fewer = rw e (omega (arith, many)) }
+        record { layout = refl; phases = refl; program = refl; count = refl; phase = refl; inside = λ e. refl; past = λ f. tt; fewer = λ free. rw e (omega (arith, many)) }
 
 counted_on : (t : Thread) (words after : List ℕ) (l : Extent) (to : ℕ) (name : ObjectName) (immortal : Bool) (s found : ℕ) →
     Goes t words after (making_at l to name immortal (search.Counting s)) (turned_at (Some found) (making_at l to name immortal (search.Counting s)) (quiet t))
-counted_on t words after l to name immortal s found = record { layout = refl; phases = refl; program = refl; count = refl; phase = refl; fewer = omega arith }
+counted_on t words after l to name immortal s found = record { layout = refl; phases = refl; program = refl; count = refl; phase = refl; inside = λ e. refl; past = λ f. tt; fewer = λ free. omega arith }
 
 named : (t : Thread) (words after : List ℕ) (l : Extent) (to : ℕ) (name : ObjectName) (immortal : Bool) (slot found : ℕ) → Fits t → t.index < length t.program →
     Goes t words after (making_at l to name immortal (search.Naming slot)) (turned_at (Some found) (making_at l to name immortal (search.Naming slot)) (quiet t))
 named t words after l to name immortal slot found fits here =
-    goes_to t (put (answers.New name) (quiet t)) _ words after _ (4200 * busy_units t + 9) (record { layout = refl; phases = refl; program = refl; count = refl; phase = refl })
+    goes_to t (put (answers.New name) (quiet t)) _ words after _ (4200 * busy_units t + 9) (record { layout = refl; phases = refl; program = refl; count = refl; phase = refl; globals = omega arith })
     (replaced_comes (put (answers.New name) (quiet t)) to (Some (strong_to t.hands slot)) fits here) (omega arith)
 
 -- ---- a reference is gained
@@ -173,33 +238,39 @@ named t words after l to name immortal slot found fits here =
 abbrev up_plan : Extent → ℕ → Kind → CapNumbers → AttemptAt → Rise
 up_plan l s list caps at = record { layout = l; slot = s; list = list; caps = caps; entry = None; at = at }
 
-abbrev gaining_at : Extent → Kind → CapNumbers → Gain → ℕ → Held → AttemptAt → Doing
+abbrev gaining_at : Extent → Kind → CapNumbers → Gain → ℕ → Source → AttemptAt → Doing
 gaining_at l list caps gain to from x = doings.Gaining gain to from (up_plan l from.place list caps x)
 
 -- the reference has come
-got : (t : Thread) (words after : List ℕ) (gain : Gain) (to : ℕ) (from : Held) (d : Doing) → Fits t → t.index < length t.program → 4200 * busy_units t + 10 < doing_left words t d →
-    Goes t words after d (has_gained gain to (gained gain from (quiet t)) (came_by gain from (quiet t)))
-got t words after gains.Load to from d fits here more = record { layout = refl; phases = refl; program = refl; count = refl; phase = refl; fewer = more }
-got t words after gains.Copy to from d fits here more =
-    goes_to t (put answers.Ok (came_by gains.Copy from (quiet t))) _ words after d (4200 * busy_units t + 9) (record { layout = refl; phases = refl; program = refl; count = refl; phase = refl })
-    (replaced_comes (put answers.Ok (came_by gains.Copy from (quiet t))) to (Some (gained gains.Copy from (quiet t))) fits here) (omega (arith, more))
-got t words after gains.Unown to from d fits here more =
-    goes_to t (put answers.Ok (came_by gains.Unown from (quiet t))) _ words after d (4200 * busy_units t + 9) (record { layout = refl; phases = refl; program = refl; count = refl; phase = refl })
-    (replaced_comes (put answers.Ok (came_by gains.Unown from (quiet t))) to (Some (gained gains.Unown from (quiet t))) fits here) (omega (arith, more))
+got : (t : Thread) (words after : List ℕ) (gain : Gain) (to : ℕ) (from : Source) (d : Doing) → Fits t → t.index < length t.program → 4200 * busy_units t + 10 < doing_left words t d →
+    Goes t words after d (has_gained gain from.origin to (gained gain from (quiet t)) (came_by gain from (quiet t)))
+got t words after gain to from d fits here more = go gain from.origin
+  where
+    replaces : Goes t words after d (replaced to (Some (gained gain from (quiet t))) (put answers.Ok (came_by gain from (quiet t))))
+    replaces =
+        goes_to t (put answers.Ok (came_by gain from (quiet t))) _ words after d (4200 * busy_units t + 9) (record { layout = refl; phases = refl; program = refl; count = refl; phase = refl; globals = omega arith })
+        (replaced_comes (put answers.Ok (came_by gain from (quiet t))) to (Some (gained gain from (quiet t))) fits here) (omega (arith, more))
+
+    go : (g : Gain) (x : Origin) → Goes t words after d (has_gained g x to (gained gain from (quiet t)) (came_by gain from (quiet t)))
+    go gains.Load x = record { layout = refl; phases = refl; program = refl; count = refl; phase = refl; inside = λ e. refl; past = λ f. tt; fewer = λ free. more }
+    go gains.Copy (origins.Hand hand) = replaces
+    go gains.Copy (origins.Cell cell) = record { layout = refl; phases = refl; program = refl; count = refl; phase = refl; inside = λ e. refl; past = λ f. tt; fewer = λ free. more }
+    go gains.Unown (origins.Hand hand) = replaces
+    go gains.Unown (origins.Cell cell) = record { layout = refl; phases = refl; program = refl; count = refl; phase = refl; inside = λ e. refl; past = λ f. tt; fewer = λ free. more }
 
 -- the object's deinit has begun
-dead : (t : Thread) (words after : List ℕ) (to : ℕ) (from : Held) (d : Doing) → Fits t → t.index < length t.program → 4200 * busy_units t + 9 < doing_left words t d → Goes t words after d (found_dead to from (quiet t))
+dead : (t : Thread) (words after : List ℕ) (to : ℕ) (from : Source) (d : Doing) → Fits t → t.index < length t.program → 4200 * busy_units t + 9 < doing_left words t d → Goes t words after d (found_dead to from (quiet t))
 dead t words after to from d fits here more =
-    goes_to t (put answers.Dead (record (quiet t) { event = Some (acts.Load from.hand gots.Dead) })) _ words after d (4200 * busy_units t + 9) (record { layout = refl; phases = refl; program = refl; count = refl; phase = refl })
-    (replaced_comes (put answers.Dead (record (quiet t) { event = Some (acts.Load from.hand gots.Dead) })) to None fits here) more
+    goes_to t (put answers.Dead (record (quiet t) { event = Some (acts.Load (hand_of from.origin) gots.Dead) })) _ words after d (4200 * busy_units t + 9) (record { layout = refl; phases = refl; program = refl; count = refl; phase = refl; globals = omega arith })
+    (replaced_comes (put answers.Dead (record (quiet t) { event = Some (acts.Load (hand_of from.origin) gots.Dead) })) to None fits here) more
 
 -- by the entry to which it goes on, and by what the row says of the word that was read
-abbrev up_by : Thread → Extent → Kind → CapNumbers → Gain → ℕ → Held → ℕ → Option ℕ → Choice UpAnswer → Thread
+abbrev up_by : Thread → Extent → Kind → CapNumbers → Gain → ℕ → Source → ℕ → Option ℕ → Choice UpAnswer → Thread
 up_by t l list caps gain to from w e r =
     gained_on gain to from (turned_by up_moved (up_plan l from.place list caps attempt.Loading) (up_in (up_plan l from.place list caps attempt.Loading) e) (exchanging w r))
     (answer_by up_place (up_in (up_plan l from.place list caps attempt.Loading) e) (chosen (number l (Count from.place)) w r)) (quiet t)
 
-up_read : (t : Thread) (words : List ℕ) (l : Extent) (list : Kind) (caps : CapNumbers) (gain : Gain) (to : ℕ) (from : Held) (step : Step) (intent : Intent) → Fits t → t.index < length t.program → t.asked ≡ moves.Step step intent →
+up_read : (t : Thread) (words : List ℕ) (l : Extent) (list : Kind) (caps : CapNumbers) (gain : Gain) (to : ℕ) (from : Source) (step : Step) (intent : Intent) → Fits t → t.index < length t.program → t.asked ≡ moves.Step step intent →
     Goes t words words (gaining_at l list caps gain to from attempt.Loading) (turned_at (Some (count_at words l from.place)) (gaining_at l list caps gain to from attempt.Loading) (quiet t))
 up_read t words l list caps gain to from step intent fits here asked = go list
   where
@@ -210,10 +281,10 @@ up_read t words l list caps gain to from step intent fits here asked = go list
     Read k e r = Goes t words words (gaining_at l k caps gain to from attempt.Loading) (up_by t l k caps gain to from w e r)
 
     told : (k : Kind) → Goes t words words (gaining_at l k caps gain to from attempt.Loading) (quiet t)
-    told k = record { layout = refl; phases = refl; program = refl; count = refl; phase = stays t.asked step intent t.phase asked; fewer = omega arith }
+    told k = record { layout = refl; phases = refl; program = refl; count = refl; phase = stays t.asked step intent t.phase asked; inside = λ e. refl; past = λ f. tt; fewer = λ free. omega arith }
 
     slow : (k : Kind) (e : ℕ) (r : Choice UpAnswer) → Read k (Some e) r
-    slow k e r = record { layout = refl; phases = refl; program = refl; count = refl; phase = refl; fewer = omega arith }
+    slow k e r = record { layout = refl; phases = refl; program = refl; count = refl; phase = refl; inside = λ e. refl; past = λ f. tt; fewer = λ free. omega arith }
 
     none : (k : Kind) → Read k None (Tell ups.Dead)
     none k = dead t words words to from (gaining_at l k caps gain to from attempt.Loading) fits here (omega arith)
@@ -222,7 +293,7 @@ up_read t words l list caps gain to from step intent fits here asked = go list
     all k = got t words words gain to from (gaining_at l k caps gain to from attempt.Loading) fits here (omega arith)
 
     writes : (k : Kind) (new : ℕ) → Read k None (Write new)
-    writes k new = record { layout = refl; phases = refl; program = refl; count = refl; phase = refl; fewer = rw (eqb_same w) (omega arith) }
+    writes k new = record { layout = refl; phases = refl; program = refl; count = refl; phase = refl; inside = λ e. refl; past = λ f. tt; fewer = λ free. rw (eqb_same w) (omega arith) }
 
     on : (dying full : Bool) (new : ℕ) → Read kinds.Strong None (told_as of_strong_up (cond dying (Tell strong_ups.Dead) (cond full (Tell strong_ups.AtCap) (Write new))))
     on true full new = none kinds.Strong
@@ -259,21 +330,143 @@ up_read t words l list caps gain to from step intent fits here asked = go list
     go kinds.Unowned = unownedly (unpacked w)
     go kinds.Weak = weakly (unpacked w)
 
-up_made : (t : Thread) (words after : List ℕ) (l : Extent) (list : Kind) (caps : CapNumbers) (gain : Gain) (to : ℕ) (from : Held) (seen new : ℕ) → Fits t → t.index < length t.program →
+up_made : (t : Thread) (words after : List ℕ) (l : Extent) (list : Kind) (caps : CapNumbers) (gain : Gain) (to : ℕ) (from : Source) (seen new : ℕ) → Fits t → t.index < length t.program →
     Goes t words after (gaining_at l list caps gain to from (attempt.Exchanging seen new)) (turned_at (Some (count_at words l from.place)) (gaining_at l list caps gain to from (attempt.Exchanging seen new)) (quiet t))
 up_made t words after l list caps gain to from seen new fits here = go (eqb (count_at words l from.place) seen) refl
   where
     go : (b : Bool) → eqb (count_at words l from.place) seen ≡ b → Goes t words after (gaining_at l list caps gain to from (attempt.Exchanging seen new))
         (gained_on gain to from (up_plan l from.place list caps attempt.Ended) (nexts.Done (cond b ups.Up (ups.Again (record { seen = seen; found = count_at words l from.place })))) (quiet t))
     go true e = got t words after gain to from (gaining_at l list caps gain to from (attempt.Exchanging seen new)) fits here (rw e (omega arith))
-    go false e = record { layout = refl; phases = refl; program = refl; count = refl; phase = refl; fewer = rw e (omega arith) }
+    go false e = record { layout = refl; phases = refl; program = refl; count = refl; phase = refl; inside = λ e. refl; past = λ f. tt; fewer = λ free. rw e (omega arith) }
 
 -- a load has read the name
 name_read : (t : Thread) (words after : List ℕ) (l : Extent) (to : ℕ) (held : Held) (found : ℕ) → Fits t → t.index < length t.program →
     Goes t words after (doings.Naming to held (record { layout = l; slot = held.place; at = once.Asked })) (turned_at (Some found) (doings.Naming to held (record { layout = l; slot = held.place; at = once.Asked })) (quiet t))
 name_read t words after l to held found fits here =
-    goes_to t (put (answers.Got (isa_name_of found)) (quiet t)) _ words after _ (4200 * busy_units t + 9) (record { layout = refl; phases = refl; program = refl; count = refl; phase = refl })
+    goes_to t (put (answers.Got (isa_name_of found)) (quiet t)) _ words after _ (4200 * busy_units t + 9) (record { layout = refl; phases = refl; program = refl; count = refl; phase = refl; globals = omega arith })
     (replaced_comes (put (answers.Got (isa_name_of found)) (quiet t)) to (Some held) fits here) (omega arith)
+
+-- ---- an access to a cell begins, and ends
+
+abbrev opening_at : Extent → ℕ → Cell → (place : ℕ) → AttemptAt → Doing
+opening_at l to cell place x = doings.Opening to cell (record { layout = l; place = place; at = x })
+
+-- by what the row says of the word that was read
+abbrev open_by : Thread → Extent → ℕ → Cell → (place w : ℕ) → Choice BeginAnswer → Thread
+open_by t l to cell place w r = opened_on to cell (record { layout = l; place = place; at = exchanging w r }) (chosen place w r) (quiet t)
+
+open_read : (t : Thread) (words : List ℕ) (l : Extent) (to : ℕ) (cell : Cell) (place : ℕ) → Fits t → t.index < length t.program →
+    Goes t words words (opening_at l to cell place attempt.Loading) (turned_at (Some (slice_index words place)) (opening_at l to cell place attempt.Loading) (quiet t))
+open_read t words l to cell place fits here = go (eqb (slice_index words place) 0) (eqb (slice_index words place) 1) refl
+  where
+    go : (nil busy : Bool) → eqb (slice_index words place) 1 ≡ busy →
+        Goes t words words (opening_at l to cell place attempt.Loading) (open_by t l to cell place (slice_index words place) (cond nil (Tell begins.Nil) (cond busy (Tell begins.Busy) (Write 1))))
+    go true busy e =
+        goes_to t (put answers.Nil (record (quiet t) { event = Some (acts.Look cell.name) })) _ words words _ (4200 * busy_units t + 9) (record { layout = refl; phases = refl; program = refl; count = refl; phase = refl; globals = omega arith })
+        (replaced_comes (put answers.Nil (record (quiet t) { event = Some (acts.Look cell.name) })) to None fits here) (omega arith)
+    go false true e = record { layout = refl; phases = refl; program = refl; count = refl; phase = refl; inside = λ e. refl; past = λ f. absurd f; fewer = λ free. absurd (free (eqb-true (slice_index words place) 1 e)) }
+    go false false e = record { layout = refl; phases = refl; program = refl; count = refl; phase = refl; inside = λ e. refl; past = λ f. absurd f; fewer = λ free. rw (eqb_same (slice_index words place)) (omega arith) }
+
+open_made : (t : Thread) (words after : List ℕ) (l : Extent) (to : ℕ) (cell : Cell) (place seen new : ℕ) →
+    Goes t words after (opening_at l to cell place (attempt.Exchanging seen new)) (turned_at (Some (slice_index words place)) (opening_at l to cell place (attempt.Exchanging seen new)) (quiet t))
+open_made t words after l to cell place seen new = go (eqb (slice_index words place) seen) refl
+  where
+    go : (b : Bool) → eqb (slice_index words place) seen ≡ b → Goes t words after (opening_at l to cell place (attempt.Exchanging seen new))
+        (opened_on to cell (record { layout = l; place = place; at = attempt.Ended }) (nexts.Done (cond b (begins.Held seen) (begins.Again (record { seen = seen; found = slice_index words place })))) (quiet t))
+    go true e = record { layout = refl; phases = refl; program = refl; count = refl; phase = refl; inside = λ e. refl; past = λ f. absurd f; fewer = λ free. rw e (omega arith) }
+    go false e = record { layout = refl; phases = refl; program = refl; count = refl; phase = refl; inside = λ e. refl; past = λ f. absurd f; fewer = λ free. rw e (omega arith) }
+
+closed : (t : Thread) (words after : List ℕ) (to : ℕ) (cell : CellName) (held : Held) (l : Extent) (place value found : ℕ) → Fits t → t.index < length t.program →
+    Goes t words after (doings.Closing to cell held (record { layout = l; place = place; value = value; at = once.Asked }))
+    (turned_at (Some found) (doings.Closing to cell held (record { layout = l; place = place; value = value; at = once.Asked })) (quiet t))
+closed t words after to cell held l place value found fits here =
+    goes_to t (put answers.Ok (quiet t)) _ words after _ (4200 * busy_units t + 9) (record { layout = refl; phases = refl; program = refl; count = refl; phase = refl; globals = omega arith })
+    (replaced_comes (put answers.Ok (quiet t)) to (Some held) fits here) (omega arith)
+
+-- ---- a cell gets another reference
+
+abbrev swap_plan : Extent → (place new : ℕ) → AttemptAt → SwapAttempt
+swap_plan l place new x = record { layout = l; place = place; new = new; at = x }
+
+set_read : (t : Thread) (words : List ℕ) (l : Extent) (from : ℕ) (cell : Cell) (place new : ℕ) →
+    Goes t words words (doings.Setting from cell (swap_plan l place new attempt.Loading)) (turned_at (Some (slice_index words place)) (doings.Setting from cell (swap_plan l place new attempt.Loading)) (quiet t))
+set_read t words l from cell place new = go (eqb (slice_index words place) 1) refl
+  where
+    w : ℕ
+    w = slice_index words place
+
+    go : (busy : Bool) → eqb (slice_index words place) 1 ≡ busy →
+        Goes t words words (doings.Setting from cell (swap_plan l place new attempt.Loading))
+        (set_on from cell (swap_plan l place new (exchanging w (cond busy (Tell swaps.Busy) (Write new)))) (chosen place w (cond busy (Tell swaps.Busy) (Write new))) (quiet t))
+    go true e = record { layout = refl; phases = refl; program = refl; count = refl; phase = refl; inside = λ e. refl; past = λ f. absurd f; fewer = λ free. absurd (free (eqb-true (slice_index words place) 1 e)) }
+    go false e = record { layout = refl; phases = refl; program = refl; count = refl; phase = refl; inside = λ e. refl; past = λ f. absurd f; fewer = λ free. rw (eqb_same (slice_index words place)) (omega arith) }
+
+-- what the cell had is dropped, and the variable is nil
+set_over : (t : Thread) (words after : List ℕ) (from : ℕ) (cell : Cell) (d : Doing) (there : Option Held) → Fits t → 4200 * busy_units t + 9 < doing_left words t d → Goes t words after d (set_to from cell there (quiet t))
+set_over t words after from cell d there fits more = go there
+  where
+    swaps_to : Option Held → Thread
+    swaps_to o = put answers.Ok (set_var from None (swapped cell.name (hand_in (value t.vars from)) o (quiet t)))
+
+    go : (o : Option Held) → Goes t words after d (set_to from cell o (quiet t))
+    go None =
+        let fewer = units_set t.vars from None in
+        goes_to t (swaps_to None) (next_op (swaps_to None)) words after d (4200 * busy_units (swaps_to None)) (record { layout = refl; phases = refl; program = refl; count = length-set t.vars from None; phase = refl; globals = omega arith })
+        (next_comes (swaps_to None) fits) (omega (arith, more, fewer))
+    go (Some held) =
+        let fewer = units_set t.vars from None in
+        goes_to t (swaps_to (Some held)) (drop_begun held (swaps_to (Some held))) words after d (4200 * busy_units (swaps_to (Some held)) + 9)
+        (record { layout = refl; phases = refl; program = refl; count = length-set t.vars from None; phase = refl; globals = omega arith }) (drop_comes (swaps_to (Some held)) held) (omega (arith, more, fewer))
+
+set_made : (t : Thread) (words after : List ℕ) (l : Extent) (from : ℕ) (cell : Cell) (place word seen new : ℕ) → Fits t →
+    Goes t words after (doings.Setting from cell (swap_plan l place word (attempt.Exchanging seen new)))
+    (turned_at (Some (slice_index words place)) (doings.Setting from cell (swap_plan l place word (attempt.Exchanging seen new))) (quiet t))
+set_made t words after l from cell place word seen new fits = go (eqb (slice_index words place) seen) refl
+  where
+    go : (b : Bool) → eqb (slice_index words place) seen ≡ b → Goes t words after (doings.Setting from cell (swap_plan l place word (attempt.Exchanging seen new)))
+        (set_on from cell (swap_plan l place word attempt.Ended) (nexts.Done (cond b (swaps.Took seen) (swaps.Again (record { seen = seen; found = slice_index words place })))) (quiet t))
+    go true e = set_over t words after from cell (doings.Setting from cell (swap_plan l place word (attempt.Exchanging seen new))) (held_in cell.kind (t.hands + 1) seen) fits (rw e (omega arith))
+    go false e = record { layout = refl; phases = refl; program = refl; count = refl; phase = refl; inside = λ e. refl; past = λ f. absurd f; fewer = λ free. rw e (omega arith) }
+
+-- ---- the next global is cleared
+
+clear_read : (t : Thread) (words : List ℕ) (l : Extent) (place new : ℕ) →
+    Goes t words words (doings.Clearing (swap_plan l place new attempt.Loading)) (turned_at (Some (slice_index words place)) (doings.Clearing (swap_plan l place new attempt.Loading)) (quiet t))
+clear_read t words l place new = go (eqb (slice_index words place) 1) refl
+  where
+    w : ℕ
+    w = slice_index words place
+
+    go : (busy : Bool) → eqb (slice_index words place) 1 ≡ busy →
+        Goes t words words (doings.Clearing (swap_plan l place new attempt.Loading))
+        (cleared_on (swap_plan l place new (exchanging w (cond busy (Tell swaps.Busy) (Write new)))) (chosen place w (cond busy (Tell swaps.Busy) (Write new))) (quiet t))
+    go true e = record { layout = refl; phases = refl; program = refl; count = refl; phase = refl; inside = λ e. refl; past = λ f. absurd f; fewer = λ free. absurd (free (eqb-true (slice_index words place) 1 e)) }
+    go false e = record { layout = refl; phases = refl; program = refl; count = refl; phase = refl; inside = λ e. refl; past = λ f. absurd f; fewer = λ free. rw (eqb_same (slice_index words place)) (omega arith) }
+
+clear_over : (t : Thread) (words after : List ℕ) (d : Doing) (there : Option Held) → Fits t → t.cleared < t.layout.globals → 4200 * (busy_units t - 1) + 9 < doing_left words t d →
+    Goes t words after d (cleared (next_global (quiet t)) there (quiet t))
+clear_over t words after d there fits here more = go there
+  where
+    swaps_to : Option Held → Thread
+    swaps_to o = swapped (next_global (quiet t)).name None o (record (quiet t) { cleared = t.cleared + 1 })
+
+    go : (o : Option Held) → Goes t words after d (cleared (next_global (quiet t)) o (quiet t))
+    go None =
+        goes_to t (swaps_to None) (next_op (swaps_to None)) words after d (4200 * busy_units (swaps_to None)) (record { layout = refl; phases = refl; program = refl; count = refl; phase = refl; globals = omega arith })
+        (next_comes (swaps_to None) fits) (omega (arith, more, here))
+    go (Some held) =
+        goes_to t (swaps_to (Some held)) (drop_begun held (swaps_to (Some held))) words after d (4200 * busy_units (swaps_to (Some held)) + 9)
+        (record { layout = refl; phases = refl; program = refl; count = refl; phase = refl; globals = omega arith }) (drop_comes (swaps_to (Some held)) held) (omega (arith, more, here))
+
+clear_made : (t : Thread) (words after : List ℕ) (l : Extent) (place word seen new : ℕ) → Fits t → t.cleared < t.layout.globals →
+    Goes t words after (doings.Clearing (swap_plan l place word (attempt.Exchanging seen new)))
+    (turned_at (Some (slice_index words place)) (doings.Clearing (swap_plan l place word (attempt.Exchanging seen new))) (quiet t))
+clear_made t words after l place word seen new fits here = go (eqb (slice_index words place) seen) refl
+  where
+    go : (b : Bool) → eqb (slice_index words place) seen ≡ b → Goes t words after (doings.Clearing (swap_plan l place word (attempt.Exchanging seen new)))
+        (cleared_on (swap_plan l place word attempt.Ended) (nexts.Done (cond b (swaps.Took seen) (swaps.Again (record { seen = seen; found = slice_index words place })))) (quiet t))
+    go true e = clear_over t words after (doings.Clearing (swap_plan l place word (attempt.Exchanging seen new))) (held_in (next_global (quiet t)).kind (t.hands + 1) seen) fits here (rw e (omega arith))
+    go false e = record { layout = refl; phases = refl; program = refl; count = refl; phase = refl; inside = λ e. refl; past = λ f. absurd f; fewer = λ free. rw e (omega arith) }
 
 -- ---- a reference is given up
 
@@ -286,7 +479,7 @@ dropping_at l hand kind slot x = doings.Dropping (record { hand = hand; kind = k
 -- the drop, or what it brought about, is over
 over : (t : Thread) (words after : List ℕ) (event : Option Act) (d : Doing) → Fits t → 4200 * busy_units t < doing_left words t d → Goes t words after d (next_op (record (quiet t) { event = event }))
 over t words after event d fits lt =
-    goes_to t (record (quiet t) { event = event }) (next_op (record (quiet t) { event = event })) words after d (4200 * busy_units t) (record { layout = refl; phases = refl; program = refl; count = refl; phase = refl })
+    goes_to t (record (quiet t) { event = event }) (next_op (record (quiet t) { event = event })) words after d (4200 * busy_units t) (record { layout = refl; phases = refl; program = refl; count = refl; phase = refl; globals = omega arith })
     (next_comes (record (quiet t) { event = event }) fits) lt
 
 abbrev down_by : Thread → Extent → (hand : ℕ) → Kind → (slot : ℕ) → ℕ → Option ℕ → Choice DownAnswer → Thread
@@ -308,10 +501,10 @@ down_read t words l hand kind slot fits = go kind
     more k = over t words words _ _ fits (omega arith)
 
     slow : (k : Kind) (e : ℕ) (r : Choice DownAnswer) → Read k (Some e) r
-    slow k e r = record { layout = refl; phases = refl; program = refl; count = refl; phase = refl; fewer = omega arith }
+    slow k e r = record { layout = refl; phases = refl; program = refl; count = refl; phase = refl; inside = λ e. refl; past = λ f. tt; fewer = λ free. omega arith }
 
     writes : (k : Kind) (new : ℕ) → Read k None (Write new)
-    writes k new = record { layout = refl; phases = refl; program = refl; count = refl; phase = refl; fewer = rw (eqb_same w) (omega arith) }
+    writes k new = record { layout = refl; phases = refl; program = refl; count = refl; phase = refl; inside = λ e. refl; past = λ f. tt; fewer = λ free. rw (eqb_same w) (omega arith) }
 
     strongly : (o : Option Word) → Read kinds.Strong (entry_named o) (told_as of_strong_down (strong_down_row o))
     strongly None = more kinds.Strong
@@ -350,11 +543,11 @@ down_made t words after l hand kind slot seen new step intent fits asked = go (e
     more k e = over t words after _ _ fits (rw e (omega arith))
 
     dies_last : (b : Bool) → eqb (count_at words l slot) seen ≡ true → Made kinds.Strong (of_strong_down (cond b strong_downs.Last strong_downs.More))
-    dies_last true e = record { layout = refl; phases = refl; program = refl; count = refl; phase = refl; fewer = rw e (omega arith) }
+    dies_last true e = record { layout = refl; phases = refl; program = refl; count = refl; phase = refl; inside = λ e. refl; past = λ f. tt; fewer = λ free. rw e (omega arith) }
     dies_last false e = more kinds.Strong e
 
     ends_last : (b : Bool) → eqb (count_at words l slot) seen ≡ true → Made kinds.Unowned (of_unowned_down (cond b less.Last less.More))
-    ends_last true e = record { layout = refl; phases = refl; program = refl; count = refl; phase = refl; fewer = rw e (omega arith) }
+    ends_last true e = record { layout = refl; phases = refl; program = refl; count = refl; phase = refl; inside = λ e. refl; past = λ f. tt; fewer = λ free. rw e (omega arith) }
     ends_last false e = more kinds.Unowned e
 
     strongly : (o : Option Word) → eqb (count_at words l slot) seen ≡ true → Made kinds.Strong (of_strong_down (strong_down_end o))
@@ -378,7 +571,7 @@ down_made t words after l hand kind slot seen new step intent fits asked = go (e
 
     go : (b : Bool) → eqb (count_at words l slot) seen ≡ b → Made kind (cond b (down_end_at None kind seen) (downs.Again (record { seen = seen; found = count_at words l slot })))
     go true e = hit kind e
-    go false e = record { layout = refl; phases = refl; program = refl; count = refl; phase = refl; fewer = rw e (omega arith) }
+    go false e = record { layout = refl; phases = refl; program = refl; count = refl; phase = refl; inside = λ e. refl; past = λ f. tt; fewer = λ free. rw e (omega arith) }
 
 -- ---- an object dies
 
@@ -403,7 +596,7 @@ finish_read t words l shape s event fits = go (unpacked (count_at words l s))
     go (Some word.Free) = over t words words _ _ fits (omega arith)
     go (Some word.Immortal) = over t words words _ _ fits (omega arith)
     go (Some (word.Slow e)) = over t words words _ _ fits (omega arith)
-    go (Some (word.Counts c)) = record { layout = refl; phases = refl; program = refl; count = refl; phase = refl; fewer = rw (eqb_same (count_at words l s)) (omega arith) }
+    go (Some (word.Counts c)) = record { layout = refl; phases = refl; program = refl; count = refl; phase = refl; inside = λ e. refl; past = λ f. tt; fewer = λ free. rw (eqb_same (count_at words l s)) (omega arith) }
 
 abbrev Gone : Thread → (words after : List ℕ) → Extent → HeapShape → ℕ → Option Act → (seen new : ℕ) → UnownedDownAnswer → Type 0
 Gone t words after l shape s event seen new a =
@@ -415,7 +608,7 @@ finish_made : (t : Thread) (words after : List ℕ) (l : Extent) (shape : HeapSh
 finish_made t words after l shape s event seen new fits = go (eqb (count_at words l s) seen) refl
   where
     counted : (b : Bool) → eqb (count_at words l s) seen ≡ true → Gone t words after l shape s event seen new (cond b less.Last less.More)
-    counted true e = record { layout = refl; phases = refl; program = refl; count = refl; phase = refl; fewer = rw e (omega arith) }
+    counted true e = record { layout = refl; phases = refl; program = refl; count = refl; phase = refl; inside = λ e. refl; past = λ f. tt; fewer = λ free. rw e (omega arith) }
     counted false e = over t words after _ _ fits (rw e (omega arith))
 
     hit : (o : Option Word) → eqb (count_at words l s) seen ≡ true → Gone t words after l shape s event seen new (unowned_down_end o)
@@ -427,7 +620,7 @@ finish_made t words after l shape s event seen new fits = go (eqb (count_at word
 
     go : (b : Bool) → eqb (count_at words l s) seen ≡ b → Gone t words after l shape s event seen new (cond b (unowned_down_end (unpacked seen)) (less.Again (record { seen = seen; found = count_at words l s })))
     go true e = hit (unpacked seen) e
-    go false e = record { layout = refl; phases = refl; program = refl; count = refl; phase = refl; fewer = rw e (omega arith) }
+    go false e = record { layout = refl; phases = refl; program = refl; count = refl; phase = refl; inside = λ e. refl; past = λ f. tt; fewer = λ free. rw e (omega arith) }
 
 -- ---- whatever it is doing
 
@@ -455,7 +648,7 @@ falls_at shape t words step intent d fits asked a u o = go d a u o
     making to name immortal (search.Naming s) h same inside here = named t words (made_by step words) (extent_of shape) to name immortal s (found_by step words) fits here
     making to name immortal search.Ended h same inside here = absurd h
 
-    gaining : (gain : Gain) (to : ℕ) (from : Held) (list : Kind) (x : AttemptAt) → AttemptAsks shape t.asked from.place (intent_of gain from) x → t.index < length t.program → Falls t words step (gaining_at (extent_of shape) list shape.caps gain to from x)
+    gaining : (gain : Gain) (to : ℕ) (from : Source) (list : Kind) (x : AttemptAt) → CountAsks shape t.asked from.place (intent_of gain from) x → t.index < length t.program → Falls t words step (gaining_at (extent_of shape) list shape.caps gain to from x)
     gaining gain to from list attempt.Start h here = absurd h
     gaining gain to from list attempt.Loading h here =
         let is = asked_is t.asked step (Load (number (extent_of shape) (Count from.place))) intent (intent_of gain from) asked h in
@@ -470,7 +663,43 @@ falls_at shape t words step intent d fits asked a u o = go d a u o
     naming to held once.Asked h here = name_read t words (made_by step words) (extent_of shape) to held (found_by step words) fits here
     naming to held once.Ended h here = absurd h
 
-    dropping : (hand : ℕ) (kind : Kind) (slot : ℕ) (x : AttemptAt) → AttemptAsks shape t.asked slot (intents.Drop hand) x → Falls t words step (dropping_at (extent_of shape) hand kind slot x)
+    opening : (to : ℕ) (cell : Cell) (place : ℕ) (x : AttemptAt) → AttemptAsks t.asked place (intents.Access cell.name) x → t.index < length t.program → Falls t words step (opening_at (extent_of shape) to cell place x)
+    opening to cell place attempt.Start h here = absurd h
+    opening to cell place attempt.Loading h here =
+        let is = asked_is t.asked step (Load place) intent (intents.Access cell.name) asked h in
+        rw is (open_read t words (extent_of shape) to cell place fits here)
+    opening to cell place (attempt.Exchanging seen new) h here =
+        let is = asked_is t.asked step (Exchange place seen new) intent (intents.Access cell.name) asked h in
+        rw is (open_made t words (made_by (Exchange place seen new) words) (extent_of shape) to cell place seen new)
+    opening to cell place attempt.Ended h here = absurd h
+
+    closing : (to : ℕ) (cell : CellName) (held : Held) (place value : ℕ) (x : Once) → OnceAsks t.asked (Store place value) (intents.Access cell) x → t.index < length t.program →
+        Falls t words step (doings.Closing to cell held (record { layout = extent_of shape; place = place; value = value; at = x }))
+    closing to cell held place value once.Start h here = absurd h
+    closing to cell held place value once.Asked h here = closed t words (made_by step words) to cell held (extent_of shape) place value (found_by step words) fits here
+    closing to cell held place value once.Ended h here = absurd h
+
+    setting : (from : ℕ) (cell : Cell) (place word : ℕ) (i : Intent) (x : AttemptAt) → AttemptAsks t.asked place i x → Falls t words step (doings.Setting from cell (swap_plan (extent_of shape) place word x))
+    setting from cell place word i attempt.Start h = absurd h
+    setting from cell place word i attempt.Loading h =
+        let is = asked_is t.asked step (Load place) intent i asked h in
+        rw is (set_read t words (extent_of shape) from cell place word)
+    setting from cell place word i (attempt.Exchanging seen new) h =
+        let is = asked_is t.asked step (Exchange place seen new) intent i asked h in
+        rw is (set_made t words (made_by (Exchange place seen new) words) (extent_of shape) from cell place word seen new fits)
+    setting from cell place word i attempt.Ended h = absurd h
+
+    clearing : (place word : ℕ) (i : Intent) (x : AttemptAt) → AttemptAsks t.asked place i x → t.cleared < t.layout.globals → Falls t words step (doings.Clearing (swap_plan (extent_of shape) place word x))
+    clearing place word i attempt.Start h here = absurd h
+    clearing place word i attempt.Loading h here =
+        let is = asked_is t.asked step (Load place) intent i asked h in
+        rw is (clear_read t words (extent_of shape) place word)
+    clearing place word i (attempt.Exchanging seen new) h here =
+        let is = asked_is t.asked step (Exchange place seen new) intent i asked h in
+        rw is (clear_made t words (made_by (Exchange place seen new) words) (extent_of shape) place word seen new fits here)
+    clearing place word i attempt.Ended h here = absurd h
+
+    dropping : (hand : ℕ) (kind : Kind) (slot : ℕ) (x : AttemptAt) → CountAsks shape t.asked slot (intents.Drop hand) x → Falls t words step (dropping_at (extent_of shape) hand kind slot x)
     dropping hand kind slot attempt.Start h = absurd h
     dropping hand kind slot attempt.Loading h =
         let is = asked_is t.asked step (Load (number (extent_of shape) (Count slot))) intent (intents.Drop hand) asked h in
@@ -480,7 +709,7 @@ falls_at shape t words step intent d fits asked a u o = go d a u o
         rw is (down_made t words (made_by (Exchange (number (extent_of shape) (Count slot)) seen new) words) (extent_of shape) hand kind slot seen new step intent fits asked)
     dropping hand kind slot attempt.Ended h = absurd h
 
-    finishing : (s : ℕ) (event : Option Act) (x : AttemptAt) → AttemptAsks shape t.asked s (intents.Deinit s) x → Falls t words step (doings.Dying (dying_state (extent_of shape) shape s event (at.Finishing (finish_plan (extent_of shape) s x))))
+    finishing : (s : ℕ) (event : Option Act) (x : AttemptAt) → CountAsks shape t.asked s (intents.Deinit s) x → Falls t words step (doings.Dying (dying_state (extent_of shape) shape s event (at.Finishing (finish_plan (extent_of shape) s x))))
     finishing s event attempt.Start h = absurd h
     finishing s event attempt.Loading h =
         let is = asked_is t.asked step (Load (number (extent_of shape) (Count s))) intent (intents.Deinit s) asked h in
@@ -502,10 +731,10 @@ falls_at shape t words step intent d fits asked a u o = go d a u o
 
     dying : (s : ℕ) (event : Option Act) (x : At) → CascadeAsks shape t.asked s x → Falls t words step (doings.Dying (dying_state (extent_of shape) shape s event x))
     dying s event at.Start h = absurd h
-    dying s event at.Entering h = record { layout = refl; phases = refl; program = refl; count = refl; phase = refl; fewer = omega arith }
-    dying s event at.Naming h = record { layout = refl; phases = refl; program = refl; count = refl; phase = refl; fewer = omega arith }
+    dying s event at.Entering h = record { layout = refl; phases = refl; program = refl; count = refl; phase = refl; inside = λ e. refl; past = λ f. tt; fewer = λ free. omega arith }
+    dying s event at.Naming h = record { layout = refl; phases = refl; program = refl; count = refl; phase = refl; inside = λ e. refl; past = λ f. tt; fewer = λ free. omega arith }
     dying s event (at.Named name) h = absurd h
-    dying s event at.Leaving h = record { layout = refl; phases = refl; program = refl; count = refl; phase = refl; fewer = omega arith }
+    dying s event at.Leaving h = record { layout = refl; phases = refl; program = refl; count = refl; phase = refl; inside = λ e. refl; past = λ f. tt; fewer = λ free. omega arith }
     dying s event (at.Finishing p) h = rw (h.0) (finishing s event p.at h.1)
     dying s event (at.Vacating p) h = rw (h.0) (vacating s event p.at h.1)
     dying s event at.Ended h = absurd h
@@ -517,6 +746,13 @@ falls_at shape t words step intent d fits asked a u o = go d a u o
         rw (a.0) (making to name (class_at shape name.class).immortal plan.at a.1 same u.3 o.0)
     go (doings.Gaining gain to from plan) a u o = rw (a.0) (gaining gain to from (list_of gain from) plan.at a.1 o.0)
     go (doings.Naming to held plan) a u o = rw (a.0) (naming to held plan.at a.1 o)
+    go (doings.Opening to cell plan) a u o =
+        rw (a.0) (opening to cell (cell_number (extent_of shape) cell.name) plan.at a.1 o.0)
+    go (doings.Closing to cell held plan) a u o = rw (a.0) (closing to cell held (cell_number (extent_of shape) cell) (held.place + 2) plan.at a.1 o)
+    go (doings.Setting from cell plan) a u o =
+        rw (a.0) (setting from cell (cell_number (extent_of shape) cell.name) (word_of (value t.vars from)) _ plan.at a.1)
+    go (doings.Clearing plan) a u o =
+        rw (a.0) (clearing (cell_number (extent_of shape) (cells.Global t.cleared)) 0 _ plan.at a.1 o)
     go (doings.Dropping held plan) a u o = rw (a.0) (dropping held.hand held.kind held.place plan.at a.1)
     go (doings.Dying c) a u o = rw (a.0) (dying c.slot c.event c.at a.1)
     go (doings.Vacating slot plan) a u o = rw (a.0) (ending slot plan.at a.1)
@@ -551,12 +787,12 @@ stepper_fits t s = (s.slots, blocks_forth t.program t.phases s.whole s.blocks)
 pub falls : (shape : HeapShape) (t : Thread) (words : List ℕ) (step : Step) (intent : Intent) → IsStepper t → Asks shape t t.doing → t.asked ≡ moves.Step step intent → Falls t words step t.doing
 falls shape t words step intent s a asked = falls_at shape t words step intent t.doing (stepper_fits t s) asked a s.under_way s.in_operation
 
--- a thread that waits for its next phase has nothing under way
-ready : (shape : HeapShape) (t : Thread) (d : Doing) → Asks shape t d → t.asked ≡ moves.PhaseEnd → d ≡ doings.Ready
-ready shape t d a asked = go d a
+-- a thread without a step has nothing under way
+pub stops : (shape : HeapShape) (t : Thread) (d : Doing) → Asks shape t d → is_step t.asked ≡ false → is_busy d ≡ false
+stops shape t d a idle = go d a
   where
     stepping : (step : Step) (intent : Intent) → t.asked ≡ moves.Step step intent → ⊥
-    stepping step intent h = cc
+    stepping step intent h = absurd (let steps : is_step t.asked ≡ true = ap is_step h in cc)
 
     making : (name : ObjectName) (x : Search) → SearchAsks shape t.asked name x → ⊥
     making name search.Start h = h
@@ -566,21 +802,16 @@ ready shape t d a asked = go d a
     making name (search.Naming s) h = stepping _ _ h
     making name search.Ended h = h
 
-    attempting : (s : ℕ) (intent : Intent) (x : AttemptAt) → AttemptAsks shape t.asked s intent x → ⊥
-    attempting s intent attempt.Start h = h
-    attempting s intent attempt.Loading h = stepping _ _ h
-    attempting s intent (attempt.Exchanging seen new) h = stepping _ _ h
-    attempting s intent attempt.Ended h = h
+    attempting : (place : ℕ) (intent : Intent) (x : AttemptAt) → AttemptAsks t.asked place intent x → ⊥
+    attempting place intent attempt.Start h = h
+    attempting place intent attempt.Loading h = stepping _ _ h
+    attempting place intent (attempt.Exchanging seen new) h = stepping _ _ h
+    attempting place intent attempt.Ended h = h
 
-    vacating : (s : ℕ) (x : Once) → VacateAsks shape t.asked s x → ⊥
-    vacating s once.Start h = h
-    vacating s once.Asked h = stepping _ _ h
-    vacating s once.Ended h = h
-
-    naming : (s : ℕ) (x : Once) → NameAsks shape t.asked s x → ⊥
-    naming s once.Start h = h
-    naming s once.Asked h = stepping _ _ h
-    naming s once.Ended h = h
+    stepping_once : (step : Step) (intent : Intent) (x : Once) → OnceAsks t.asked step intent x → ⊥
+    stepping_once step intent once.Start h = h
+    stepping_once step intent once.Asked h = stepping _ _ h
+    stepping_once step intent once.Ended h = h
 
     dying : (s : ℕ) (x : At) → CascadeAsks shape t.asked s x → ⊥
     dying s at.Start h = h
@@ -588,23 +819,45 @@ ready shape t d a asked = go d a
     dying s at.Naming h = stepping _ _ h
     dying s (at.Named name) h = h
     dying s at.Leaving h = stepping _ _ h
-    dying s (at.Finishing p) h = attempting s _ p.at h.1
-    dying s (at.Vacating p) h = vacating s p.at h.1
+    dying s (at.Finishing p) h = attempting _ _ p.at h.1
+    dying s (at.Vacating p) h = stepping_once _ _ p.at h.1
     dying s at.Ended h = h
 
-    go : (d : Doing) → Asks shape t d → d ≡ doings.Ready
+    go : (d : Doing) → Asks shape t d → is_busy d ≡ false
     go doings.Ready a = refl
     go (doings.Making to name plan) a = absurd (making name plan.at a.1)
-    go (doings.Gaining gain to from plan) a = absurd (attempting from.place _ plan.at a.1)
-    go (doings.Naming to held plan) a = absurd (naming held.place plan.at a.1)
-    go (doings.Dropping held plan) a = absurd (attempting held.place _ plan.at a.1)
+    go (doings.Gaining gain to from plan) a = absurd (attempting _ _ plan.at a.1)
+    go (doings.Naming to held plan) a = absurd (stepping_once _ _ plan.at a.1)
+    go (doings.Opening to cell plan) a = absurd (attempting _ _ plan.at a.1)
+    go (doings.Closing to cell held plan) a = absurd (stepping_once _ _ plan.at a.1)
+    go (doings.Setting from cell plan) a = absurd (attempting _ _ plan.at a.1)
+    go (doings.Clearing plan) a = absurd (attempting _ _ plan.at a.1)
+    go (doings.Dropping held plan) a = absurd (attempting _ _ plan.at a.1)
     go (doings.Dying c) a = absurd (dying c.slot c.at a.1)
-    go (doings.Vacating slot plan) a = absurd (vacating slot plan.at a.1)
-    go doings.Ended a = absurd (let h : t.asked ≡ moves.Ended = a.0 in cc)
+    go (doings.Vacating slot plan) a = absurd (stepping_once _ _ plan.at a.1)
+    go doings.Ended a = refl
+
+-- one that waits for its next phase is ready for it
+ready : (shape : HeapShape) (t : Thread) (d : Doing) → Asks shape t d → t.asked ≡ moves.PhaseEnd → d ≡ doings.Ready
+ready shape t d a asked = go d a (stops shape t d a (ap is_step asked))
+  where
+    go : (d : Doing) → Asks shape t d → is_busy d ≡ false → d ≡ doings.Ready
+    go doings.Ready a idle = refl
+    go (doings.Making to name plan) a idle = absurd (cc)
+    go (doings.Gaining gain to from plan) a idle = absurd (cc)
+    go (doings.Naming to held plan) a idle = absurd (cc)
+    go (doings.Opening to cell plan) a idle = absurd (cc)
+    go (doings.Closing to cell held plan) a idle = absurd (cc)
+    go (doings.Setting from cell plan) a idle = absurd (cc)
+    go (doings.Clearing plan) a idle = absurd (cc)
+    go (doings.Dropping held plan) a idle = absurd (cc)
+    go (doings.Dying c) a idle = absurd (cc)
+    go (doings.Vacating slot plan) a idle = absurd (cc)
+    go doings.Ended a idle = absurd (let h : t.asked ≡ moves.Ended = a.0 in cc)
 
 -- A thread that waits for its next phase begins it.
 pub begins_phase : (shape : HeapShape) (t : Thread) → Fits t → Asks shape t t.doing → t.asked ≡ moves.PhaseEnd → Comes t (turned t None) (4200 * units t)
 begins_phase shape t fits asks asked = go t.doing (ready shape t t.doing asks asked)
   where
     go : (d : Doing) → d ≡ doings.Ready → Comes t (turned_at None d (quiet t)) (4200 * units t)
-    go d e = rw e (after_same t (quiet t) (begun (quiet t)) (4200 * units t) (4200 * units t) (record { layout = refl; phases = refl; program = refl; count = refl; phase = refl }) (begins (quiet t) fits) (omega arith))
+    go d e = rw e (after_same t (quiet t) (begun (quiet t)) (4200 * units t) (4200 * units t) (record { layout = refl; phases = refl; program = refl; count = refl; phase = refl; globals = omega arith }) (begins (quiet t) fits) (omega arith))

@@ -1,5 +1,7 @@
 mod Alone
+mod Cells
 mod Falls
+mod Free
 mod Keeps
 mod Lists
 mod Order

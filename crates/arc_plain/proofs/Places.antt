@@ -14,7 +14,7 @@ use Rattle.arc_ops.specs.Steppers.{IsStepper}
 use Rattle.arc_replays.specs.Laws.{MayBeMade}
 use Rattle.arc_replays.specs.Stages.{MayStep, IsSome, has_step, is_step, is_phase_end, awaits_phase}
 use Rattle.arc_replays.specs.Stages.Reached.{makes, passes}
-use Rattle.arc_plain.specs.Crews.{Progress, IsUnderWay, IsInPhases, AreFollowed, PlaceFollowed, thread_at, has_made, place_used, steps_asked, step_count}
+use Rattle.arc_plain.specs.Crews.{Progress, IsAtStage, IsUnderWay, IsInPhases, AreFollowed, PlaceFollowed, thread_at, has_made, place_used, steps_asked, step_count}
 use Rattle.arc_replays.proofs.Laws.{stages_are_whole, steps_may_be_made}
 use Rattle.arc_plain.proofs.Lists.{set_apart, some_counts, none_counts}
 use Rattle.arc_plain.proofs.Keeps.{places_fit}
@@ -26,12 +26,12 @@ pub is_at : (c : Progress) (p : ℕ) (t : Thread) → slice_get c.stage.threads 
 is_at c p t at = get_or_from_slice_get c.stage.threads p t (stepper_of c.script p) at
 
 -- a step that a thread asks for may be made
-pub may_make : (c : Progress) (p : ℕ) (step : Step) (intent : Intent) → IsUnderWay c → p < length c.stage.threads → (thread_at p c).asked ≡ moves.Step step intent → MayBeMade c.stage (thread_at p c) step
-may_make c p step intent u lt asked = steps_may_be_made c.script c.stage p (thread_at p c) step intent u.script u.served u.reached (there c p lt) (u.steppers p (stepper_of c.script p) lt) asked
+pub may_make : (n : ℕ) (c : Progress) (p : ℕ) (step : Step) (intent : Intent) → IsAtStage n c → p < length c.stage.threads → (thread_at p c).asked ≡ moves.Step step intent → MayBeMade c.stage (thread_at p c) step
+may_make n c p step intent u lt asked = steps_may_be_made c.script n c.stage p (thread_at p c) step intent u.script u.served u.reached (there c p lt) (u.steppers p (stepper_of c.script p) lt) asked
 
-pub may_step : (c : Progress) (p : ℕ) (step : Step) (intent : Intent) → IsUnderWay c → p < length c.stage.threads → (thread_at p c).asked ≡ moves.Step step intent → MayStep c.stage p (thread_at p c) step intent
-may_step c p step intent u lt asked =
-    record { there = there c p lt; stepper = u.steppers p (stepper_of c.script p) lt; asked = asked; takes_it = (may_make c p step intent u lt asked).takes_it }
+pub may_step : (n : ℕ) (c : Progress) (p : ℕ) (step : Step) (intent : Intent) → IsAtStage n c → p < length c.stage.threads → (thread_at p c).asked ≡ moves.Step step intent → MayStep c.stage p (thread_at p c) step intent
+may_step n c p step intent u lt asked =
+    record { there = there c p lt; stepper = u.steppers p (stepper_of c.script p) lt; asked = asked; takes_it = (may_make n c p step intent u lt asked).takes_it }
 
 -- the threads of two places
 pub other_at : (threads : List Thread) (p q : ℕ) (t d : Thread) → q ≢ p → q < length threads → get_or (set threads p t) q d ≡ get_or threads q d
@@ -72,8 +72,8 @@ headed (q ∷ ps) p e = let same : q ≡ p = cc in ap (λ (n : ℕ). n ∷ ps) s
 -- it is that of a thread but thread 0
 pub place_fits : (c : Progress) (p : ℕ) → IsUnderWay c → slice_get c.stage.places 0 ≡ Some p → (1 ≤ p) × (p < length c.stage.threads)
 place_fits c p u next =
-    let whole = stages_are_whole c.script c.stage u.script u.served u.reached in
-    let fits = (subst (AllByRecursion (λ (q : ℕ). (1 ≤ q) × (q ≤ length c.script.threads))) (headed c.stage.places p next) (places_fit c.script u.script c.stage u.reached)).0 in
+    let whole = stages_are_whole c.script 0 c.stage u.script u.served u.reached in
+    let fits = (subst (AllByRecursion (λ (q : ℕ). (1 ≤ q) × (q ≤ length c.script.threads))) (headed c.stage.places p next) (places_fit c.script u.script 0 c.stage u.reached)).0 in
     let most = fits.1 in
     let long = whole.threads in
     (fits.0, omega arith)
@@ -89,7 +89,7 @@ place_made c p step intent i next asked steppers =
     let long : length c.stage.places ≡ suc (length (drop 1 c.stage.places)) = ap (λ (ps : List ℕ). length ps) (headed c.stage.places p next) in
     record {
       in_phases = record {
-        under_way = record { script = u.script; served = u.served; reached = makes {p = p} {places = drop 1 c.stage.places} step intent u.reached (headed c.stage.places p next) fits.0 (may_step c p step intent u fits.1 asked); steppers = steppers };
+        under_way = record { script = u.script; served = u.served; reached = makes {p = p} {places = drop 1 c.stage.places} step intent u.reached (headed c.stage.places p next) fits.0 (may_step 0 c p step intent u fits.1 asked); steppers = steppers };
         first_waits = first_stays c p (turned (thread_at p c) (Some (found_by step c.stage.words))) fits.0 fits.1 i.first_waits;
       };
       came = record { script = refl; begun = refl; steps = omega arith };

@@ -67,7 +67,7 @@ replay_of before c r d threads end events words steps =
       bound = let few = d.few in omega arith;
       lines_fit = rw threads w.lines_fit;
       end_fits = rw end w.end_fits;
-      events_fit = all_reversed (StampedFits (length c.script.shape.classes)) r.events.items (rw events w.events_fit);
+      events_fit = all_reversed (StampedFits c.script.shape) r.events.items (rw events w.events_fit);
     }
 
 pub replay_is : (script : Script) (before c : Progress) (r : Replay) → before.script ≡ script → IsDone before c → r.threads.items ≡ lines_from 1 (drop 1 c.stage.threads) → r.end.items ≡ first_lines c.stage.threads → reverse r.events.items ≡ c.stage.events →

@@ -1,26 +1,29 @@
 -- A thread that goes on to its next operation stays in its program, and owes no more steps than before.
-use Rattle.std.proofs.Common.{◌≡◌, ℕ, zero, suc, ◌+◌, ◌-◌, ◌*◌, ◌≤◌, ◌<◌, Bool, true, false, cond, ltb, List, [], ◌∷◌, length, take, drop, get_or, set, Option, Some, None, refl, ap, ◌∙◌, subst, sym, arith, length-drop}
+use Rattle.std.proofs.Common.{◌≡◌, ℕ, zero, suc, ◌+◌, ◌-◌, ◌*◌, ◌≤◌, ◌<◌, Bool, true, false, cond, eqb, ltb, List, [], ◌∷◌, length, take, drop, get_or, set, Option, Some, None, refl, ap, ◌∙◌, subst, sym, arith, length-drop}
 use Rattle.std.proofs.lemmas.List.{length-set, length-take}
 use Rattle.std.proofs.lemmas.List.Sums.{sum_by-cons}
-use Rattle.std.proofs.lemmas.Bool.{ltb-false}
+use Rattle.std.proofs.lemmas.Bool.{and_parts, ltb-true, ltb-false, eqb-true, true≢false}
 use Rattle.std.proofs.lemmas.List.Quantifiers.{position-Some}
 use Rattle.std.specs.Prelude.{position, slice_get, sum_by, ⊤}
 use Rattle.arc_rule.specs.Extents.{Extent}
 use Rattle.arc_script.specs.declared.script.Op.{Op}
 use Rattle.arc_script.specs.declared.script.Op.TheVariants as op
+use Rattle.arc_script.specs.declared.script.OpCell.TheVariants as opcell
 use Rattle.arc_model.specs.declared.answer.Answer.{Answer}
 use Rattle.arc_model.specs.declared.answer.Answer.TheVariants as answers
 use Rattle.arc_ops.specs.declared.gain.Gain.{Gain}
 use Rattle.arc_ops.specs.declared.gain.Gain.TheVariants as gains
 use Rattle.arc_ops.specs.declared.stepper.Held.{Held}
+use Rattle.arc_ops.specs.declared.stepper.Doing.{Doing}
 use Rattle.arc_ops.specs.declared.stepper.Doing.TheVariants as doings
 use Rattle.arc_ops.specs.declared.stepper.Move.{Move}
 use Rattle.arc_ops.specs.declared.stepper.Move.TheVariants as moves
-use Rattle.arc_ops.specs.Thread.{Thread, value, set_var, put, is_held}
+use Rattle.arc_ops.specs.Thread.{Thread, value, set_var, put, is_held, is_cell, is_accessing}
 use Rattle.arc_ops.specs.Plans.{drop_begun, make_begun}
-use Rattle.arc_ops.specs.Begins.{skipped, moved, begun_nil, begun_gain, begun_move, begun_drop, begun_op, scope_at, scope_drop, scope_begun, phase_end, phase_over, begun_at, begun, next_op}
+use Rattle.arc_ops.specs.Cells.{global_of, open_begun, set_begun, clear_begun}
+use Rattle.arc_ops.specs.Begins.{skipped, moved, begun_nil, begun_gain, begun_move, begun_drop, begun_op, has_globals, scope_over, scope_at, scope_drop, scope_begun, phase_end, phase_over, begun_at, begun, next_op}
 use Rattle.arc_ops.specs.Drops.{replaced, replaced_old}
-use Rattle.arc_plain.specs.Left.{held_unit, units, busy_units, left}
+use Rattle.arc_plain.specs.Left.{held_unit, globals_left, units, busy_units, left}
 use Rattle.arc_plain.proofs.Lists.{get_taken, get_dropped}
 
 -- where a thread comes to the end of a phase it is at the next one, and else at the same one
@@ -29,6 +32,15 @@ IsPhase k (moves.Step step intent) n = n ≡ k
 IsPhase k moves.PhaseEnd n = n ≡ k + 1
 IsPhase k moves.Ended n = n ≡ k
 
+-- it is inside no access, and the cell that it waits for is that of its operation's first step, or the end section's
+abbrev pub IsBehind : Thread → Doing → Type 0
+IsBehind t (doings.Gaining gain to from plan) = is_cell from.origin ≡ false
+IsBehind t (doings.Opening to cell plan) = t.first ≡ true
+IsBehind t (doings.Closing to cell held plan) = ⊥
+IsBehind t (doings.Setting from cell plan) = t.first ≡ true
+IsBehind t (doings.Clearing plan) = t.thread ≡ 0
+IsBehind t _ = ⊤
+
 -- a thread has become another state of it, which has at most so many steps left
 pub record Comes (t u : Thread) (bound : ℕ) : Type 0 where
   pub layout : u.layout ≡ t.layout
@@ -36,6 +48,7 @@ pub record Comes (t u : Thread) (bound : ℕ) : Type 0 where
   pub program : u.program ≡ t.program
   pub count : length u.vars ≡ length t.vars
   pub phase : IsPhase t.phase u.asked u.phase
+  pub behind : IsBehind u u.doing
   pub few : (words : List ℕ) → left words u ≤ bound
 
 -- a block goes on behind the place where it begins
@@ -48,13 +61,14 @@ IsForth i _ = ⊤
 abbrev pub Fits : Thread → Type 0
 Fits t = (t.layout.slots ≤ 4096) × ((i : ℕ) (o : Op) → slice_get t.program i ≡ Some o → IsForth i o)
 
--- nothing of this changed but the variables' values, the place in the program and what is told
+-- nothing of this changed but the variables' values, the place in the program and what is told, and no more globals are left
 pub record Same (t u : Thread) : Type 0 where
   pub layout : u.layout ≡ t.layout
   pub phases : u.phases ≡ t.phases
   pub program : u.program ≡ t.program
   pub count : length u.vars ≡ length t.vars
   pub phase : u.phase ≡ t.phase
+  pub globals : globals_left u ≤ globals_left t
 
 pub after_same : (t u x : Thread) (a b : ℕ) → Same t u → Comes u x a → a ≤ b → Comes t x b
 after_same t u x a b s c le = record {
@@ -63,6 +77,7 @@ after_same t u x a b s c le = record {
   program = c.program ∙ s.program;
   count = c.count ∙ s.count;
   phase = subst (λ (k : ℕ). IsPhase k x.asked x.phase) s.phase c.phase;
+  behind = c.behind;
   few = λ words. let f = c.few words in omega arith;
 }
 
@@ -78,14 +93,25 @@ unit_few (Some held) = omega arith
 
 -- a drop begins
 pub drop_comes : (t : Thread) (held : Held) → Comes t (drop_begun held t) (4200 * busy_units t + 9)
-drop_comes t held = record { layout = refl; phases = refl; program = refl; count = refl; phase = refl; few = λ words. omega arith }
+drop_comes t held = record { layout = refl; phases = refl; program = refl; count = refl; phase = refl; behind = tt; few = λ words. omega arith }
 
 -- the value of a variable that refers is dropped
 taken : (t : Thread) (v : ℕ) (held : Held) → value t.vars v ≡ Some held → Same t (set_var v None t) × (sum_by held_unit (set t.vars v None) + 1 ≤ sum_by held_unit t.vars)
 taken t v held is =
     let e = units_set t.vars v None in
     let at : held_unit (get_or t.vars v None) ≡ 1 = ap held_unit is in
-    (record { layout = refl; phases = refl; program = refl; count = length-set t.vars v None; phase = refl }, omega arith)
+    (record { layout = refl; phases = refl; program = refl; count = length-set t.vars v None; phase = refl; globals = omega arith }, omega arith)
+
+-- a thread ends, and thread 0 clears the next global
+over_comes : (t : Thread) → Comes t (scope_over t) (4200 * units t)
+over_comes t = go (has_globals t) refl
+  where
+    go : (b : Bool) → has_globals t ≡ b → Comes t (cond b (clear_begun t) (record t { doing = doings.Ended; asked = moves.Ended })) (4200 * units t)
+    go true e =
+        let both = and_parts (eqb t.thread 0) (ltb t.cleared t.layout.globals) e in
+        let some = ltb-true t.cleared t.layout.globals both.1 in
+        record { layout = refl; phases = refl; program = refl; count = refl; phase = refl; behind = eqb-true t.thread 0 both.0; few = λ words. omega arith }
+    go false e = record { layout = refl; phases = refl; program = refl; count = refl; phase = refl; behind = tt; few = λ words. omega arith }
 
 -- the end of the scope
 pub scope_comes : (t : Thread) → Comes t (scope_begun t) (4200 * units t)
@@ -99,7 +125,7 @@ scope_comes t = go (position is_held t.vars) refl
         after_same t (set_var v None t) (drop_begun h (set_var v None t)) (4200 * busy_units (set_var v None t) + 9) (4200 * units t) fewer.0 (drop_comes (set_var v None t) h) (omega arith)
 
     go : (o : Option ℕ) → position is_held t.vars ≡ o → Comes t (scope_at o t) (4200 * units t)
-    go None e = record { layout = refl; phases = refl; program = refl; count = refl; phase = refl; few = λ words. omega arith }
+    go None e = over_comes t
     go (Some v) e = let found = position-Some is_held t.vars v None e in dropping v (value t.vars v) refl found.1
 
 -- the end of the phase
@@ -107,7 +133,7 @@ pub phase_comes : (t : Thread) → Comes t (phase_over t) (4200 * units t)
 phase_comes t = go (ltb (t.phase + 1) (length t.phases))
   where
     go : (b : Bool) → Comes t (cond b (record t { doing = doings.Ready; asked = moves.PhaseEnd; phase = t.phase + 1 }) (scope_begun t)) (4200 * units t)
-    go true = record { layout = refl; phases = refl; program = refl; count = refl; phase = refl; few = λ words. omega arith }
+    go true = record { layout = refl; phases = refl; program = refl; count = refl; phase = refl; behind = tt; few = λ words. omega arith }
     go false = scope_comes t
 
 -- what an operation does that begins, where an operation that asks for no step leaves the rest for later
@@ -119,10 +145,11 @@ op_comes o t rest here slots forth later = at o forth
     behind : (u : Thread) → Same t u → t.index + 1 ≤ u.index → sum_by held_unit u.vars ≤ sum_by held_unit t.vars + 1 → Comes t (rest u) (4200 * units t)
     behind u same index vars =
         let program : length u.program ≡ length t.program = ap (λ (ops : List Op). length ops) same.program in
+        let globals = same.globals in
         after_same t u (rest u) (4200 * units u) (4200 * units t) same (later u same index vars) (omega arith)
 
     skips : (answer : Answer) → Comes t (rest (skipped answer t)) (4200 * units t)
-    skips answer = behind (skipped answer t) (record { layout = refl; phases = refl; program = refl; count = refl; phase = refl }) (omega arith) (omega arith)
+    skips answer = behind (skipped answer t) (record { layout = refl; phases = refl; program = refl; count = refl; phase = refl; globals = omega arith }) (omega arith) (omega arith)
 
     -- the old value of a variable is dropped, by an operation that is under way
     drops : (u : Thread) (v : ℕ) (held : Held) → Same t u → u.index ≡ t.index → sum_by held_unit u.vars ≤ sum_by held_unit t.vars → value u.vars v ≡ Some held → Comes t (drop_begun held (set_var v None u)) (4200 * units t)
@@ -130,18 +157,19 @@ op_comes o t rest here slots forth later = at o forth
         let fewer = taken u v held is in
         let less = fewer.1 in
         let program : length u.program ≡ length t.program = ap (λ (ops : List Op). length ops) same.program in
+        let globals = same.globals in
         after_same t u (drop_begun held (set_var v None u)) (4200 * busy_units (set_var v None u) + 9) (4200 * units t) same
         (after_same u (set_var v None u) (drop_begun held (set_var v None u)) (4200 * busy_units (set_var v None u) + 9) (4200 * busy_units (set_var v None u) + 9) fewer.0 (drop_comes (set_var v None u) held) (omega arith)) (omega arith)
 
     makes : (to class : ℕ) → Comes t (make_begun to class (record t { first = true })) (4200 * units t)
-    makes to class = record { layout = refl; phases = refl; program = refl; count = refl; phase = refl; few = λ words. omega arith }
+    makes to class = record { layout = refl; phases = refl; program = refl; count = refl; phase = refl; behind = tt; few = λ words. omega arith }
 
     nil : (to : ℕ) (old : Option Held) → value t.vars to ≡ old → Comes t (begun_nil to old t rest) (4200 * units t)
-    nil to (Some old) is = drops (put answers.Nil (record t { first = true })) to old (record { layout = refl; phases = refl; program = refl; count = refl; phase = refl }) refl (omega arith) is
+    nil to (Some old) is = drops (put answers.Nil (record t { first = true })) to old (record { layout = refl; phases = refl; program = refl; count = refl; phase = refl; globals = omega arith }) refl (omega arith) is
     nil to None is = skips answers.Nil
 
     gaining : (gain : Gain) (to : ℕ) (from old : Option Held) → value t.vars to ≡ old → Comes t (begun_gain gain to from old t rest) (4200 * units t)
-    gaining gain to (Some held) old is = record { layout = refl; phases = refl; program = refl; count = refl; phase = refl; few = λ words. omega arith }
+    gaining gain to (Some held) old is = record { layout = refl; phases = refl; program = refl; count = refl; phase = refl; behind = refl; few = λ words. omega arith }
     gaining gain to None old is = nil to old is
 
     counts : (to from : ℕ) (held : Held) → length (set (set t.vars to (Some held)) from None) ≡ length t.vars
@@ -154,21 +182,21 @@ op_comes o t rest here slots forth later = at o forth
         let at : held_unit (get_or t.vars to None) ≡ 1 = ap held_unit is in
         after_same t (moved to from held (put answers.Ok (record t { first = true }))) (drop_begun old (moved to from held (put answers.Ok (record t { first = true }))))
         (4200 * busy_units (moved to from held (put answers.Ok (record t { first = true }))) + 9) (4200 * units t)
-        (record { layout = refl; phases = refl; program = refl; count = counts to from held; phase = refl })
+        (record { layout = refl; phases = refl; program = refl; count = counts to from held; phase = refl; globals = omega arith })
         (drop_comes (moved to from held (put answers.Ok (record t { first = true }))) old) (omega arith)
     moving to from (Some held) None is =
         let a = units_set t.vars to (Some held) in
         let b = units_set (set t.vars to (Some held)) from None in
-        behind (moved to from held (skipped answers.Ok t)) (record { layout = refl; phases = refl; program = refl; count = counts to from held; phase = refl }) (omega arith) (omega arith)
+        behind (moved to from held (skipped answers.Ok t)) (record { layout = refl; phases = refl; program = refl; count = counts to from held; phase = refl; globals = omega arith }) (omega arith) (omega arith)
     moving to from None old is = nil to old is
 
     dropping : (v : ℕ) (held : Option Held) → value t.vars v ≡ held → Comes t (begun_drop v held t rest) (4200 * units t)
-    dropping v (Some held) is = drops (put answers.Ok (record t { first = true })) v held (record { layout = refl; phases = refl; program = refl; count = refl; phase = refl }) refl (omega arith) is
+    dropping v (Some held) is = drops (put answers.Ok (record t { first = true })) v held (record { layout = refl; phases = refl; program = refl; count = refl; phase = refl; globals = omega arith }) refl (omega arith) is
     dropping v None is = skips answers.Nil
 
     goes : (b : Bool) (there elsewhere : ℕ) → t.index + 1 ≤ there → t.index + 1 ≤ elsewhere → Comes t (rest (record t { index = cond b there elsewhere })) (4200 * units t)
-    goes true there elsewhere above below = behind (record t { index = there }) (record { layout = refl; phases = refl; program = refl; count = refl; phase = refl }) above (omega arith)
-    goes false there elsewhere above below = behind (record t { index = elsewhere }) (record { layout = refl; phases = refl; program = refl; count = refl; phase = refl }) below (omega arith)
+    goes true there elsewhere above below = behind (record t { index = there }) (record { layout = refl; phases = refl; program = refl; count = refl; phase = refl; globals = omega arith }) above (omega arith)
+    goes false there elsewhere above below = behind (record t { index = elsewhere }) (record { layout = refl; phases = refl; program = refl; count = refl; phase = refl; globals = omega arith }) below (omega arith)
 
     at : (o : Op) → IsForth t.index o → Comes t (begun_op o t rest) (4200 * units t)
     at (op.New to class) f = makes to class
@@ -178,8 +206,10 @@ op_comes o t rest here slots forth later = at o forth
     at (op.Unown to of) f = gaining gains.Unown to (value t.vars of) (value t.vars to) refl
     at (op.Weak to of) f = skips answers.Nil
     at (op.Load to of) f = gaining gains.Load to (value t.vars of) (value t.vars to) refl
-    at (op.Get to cell) f = skips answers.Nil
-    at (op.Set cell from) f = skips answers.Nil
+    at (op.Get to (opcell.Global g)) f = record { layout = refl; phases = refl; program = refl; count = refl; phase = refl; behind = refl; few = λ words. omega arith }
+    at (op.Get to (opcell.Field owner field)) f = skips answers.Nil
+    at (op.Set (opcell.Global g) from) f = record { layout = refl; phases = refl; program = refl; count = refl; phase = refl; behind = refl; few = λ words. omega arith }
+    at (op.Set (opcell.Field owner field) from) f = skips answers.Nil
     at (op.IfNil v to) f = goes (is_held (value t.vars v)) to (t.index + 1) (omega arith) (omega arith)
     at (op.IfSome v to) f = goes (is_held (value t.vars v)) (t.index + 1) to (omega arith) (omega arith)
 
@@ -202,7 +232,7 @@ past_or_begun : (place : ℕ) (o : Op) (ops : List Op) (t : Thread) → t.layout
 past_or_begun place o ops t slots within forth further = go (ltb place t.index) refl
   where
     go : (b : Bool) → ltb place t.index ≡ b → Comes t (cond b (begun_at (place + 1) ops t) (begun_op o t (λ (behind : Thread). begun_at (place + 1) ops behind))) (4200 * units t)
-    go true e = further t (record { layout = refl; phases = refl; program = refl; count = refl; phase = refl })
+    go true e = further t (record { layout = refl; phases = refl; program = refl; count = refl; phase = refl; globals = omega arith })
     go false e =
         let before = ltb-false place t.index e in
         op_comes o t (λ (behind : Thread). begun_at (place + 1) ops behind) (omega arith) slots (forth_before t.index place o before forth) (λ u same index vars. further u same)
@@ -229,18 +259,18 @@ next_comes t fits = go (ltb t.index (length t.program)) refl
     go : (b : Bool) → ltb t.index (length t.program) ≡ b → Comes t (begun (record t { doing = doings.Ended; index = cond b (t.index + 1) t.index })) (4200 * busy_units t)
     go true e =
         after_same t (record t { doing = doings.Ended; index = t.index + 1 }) (begun (record t { doing = doings.Ended; index = t.index + 1 })) (4200 * units (record t { doing = doings.Ended; index = t.index + 1 })) (4200 * busy_units t)
-        (record { layout = refl; phases = refl; program = refl; count = refl; phase = refl }) (begins (record t { doing = doings.Ended; index = t.index + 1 }) fits) (omega arith)
+        (record { layout = refl; phases = refl; program = refl; count = refl; phase = refl; globals = omega arith }) (begins (record t { doing = doings.Ended; index = t.index + 1 }) fits) (omega arith)
     go false e =
         let past = ltb-false t.index (length t.program) e in
         after_same t (record t { doing = doings.Ended }) (begun (record t { doing = doings.Ended })) (4200 * units (record t { doing = doings.Ended })) (4200 * busy_units t)
-        (record { layout = refl; phases = refl; program = refl; count = refl; phase = refl }) (begins (record t { doing = doings.Ended }) fits) (omega arith)
+        (record { layout = refl; phases = refl; program = refl; count = refl; phase = refl; globals = omega arith }) (begins (record t { doing = doings.Ended }) fits) (omega arith)
 
 -- a variable gets another value, and what it held before is dropped last
 pub replaced_comes : (t : Thread) (to : ℕ) (new : Option Held) → Fits t → t.index < length t.program → Comes t (replaced to new t) (4200 * busy_units t + 9)
 replaced_comes t to new fits here = go (value t.vars to) refl
   where
     same : Same t (set_var to new t)
-    same = record { layout = refl; phases = refl; program = refl; count = length-set t.vars to new; phase = refl }
+    same = record { layout = refl; phases = refl; program = refl; count = length-set t.vars to new; phase = refl; globals = omega arith }
 
     go : (old : Option Held) → value t.vars to ≡ old → Comes t (replaced_old old (set_var to new t)) (4200 * busy_units t + 9)
     go (Some old) is =
@@ -257,6 +287,6 @@ replaced_comes t to new fits here = go (value t.vars to) refl
             let a = units_set t.vars to new in let one = unit_few new in
             after_same t (record t { vars = set t.vars to new; doing = doings.Ended; index = t.index + 1 }) (begun (record t { vars = set t.vars to new; doing = doings.Ended; index = t.index + 1 }))
             (4200 * units (record t { vars = set t.vars to new; doing = doings.Ended; index = t.index + 1 })) (4200 * busy_units t + 9)
-            (record { layout = refl; phases = refl; program = refl; count = length-set t.vars to new; phase = refl })
+            (record { layout = refl; phases = refl; program = refl; count = length-set t.vars to new; phase = refl; globals = omega arith })
             (begins (record t { vars = set t.vars to new; doing = doings.Ended; index = t.index + 1 }) fits) (omega arith)
         ends_op false e = let past = ltb-false t.index (length t.program) e in absurd (omega arith)

@@ -4,12 +4,12 @@ use Rattle.arc_script.specs.declared.script.Script.{Script}
 use Rattle.arc_script.specs.Valid.{IsScript}
 use Rattle.arc_rule.specs.declared.step.Step.{Step}
 use Rattle.arc_ops.specs.Served.{IsServed}
-use Rattle.arc_ops.specs.Thread.{Thread, stepper_of}
+use Rattle.arc_ops.specs.Thread.{Thread, stepper_of, in_access, in_operation}
 use Rattle.arc_ops.specs.Turns.{turned}
 use Rattle.arc_ops.specs.Steppers.{IsStepper}
 use Rattle.arc_ops.specs.declared.stepper.Move.{Move}
 use Rattle.arc_ops.specs.declared.stepper.Move.TheVariants as moves
-use Rattle.arc_replays.specs.Stages.{Stage, Reached, IsSome, IsNone, IsNoneBelow, has_step, awaits_phase, begun_thread, begun_threads, stepped}
+use Rattle.arc_replays.specs.Stages.{Stage, Reached, IsSome, IsNone, IsNoneBelow, IsNoneBut, has_step, awaits_phase, begun_thread, begun_threads, stepped}
 
 -- the script, and the stage that its replay has come to
 pub record Progress : Type 0 where
@@ -56,12 +56,15 @@ thread_begun p c = record { script = c.script; stage = record c.stage { threads 
 abbrev pub phase_begun : Progress → Progress
 phase_begun c = record { script = c.script; stage = record c.stage { begun = c.stage.begun + 1; threads = begun_threads c.stage.threads } }
 
--- a script that is served, at a stage that its replay comes to
-pub record IsUnderWay (c : Progress) : Type 0 where
+-- a script that is served, at a stage that its replay comes to, where this thread is to end its operation first, and where it is 0 none is
+pub record IsAtStage (ending : ℕ) (c : Progress) : Type 0 where
   pub script : IsScript c.script
   pub served : IsServed c.script
-  pub reached : Reached c.script c.stage
+  pub reached : Reached c.script ending c.stage
   pub steppers : All IsStepper c.stage.threads
+
+abbrev pub IsUnderWay : Progress → Type 0
+IsUnderWay c = IsAtStage 0 c
 
 -- and thread 0 hasn't begun
 pub record IsInPhases (c : Progress) : Type 0 where
@@ -94,6 +97,35 @@ pub record PlacesFollowed (before c : Progress) : Type 0 where
 abbrev pub MayGoOn : ℕ → Progress → Type 0
 MayGoOn p c = has_step (thread_at p c) ≡ true → 1 ≤ p → (c.stage.places ≡ []) × IsNoneBelow p has_step c.stage.threads
 
+-- no other thread is inside an access
+abbrev pub IsAlone : ℕ → Progress → Type 0
+IsAlone p c = IsNoneBut p in_access c.stage.threads
+
+-- thread p may end its operation: no place is left, and it is the first thread inside an access
+pub record MayEnd (p : ℕ) (c : Progress) : Type 0 where
+  pub other : 1 ≤ p
+  pub followed : c.stage.places ≡ []
+  pub below : IsNoneBelow p in_access c.stage.threads
+  pub inside : in_access (thread_at p c) ≡ true
+
+-- Thread p is inside no access: where it was, it ended its operation.
+pub record AccessEnded (p : ℕ) (before c : Progress) : Type 0 where
+  pub under_way : IsUnderWay c
+  pub came : CameOn (2 ^ 40) before c
+  pub places : c.stage.places ≡ before.stage.places
+  pub others : (q : ℕ) → q ≢ p → slice_get c.stage.threads q ≡ slice_get before.stage.threads q
+  pub outside : in_access (thread_at p c) ≡ false
+  pub followed : AreFollowed before → AreFollowed c
+
+-- Each thread inside an access ended its operation.
+pub record AccessesEnded (before c : Progress) : Type 0 where
+  pub in_phases : IsInPhases c
+  pub came : CameOn (2 ^ 46) before c
+  pub places : c.stage.places ≡ before.stage.places
+  pub long : length c.stage.threads ≡ length before.stage.threads
+  pub followed : AreFollowed c
+  pub outside : IsNone in_access c.stage.threads
+
 -- Thread p made steps until it had none, and the others none.
 pub record ThreadFinished (p : ℕ) (before c : Progress) : Type 0 where
   pub under_way : IsUnderWay c
@@ -106,7 +138,7 @@ pub record ThreadFinished (p : ℕ) (before c : Progress) : Type 0 where
 -- Each thread made steps until it had none.
 pub record PhaseFinished (before c : Progress) : Type 0 where
   pub in_phases : IsInPhases c
-  pub came : CameOn (2 ^ 46) before c
+  pub came : CameOn (2 ^ 47) before c
   pub none : IsNone has_step c.stage.threads
 
 -- All phases are over.

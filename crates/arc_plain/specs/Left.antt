@@ -1,5 +1,5 @@
--- How many steps a thread may still make in its phase, where nobody else makes one meanwhile.
-use Rattle.std.specs.Prelude.{ℕ, ◌+◌, ◌-◌, ◌*◌, ◌/◌, ◌==◌, bit_and, if◌then◌else◌, List, length, slice_index, sum_by, Option, Some, None}
+-- How many steps a thread may still make in its phase, where nobody else makes one meanwhile and no other thread is inside an access.
+use Rattle.std.specs.Prelude.{ℕ, ◌≢◌, ◌+◌, ◌-◌, ◌*◌, ◌/◌, ◌==◌, ⊤, bit_and, if◌then◌else◌, List, length, slice_index, sum_by, Option, Some, None}
 use Rattle.arc_rule.specs.Places.{number}
 use Rattle.arc_rule.specs.declared.layout.Place.TheVariants.{Count, SlotBits}
 use Rattle.arc_rule.specs.declared.attempt.At.{At as AttemptAt}
@@ -8,24 +8,28 @@ use Rattle.arc_plan.specs.declared.slots.Making.{Making as Search}
 use Rattle.arc_plan.specs.declared.slots.Making.TheVariants.{Looking, Taking, Counting}
 use Rattle.arc_rule.specs.Extents.{Extent}
 use Rattle.arc_rule.specs.Bits.{words_of, bit_of}
-use Rattle.arc_cells.specs.declared.cascade.At.{At}
-use Rattle.arc_cells.specs.declared.cascade.At.TheVariants.{Entering, Naming, Leaving, Finishing}
+use Rattle.arc_cells.specs.declared.bare.At.{At}
+use Rattle.arc_cells.specs.declared.bare.At.TheVariants.{Entering, Naming, Leaving, Finishing}
 use Rattle.arc_ops.specs.declared.stepper.Held.{Held}
 use Rattle.arc_ops.specs.declared.stepper.Doing.{Doing}
-use Rattle.arc_ops.specs.declared.stepper.Doing.TheVariants.{Ready, Making, Gaining, Naming, Dropping, Dying, Vacating, Ended}
+use Rattle.arc_ops.specs.declared.stepper.Doing.TheVariants.{Ready, Making, Gaining, Naming, Opening, Closing, Setting, Clearing, Dropping, Dying, Vacating, Ended}
 use Rattle.arc_ops.specs.Thread.{Thread}
 
 abbrev pub held_unit : Option Held → ℕ
 held_unit None = 0
 held_unit (Some held) = 1
 
--- what is owed for the operations from this one on, and for the variables that are dropped in the end
+-- how many globals the end section still clears
+abbrev pub globals_left : Thread → ℕ
+globals_left t = t.layout.globals - t.cleared
+
+-- what is owed for the operations from this one on, for the variables that are dropped in the end, and for the globals that are cleared
 abbrev pub units : Thread → ℕ
-units t = 2 * (length t.program - t.index) + sum_by held_unit t.vars
+units t = 2 * (length t.program - t.index) + sum_by held_unit t.vars + globals_left t
 
 -- the same while an operation is under way
 abbrev pub busy_units : Thread → ℕ
-busy_units t = 2 * (length t.program - t.index) - 1 + sum_by held_unit t.vars
+busy_units t = 2 * (length t.program - t.index) - 1 + sum_by held_unit t.vars + globals_left t
 
 -- The words of bits that are still to be read, the step that takes a slot, and the stores of the object's words. A slot whose bit is set by now
 -- is looked for again.
@@ -35,7 +39,7 @@ search_left words l (Taking slot seen) = if bit_and (slice_index words (number l
 search_left words l (Counting slot) = 12
 search_left words l _ = 11
 
--- An attempt that has read another word than the one that is there now is made again.
+-- An attempt that has read another word than the one that is there now is made again. One on a cell finds that no access is under way.
 abbrev pub attempt_left : ℕ → AttemptAt → ℕ
 attempt_left word Loading = 2
 attempt_left word (Exchanging seen new) = if word == seen then 1 else 3
@@ -63,6 +67,10 @@ abbrev pub doing_left : List ℕ → Thread → Doing → ℕ
 doing_left words t (Making to name plan) = 4200 * busy_units t + search_left words plan.layout plan.at
 doing_left words t (Gaining gain to from plan) = 4200 * busy_units t + 10 + count_left plan.entry (count_at words plan.layout plan.slot) plan.at
 doing_left words t (Naming to held plan) = 4200 * busy_units t + 10
+doing_left words t (Opening to cell plan) = 4200 * busy_units t + 14 + attempt_left (slice_index words plan.place) plan.at
+doing_left words t (Closing to cell held plan) = 4200 * busy_units t + 10
+doing_left words t (Setting from cell plan) = 4200 * busy_units t + 9 + attempt_left (slice_index words plan.place) plan.at
+doing_left words t (Clearing plan) = 4200 * (busy_units t - 1) + 9 + attempt_left (slice_index words plan.place) plan.at
 doing_left words t (Dropping held plan) = 4200 * busy_units t + 6 + count_left plan.entry (count_at words plan.layout plan.slot) plan.at
 doing_left words t (Dying c) = 4200 * busy_units t + cascade_left words c.at
 doing_left words t (Vacating slot plan) = 4200 * busy_units t + 1
@@ -71,3 +79,10 @@ doing_left words t Ended = 0
 
 abbrev pub left : List ℕ → Thread → ℕ
 left words t = doing_left words t t.doing
+
+-- the cell that it waits for isn't accessed
+abbrev pub FindsFree : List ℕ → Doing → Type 0
+FindsFree words (Opening to cell plan) = slice_index words plan.place ≢ 1
+FindsFree words (Setting from cell plan) = slice_index words plan.place ≢ 1
+FindsFree words (Clearing plan) = slice_index words plan.place ≢ 1
+FindsFree words _ = ⊤

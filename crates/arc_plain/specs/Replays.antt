@@ -1,5 +1,6 @@
 -- What `replay_all` gives: the replay of a script that came to its end, its one legal history and its lines. (Stage, Reached and IsRun stand in arc_replays/specs/Stages.antt.)
 use Rattle.std.specs.Prelude.{ℕ, ◌≡◌, ◌<◌, ◌^◌, drop, length, reverse, All}
+use Rattle.arc_model.specs.Shapes.{HeapShape}
 use Rattle.arc_script.specs.declared.script.Script.{Script}
 use Rattle.arc_ops.specs.declared.told.Stamped.{Stamped}
 use Rattle.arc_ops.specs.declared.told.ThreadLines.{ThreadLines}
@@ -9,10 +10,10 @@ use Rattle.arc_replays.specs.Named.{LineFits, ActFits}
 use Rattle.arc_replays.specs.Stages.{Stage, IsRun}
 use Rattle.arc_plain.specs.declared.replay.Replay.{Replay}
 
-abbrev pub StampedFits : ℕ → Stamped → Type 0
-StampedFits n s = ActFits n s.event.act
+abbrev pub StampedFits : HeapShape → Stamped → Type 0
+StampedFits shape s = ActFits shape s.event.act
 
--- The replay is the run that came to this stage, and in the end no object is left but immortal ones. Lines and events name classes of the script.
+-- The replay is the run that came to this stage, and in the end no object is left but immortal ones. Lines and events name classes of the script, and events its cells.
 pub record IsReplay (script : Script) (r : Replay) : Type 0 where
   pub last : Stage
   pub run : IsRun script last
@@ -26,4 +27,4 @@ pub record IsReplay (script : Script) (r : Replay) : Type 0 where
   pub bound : r.steps < 2 ^ 62
   pub lines_fit : All (λ (x : ThreadLines). All (LineFits (length script.shape.classes)) x.lines) r.threads.items
   pub end_fits : All (LineFits (length script.shape.classes)) r.end.items
-  pub events_fit : All (StampedFits (length script.shape.classes)) r.events.items
+  pub events_fit : All (StampedFits script.shape) r.events.items

@@ -5,12 +5,12 @@ ghost use Rattle.arc_rule.specs.Places.{extent_of};
 ghost use Rattle.arc_rule.specs.Steps.{place_of, found_by};
 ghost use Rattle.arc_script.specs.Valid.{IsScript};
 ghost use Rattle.arc_ops.specs.Served.{IsServed};
-ghost use Rattle.arc_ops.specs.Thread.{stepper_of};
+ghost use Rattle.arc_ops.specs.Thread.{stepper_of, in_access, in_operation};
 ghost use Rattle.arc_ops.specs.Turns.{turned};
 ghost use Rattle.arc_ops.specs.Takes.{takes};
 ghost use Rattle.arc_ops.specs.Steppers.{IsStepper};
 ghost use Rattle.arc_replays.specs.Stages.{IsSome, IsNone, has_step, awaits_phase, first_stage, new_threads, stamped};
-ghost use Rattle.arc_plain.specs.Crews.{Progress, IsUnderWay, IsInPhases, AreFollowed, MayGoOn, PlaceFollowed, PlacesFollowed, ThreadFinished, PhaseFinished, PhasesDone, IsDone, given, has_made, place_used, thread_begun, phase_begun, step_count, steps_asked, thread_at};
+ghost use Rattle.arc_plain.specs.Crews.{Progress, IsUnderWay, IsInPhases, IsAlone, AreFollowed, MayEnd, MayGoOn, PlaceFollowed, PlacesFollowed, AccessEnded, AccessesEnded, ThreadFinished, PhaseFinished, PhasesDone, IsDone, given, has_made, place_used, thread_begun, phase_begun, step_count, steps_asked, thread_at};
 
 use crate::words::PlainWords;
 use arc_model::{Act, Event, Memory};
@@ -279,24 +279,87 @@ impl<'a> Crew<'a> {
         }
     }
 
-    /// Each thread, in the order of the numbers, makes steps until its phase has ended.
+    /// Each thread inside an access ends its operation, and then each thread, in the order of the numbers, makes steps until its phase has
+    /// ended.
     fn finish_phase(&mut self) -> Result<(), AllocError>
         requires in_phases { IsInPhases self.old }
         requires followed { AreFollowed self.old }
         requires steps { self.old.stage.steps < 2 ^ 60 }
         ensures { OnOk result (PhaseFinished self.old self.new) }
     {
+        self.end_accesses()?;
         for thread in 1..self.steppers.len() {
             self.finish_thread(thread as u32)?;
         }
         Ok(())
     }
 
-    /// The thread makes steps until its phase has ended. It is alone, so it ends.
+    /// Each thread inside an access ends its operation, in the order of the numbers, so that no other thread waits for it.
+    fn end_accesses(&mut self) -> Result<(), AllocError>
+        requires in_phases { IsInPhases self.old }
+        requires followed { AreFollowed self.old }
+        requires steps { self.old.stage.steps < 2 ^ 60 }
+        ensures { OnOk result (AccessesEnded self.old self.new) }
+    {
+        for thread in 1..self.steppers.len() {
+            self.end_access(thread as u32)?;
+        }
+        Ok(())
+    }
+
+    /// The thread ends its operation, if it is inside an access.
+    fn end_access(&mut self, thread: u32) -> Result<(), AllocError>
+        requires under_way { IsUnderWay self.old }
+        requires there { thread < length self.old.stage.threads }
+        requires may { in_access (thread_at thread self.old) ≡ true → MayEnd thread self.old }
+        requires steps { self.old.stage.steps < 2 ^ 61 }
+        ensures { OnOk result (AccessEnded thread self.old self.new) }
+    {
+        if self.in_access(thread) {
+            self.end_operation(thread)
+        } else {
+            Ok(())
+        }
+    }
+
+    /// The thread, which is inside an access, makes steps to the end of its operation. It waits for no other thread, so it ends.
+    fn end_operation(&mut self, thread: u32) -> Result<(), AllocError>
+        requires under_way { IsUnderWay self.old }
+        requires there { thread < length self.old.stage.threads }
+        requires may { MayEnd thread self.old }
+        requires steps { self.old.stage.steps < 2 ^ 61 }
+        ensures { OnOk result (AccessEnded thread self.old self.new) }
+    {
+        while self.in_operation(thread) {
+            match self.asks(thread) {
+                Move::Step { step, intent: _ } => self.make_step(thread, step)?,
+                Move::PhaseEnd => return Ok(()),
+                Move::Ended => return Ok(()),
+            }
+        }
+        Ok(())
+    }
+
+    fn in_access(&self, thread: u32) -> bool
+        requires { thread < length self.now.stage.threads }
+        ensures { result ≡ in_access (thread_at thread self.now) }
+    {
+        self.steppers[thread as usize].in_access()
+    }
+
+    fn in_operation(&self, thread: u32) -> bool
+        requires { thread < length self.now.stage.threads }
+        ensures { result ≡ in_operation (thread_at thread self.now) }
+    {
+        self.steppers[thread as usize].in_operation()
+    }
+
+    /// The thread makes steps until its phase has ended. No other thread is inside an access, so it waits for none, and it ends.
     fn finish_thread(&mut self, thread: u32) -> Result<(), AllocError>
         requires under_way { IsUnderWay self.old }
         requires there { thread < length self.old.stage.threads }
         requires may { MayGoOn thread self.old }
+        requires alone { IsAlone thread self.old }
         requires steps { self.old.stage.steps < 2 ^ 61 }
         ensures { OnOk result (ThreadFinished thread self.old self.new) }
     {

@@ -1,6 +1,11 @@
 //! Tests: replays that were worked out by hand, step by step.
 
-use crate::rows::{ROWS, Row};
+use crate::blocks::BLOCKS;
+use crate::globals::GLOBALS;
+use crate::lives::LIVES;
+use crate::rows::Row;
+use crate::schedules::SCHEDULES;
+use crate::unowned::UNOWNED;
 use arc_model::{Act, Event, ObjectName};
 use arc_ops::{Answer, Line, Stamped, ThreadLines, is_served};
 use arc_plain::{Replay, replay_all};
@@ -81,10 +86,14 @@ fn check_threads(
     Ok(())
 }
 
-/// The end section has no line, and the words of the bits, which stand last, are these: those of the slots, and that of the one entry,
-/// which is never taken.
+/// The end section has no line, and the bits are these.
 fn check_end(rt: &impl Abort, replay: &Replay, slots: &[u64]) {
     assert_eq!(rt; replay.end.len(), 0);
+    check_bits(rt, replay, slots);
+}
+
+/// The words of the bits, which stand last, are these: those of the slots, and that of the one entry, which is never taken.
+fn check_bits(rt: &impl Abort, replay: &Replay, slots: &[u64]) {
     assert_eq!(rt; replay.words.last(), Some(&0));
     let bits = replay.words.iter().rev().skip(1);
     for (word, taken) in bits.zip(slots.iter().rev()) {
@@ -92,14 +101,58 @@ fn check_end(rt: &impl Abort, replay: &Replay, slots: &[u64]) {
     }
 }
 
+fn check_rows(rt: &impl Abort, alloc: Global, rows: &[Row]) -> Result<(), Fail> {
+    for row in rows {
+        let replay = replay_of(rt, alloc, row.text)?;
+        check_events(rt, alloc, &replay.events, row)?;
+        check_threads(rt, alloc, &replay.threads, row)?;
+        check_end(rt, &replay, &[row.taken]);
+        assert_eq!(rt; replay.steps, row.steps, "the steps of {:?}", row.text);
+    }
+    Ok(())
+}
+
 #[test]
 fn replays_are_as_worked_out(rt: HostRuntime) -> Result<(), Fail> {
     let alloc = rt.alloc();
-    for row in ROWS {
+    check_rows(&rt, alloc, LIVES)?;
+    check_rows(&rt, alloc, SCHEDULES)?;
+    check_rows(&rt, alloc, BLOCKS)?;
+    check_rows(&rt, alloc, UNOWNED)
+}
+
+/// The end section's lines are these.
+fn check_end_lines(
+    rt: &impl Abort,
+    alloc: Global,
+    replay: &Replay,
+    lines: &[(u32, Answer)],
+) -> Result<(), AllocError> {
+    let mut wanted = Vec::new(alloc);
+    for (operation, answer) in lines {
+        wanted.push(Line {
+            operation: *operation,
+            answer: *answer,
+        })?;
+    }
+    assert_eq!(rt;
+        replay.end.as_slice(),
+        wanted.as_slice(),
+        "the lines of the end section"
+    );
+    Ok(())
+}
+
+#[test]
+fn replays_with_globals_are_as_worked_out(rt: HostRuntime) -> Result<(), Fail> {
+    let alloc = rt.alloc();
+    for global in GLOBALS {
+        let row = &global.row;
         let replay = replay_of(&rt, alloc, row.text)?;
         check_events(&rt, alloc, &replay.events, row)?;
         check_threads(&rt, alloc, &replay.threads, row)?;
-        check_end(&rt, &replay, &[row.taken]);
+        check_end_lines(&rt, alloc, &replay, global.end)?;
+        check_bits(&rt, &replay, &[row.taken]);
         assert_eq!(rt; replay.steps, row.steps, "the steps of {:?}", row.text);
     }
     Ok(())

@@ -1,17 +1,17 @@
 -- What acts that are served leave: objects without an entry, in whose lists are no more holders than references came, and one. No entry is claimed.
-use Rattle.std.proofs.Common.{◌≡◌, ℕ, zero, suc, ◌≤◌, Bool, true, false, cond, List, [], ◌∷◌, ◌++◌, length, Option, Some, None, refl, sym, subst, arith}
+use Rattle.std.proofs.Common.{◌≡◌, ℕ, zero, suc, ◌≤◌, Bool, true, false, cond, List, [], ◌∷◌, ◌++◌, length, Option, Some, None, refl, sym, ap, subst, arith}
 use Rattle.std.specs.Prelude.{find, slice_get, ⊤}
 use Rattle.std.proofs.lemmas.List.{length-append}
-use Rattle.arc_model.specs.declared.event.Origin.TheVariants as origins
 use Rattle.arc_model.specs.declared.event.Got.TheVariants as gots
 use Rattle.arc_model.specs.declared.event.Act.{Act}
 use Rattle.arc_model.specs.declared.event.Act.TheVariants as acts
 use Rattle.arc_model.specs.declared.shape.Kind.{Kind}
 use Rattle.arc_model.specs.declared.shape.Kind.TheVariants.{Strong, Unowned, Weak}
+use Rattle.arc_model.specs.Shapes.{HeapShape}
 use Rattle.arc_model.specs.Heaps.{Holder, Hand, Strongs, Object, Heap}
-use Rattle.arc_model.specs.Holders.{same_holder, is_in, with_last, without, gains, lists, with_list, change, kind_in, holds, in_slot, held_by, at_first}
-use Rattle.arc_model.specs.Cells.{origin}
-use Rattle.arc_model.specs.Effects.{ended_if, given_up, entry_of_last, entry_left, entry_to, left_slot, finished, vacated, effect, made}
+use Rattle.arc_model.specs.Holders.{same_holder, is_in, with_last, without, gains, renamed, lists, with_list, change, kind_in, holds, in_slot, held_by, at_first}
+use Rattle.arc_model.specs.Cells.{cell, origin}
+use Rattle.arc_model.specs.Effects.{ended_if, given_up, entry_of_last, entry_left, entry_to, left_slot, finished, vacated, becomes, put_in, taken_out, effect, made}
 use Rattle.arc_model.specs.WellFormed.{more}
 use Rattle.arc_model.specs.History.{History, heap_after, brings}
 use Rattle.arc_model.proofs.Basics.{None≢Some, Some-inj}
@@ -125,51 +125,79 @@ bare_drop : (n p : ℕ) (left : Option ℕ) (heap : Heap) → left ≡ None → 
 bare_drop n p None heap none b = b
 bare_drop n p (Some e) heap none b = absurd (None≢Some e (sym none))
 
-bare_effect : (classes n p : ℕ) (act : Act) (heap : Heap) → ActFits classes act → IsBareHeap n heap → IsBareHeap (more (brings act) n) (effect p act heap)
-bare_effect classes n p (acts.New k c s) heap fits b = record {
-  objects = end_bare (suc n) heap.objects (made p k c s heap.objects) (all_more n (suc n) heap.objects (omega arith) b.objects) (record { entry = refl; strong = omega arith; unowned = omega arith });
-  claims = b.claims;
-}
-bare_effect classes n p acts.Full heap fits b = b
-bare_effect classes n p (acts.Copy (origins.Hand h) k) heap fits b = record {
-  objects = first_bare n (suc n) (holds (origin heap p (origins.Hand h))) (lists (gains (origin heap p (origins.Hand h)) (Hand p k))) heap.objects (omega arith)
+-- a holder takes the place of another
+renamed_few : (x y : Holder) (xs : List Holder) → length (renamed x y xs) ≡ length xs
+renamed_few x y [] = refl
+renamed_few x y (z ∷ zs) = go (same_holder x z) (renamed_few x y zs)
+  where
+    go : (b : Bool) → length (renamed x y zs) ≡ length zs → length (cond b (y ∷ zs) (z ∷ renamed x y zs)) ≡ suc (length zs)
+    go true e = refl
+    go false e = ap suc e
+
+becomes_bare : (n : ℕ) (x y : Holder) (heap : Heap) → IsBareHeap n heap → IsBareHeap n (becomes x y heap)
+becomes_bare n x y heap b = record {
+  objects = first_bare n n (holds x) (lists (renamed x y)) heap.objects (omega arith)
       (λ o bare. record {
         entry = bare.entry;
-        strong = (let s = bare.strong in let g = gains_few (origin heap p (origins.Hand h)) (Hand p k) o.strong in omega arith);
-        unowned = (let u = bare.unowned in let g = gains_few (origin heap p (origins.Hand h)) (Hand p k) o.unowned in omega arith);
+        strong = (let s = bare.strong in let g = renamed_few x y o.strong in omega arith);
+        unowned = (let u = bare.unowned in let g = renamed_few x y o.unowned in omega arith);
       }) b.objects;
   claims = b.claims;
 }
-bare_effect classes n p (acts.Copy (origins.Cell cell) k) heap fits b = absurd fits
-bare_effect classes n p (acts.UnownedOf of k) heap fits b = record {
+
+put_bare : (n p : ℕ) (c : Holder) (put : Option ℕ) (heap : Heap) → IsBareHeap n heap → IsBareHeap n (put_in c p put heap)
+put_bare n p c None heap b = b
+put_bare n p c (Some h) heap b = becomes_bare n (Hand p h) c heap b
+
+bare_more : (n m : ℕ) (heap : Heap) → n ≤ m → IsBareHeap n heap → IsBareHeap m heap
+bare_more n m heap le b = record { objects = all_more n m heap.objects le b.objects; claims = b.claims }
+
+bare_effect : (shape : HeapShape) (n p : ℕ) (act : Act) (heap : Heap) → ActFits shape act → IsBareHeap n heap → IsBareHeap (more (brings act) n) (effect p act heap)
+bare_effect shape n p (acts.New k c s) heap fits b = record {
+  objects = end_bare (suc n) heap.objects (made p k c s heap.objects) (all_more n (suc n) heap.objects (omega arith) b.objects) (record { entry = refl; strong = omega arith; unowned = omega arith });
+  claims = b.claims;
+}
+bare_effect shape n p acts.Full heap fits b = b
+bare_effect shape n p (acts.Copy from k) heap fits b = record {
+  objects = first_bare n (suc n) (holds (origin heap p from)) (lists (gains (origin heap p from) (Hand p k))) heap.objects (omega arith)
+      (λ o bare. record {
+        entry = bare.entry;
+        strong = (let s = bare.strong in let g = gains_few (origin heap p from) (Hand p k) o.strong in omega arith);
+        unowned = (let u = bare.unowned in let g = gains_few (origin heap p from) (Hand p k) o.unowned in omega arith);
+      }) b.objects;
+  claims = b.claims;
+}
+bare_effect shape n p (acts.UnownedOf of k) heap fits b = record {
   objects = first_bare n (suc n) (holds (Hand p of)) (with_list Unowned (with_last (Hand p k))) heap.objects (omega arith)
       (λ o bare. record { entry = bare.entry; strong = (let s = bare.strong in omega arith); unowned = (let u = bare.unowned in let l = length-append o.unowned (Hand p k ∷ []) in omega arith) }) b.objects;
   claims = b.claims;
 }
-bare_effect classes n p (acts.WeakOf of k) heap fits b = absurd fits
-bare_effect classes n p (acts.Load of (gots.Hand k)) heap fits b = record {
+bare_effect shape n p (acts.WeakOf of k) heap fits b = absurd fits
+bare_effect shape n p (acts.Load of (gots.Hand k)) heap fits b = record {
   objects = first_bare n (suc n) (holds (Hand p of)) (with_list Strong (with_last (Hand p k))) heap.objects (omega arith)
       (λ o bare. record { entry = bare.entry; strong = (let s = bare.strong in let l = length-append o.strong (Hand p k ∷ []) in omega arith); unowned = (let u = bare.unowned in omega arith) }) b.objects;
   claims = b.claims;
 }
-bare_effect classes n p (acts.Load of gots.Dead) heap fits b = b
-bare_effect classes n p (acts.Load of gots.Nil) heap fits b = b
-bare_effect classes n p (acts.Drop h last) heap fits b =
+bare_effect shape n p (acts.Load of gots.Dead) heap fits b = b
+bare_effect shape n p (acts.Load of gots.Nil) heap fits b = b
+bare_effect shape n p (acts.Drop h last) heap fits b =
     bare_drop n p (entry_left (Hand p h) last (held_by (Hand p h) heap)) (change (holds (Hand p h)) (given_up p (Hand p h) last) heap) (none_left n (Hand p h) last (holds (Hand p h)) heap.objects b.objects)
     (record { objects = first_bare n n (holds (Hand p h)) (given_up p (Hand p h) last) heap.objects (omega arith) (λ o bare. given_bare n p (Hand p h) last o bare) b.objects; claims = b.claims })
-bare_effect classes n p (acts.CountFull list from) heap fits b = absurd fits
-bare_effect classes n p (acts.Claim e) heap fits b = absurd fits
-bare_effect classes n p acts.NoEntry heap fits b = absurd fits
-bare_effect classes n p (acts.Side s e why) heap fits b = absurd fits
-bare_effect classes n p (acts.Back e) heap fits b = absurd fits
-bare_effect classes n p (acts.Swap c put took) heap fits b = absurd fits
-bare_effect classes n p (acts.Look c) heap fits b = absurd fits
-bare_effect classes n p (acts.Take s f k) heap fits b = absurd fits
-bare_effect classes n p (acts.Finish s last) heap fits b = record { objects = first_bare n n (in_slot s) (finished p last) heap.objects (omega arith) (λ o bare. finished_bare n p last o bare) b.objects; claims = b.claims }
-bare_effect classes n p (acts.Vacate s) heap fits b = record { objects = first_bare n n (in_slot s) (vacated p) heap.objects (omega arith) (λ o bare. vacated_bare n p o bare) b.objects; claims = b.claims }
-bare_effect classes n p (acts.Gone e last) heap fits b = absurd fits
+bare_effect shape n p (acts.CountFull list from) heap fits b = absurd fits
+bare_effect shape n p (acts.Claim e) heap fits b = absurd fits
+bare_effect shape n p acts.NoEntry heap fits b = absurd fits
+bare_effect shape n p (acts.Side s e why) heap fits b = absurd fits
+bare_effect shape n p (acts.Back e) heap fits b = absurd fits
+bare_effect shape n p (acts.Swap c put None) heap fits b = put_bare n p (cell heap c) put heap b
+bare_effect shape n p (acts.Swap c put (Some k)) heap fits b =
+    bare_more n (suc n) (put_in (cell heap c) p put (taken_out (cell heap c) p (Some k) heap)) (omega arith) (put_bare n p (cell heap c) put (taken_out (cell heap c) p (Some k) heap) (becomes_bare n (cell heap c) (Hand p k) heap b))
+bare_effect shape n p (acts.Look c) heap fits b = b
+bare_effect shape n p (acts.Take s f k) heap fits b = absurd fits
+bare_effect shape n p (acts.Finish s last) heap fits b = record { objects = first_bare n n (in_slot s) (finished p last) heap.objects (omega arith) (λ o bare. finished_bare n p last o bare) b.objects; claims = b.claims }
+bare_effect shape n p (acts.Vacate s) heap fits b = record { objects = first_bare n n (in_slot s) (vacated p) heap.objects (omega arith) (λ o bare. vacated_bare n p o bare) b.objects; claims = b.claims }
+bare_effect shape n p (acts.Gone e last) heap fits b = absurd fits
 
 -- No object of the heap has an entry, none has more strong holders than references came, nor more unowned ones besides the one that stands for these, and no entry is claimed.
-pub bare_after : (classes : ℕ) (h : History) → EventsFit classes h → IsBareHeap (came_in h) (heap_after h)
-bare_after classes [] fits = record { objects = tt; claims = refl }
-bare_after classes (e ∷ h) fits = bare_effect classes (came_in h) e.thread e.act (heap_after h) fits.0 (bare_after classes h fits.1)
+pub bare_after : (shape : HeapShape) (h : History) → EventsFit shape h → IsBareHeap (came_in h) (heap_after h)
+bare_after shape [] fits = record { objects = tt; claims = refl }
+bare_after shape (e ∷ h) fits = bare_effect shape (came_in h) e.thread e.act (heap_after h) fits.0 (bare_after shape h fits.1)

@@ -23,7 +23,11 @@ use Rattle.arc_ops.specs.declared.stepper.Move.TheVariants as moves
 use Rattle.arc_ops.specs.Thread.{Thread}
 use Rattle.arc_ops.specs.Turns.{turned}
 use Rattle.arc_ops.specs.Takes.{takes}
-use Rattle.arc_spelled.specs.StepperStands.{Work, IsServedWork}
+use Rattle.arc_programs.specs.ProgramsTied.{hands_in}
+use Rattle.arc_spelled.specs.StepperStands.{Work, IsServedWork, StandsFor}
+use Rattle.arc_spelled.specs.Came.{Extends, knowing}
+use Rattle.arc_spelled.proofs.MoreKnown.{more_is_known}
+use Rattle.arc_ops_passes.proofs.Hands.{others_bring_none}
 use Rattle.arc_spelled.specs.Spelled.{work_of, with_event_of}
 use Rattle.arc_view.specs.declared.view.Working.{Working}
 use Rattle.arc_view.specs.declared.view.View.{View}
@@ -167,7 +171,11 @@ replays_are_one_history shape work threads words log r = record {
       let f = r.kept.fits i v d.1 in
       let rest = f.begins.0 in
       let others : share rest (work i).thread ≡ [] = ap (share rest) (sym drives.number) ∙ others_came v.number r.kept.log v.seen rest f.begins.1 (f.own drives.pass) in
-      (drives.notes, drives.stands, subst (Ties Judged (work i).shape (work i).thread drives.notes) (sym f.begins.1 ∙ r.log_is) (ties_others Judged (work i).shape (work i).thread drives.notes v.seen rest others drives.tied));
+      let extends : Extends (hands_in v.number v.seen) (hands_in (work i).thread log) = λ x ref known.
+      subst (λ (q : ℕ × History). hands_in q.0 q.1 x ≡ Some ref) (λ j. (drives.number j, (sym f.begins.1 ∙ r.log_is) j))
+      (others_bring_none v.number rest v.seen x (others_came v.number r.kept.log v.seen rest f.begins.1 (f.own drives.pass)) ∙ known) in
+      let stands : StandsFor (knowing (hands_in (work i).thread log) (work i)) t drives.notes = more_is_known (knowing (hands_in v.number v.seen) (work i)) (hands_in (work i).thread log) t drives.notes drives.stands extends in
+      (drives.notes, stands, subst (Ties Judged (work i).shape (work i).thread drives.notes) (sym f.begins.1 ∙ r.log_is) (ties_others Judged (work i).shape (work i).thread drives.notes v.seen rest others drives.tied));
   shows = λ ended.
       let none : (pl : Place) → Excepted r.views pl → ⊥ = λ pl x.
       let lt : x.0 < length threads = let below = elem_below r.views x.0 x.1 x.2 in let e = r.as_many in omega arith in
@@ -187,10 +195,10 @@ replays_are_one_history shape work threads words log r = record {
         go None e = no_thread threads i lt e
 
 pub ended_threads_spell : EndedThreadsSpell
-ended_threads_spell script came any threads words log i t valid served within r at ended =
+ended_threads_spell script came threads words log i t valid served within r at ended =
     let n = (replays_are_one_history script.shape (λ p. work_of script p came) threads words log r).notes i t at in record {
       notes = n.0;
       tied = n.2;
-      spelled = ended_steppers_spell script i came any t n.0 valid served within n.1 ended;
+      spelled = ended_steppers_spell script i (hands_in i log) t n.0 within n.1 ended;
       share_is = notes_share Judged script.shape i n.0 log n.2;
     }

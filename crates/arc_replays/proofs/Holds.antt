@@ -10,7 +10,7 @@ use mathlib.Core.Option.{some}
 use native.Mathlib.Decide.{ℕ_discrete}
 use lib.ListN.{get_elem?}
 use Rattle.arc_model.specs.declared.event.Act.{Act}
-use Rattle.arc_model.specs.Shapes.{ObjectClass}
+use Rattle.arc_model.specs.Shapes.{HeapShape, ObjectClass}
 use Rattle.arc_model.specs.History.{History, heap_after, share, next_hand, brings}
 use Rattle.arc_model.specs.SpellingTies.Causes.{Judged}
 use Rattle.arc_model.proofs.Basics.{None≢Some, Some-inj}
@@ -43,7 +43,7 @@ use Rattle.arc_replays.specs.Histories.{history_of}
 use Rattle.arc_replays.specs.Named.{EventFits, EventsFit}
 use Rattle.arc_replays.specs.Replaying.{Replaying, MayTurn, IsBegun, AreBegun}
 use Rattle.arc_replays.specs.Stages.{Stage, Reached, first_stage, new_threads, begun_thread, begun_threads, awaits_phase, is_phase_end, stamped, stepped}
-use Rattle.arc_replays.specs.Stages.Reached.{new, begins, makes, passes, by_number, last, last_step}
+use Rattle.arc_replays.specs.Stages.Reached.{new, begins, makes, passes, inside as goes_inside, ends_it, outside as goes_outside, by_number, last, last_step}
 use Rattle.arc_replays.proofs.Bare.{came_in, IsBareHeap, bare_after}
 use Rattle.arc_view_laws.proofs.Counted.{counted, counted_cons}
 use Rattle.arc_replays.proofs.Came.{came_few}
@@ -63,7 +63,8 @@ is_sized script valid served =
     let names : length (map (λ (c : ClassDecl). c.name) script.classes) ≡ length script.classes = length-map script.classes (λ (c : ClassDecl). c.name) in
     let few = valid.heading.classes_named.names.few in
     let globals : length script.shape.globals ≡ length script.globals = ap length valid.heading.of_globals ∙ length-map script.globals (λ (v : VarDecl). record { kind = v.kind; class = v.class }) in
-    let none : length script.globals ≡ 0 = ap length served.no_globals in record {
+    let global_names : length (map (λ (v : VarDecl). v.name) script.globals) ≡ length script.globals = length-map script.globals (λ (v : VarDecl). v.name) in
+    let few_globals = valid.heading.globals_named.names.few in record {
       shape_fits = record {
         slots_fit = valid.heading.slots;
         entries_fit = valid.heading.entries;
@@ -80,9 +81,9 @@ pub history_stamped : (n p : ℕ) (event : Option Act) (events : List Stamped) �
 history_stamped n p None events = refl
 history_stamped n p (Some a) events = refl
 
-fits_on : (n p : ℕ) (event : Option Act) (log : History) → EventFits n event → EventsFit n log → EventsFit n (with_event_of p event log)
-fits_on n p None log fits all = all
-fits_on n p (Some a) log fits all = (fits, all)
+fits_on : (shape : HeapShape) (p : ℕ) (event : Option Act) (log : History) → EventFits shape event → EventsFit shape log → EventsFit shape (with_event_of p event log)
+fits_on shape p None log fits all = all
+fits_on shape p (Some a) log fits all = (fits, all)
 
 within_on : (script : Script) (p : ℕ) (event : Option Act) (log : History) → p ≤ length script.threads → NoOtherThread script log → NoOtherThread script (with_event_of p event log)
 within_on script p None log le all = all
@@ -111,9 +112,9 @@ came_on p q (Some a) log m few own = dite (ℕ_discrete q p) same other
 pub record Holds (script : Script) (came : Hands) (s : Stage) : Type 0 where
   pub replaying : Replaying script.shape (λ p. work_of script p came) s.threads s.words (history_of s.events)
   pub as_many : length s.threads ≡ length script.threads + 1
-  pub events_fit : EventsFit (length script.shape.classes) (history_of s.events)
-  -- how many references came to each thread: one for each operation at most, and two more
-  pub few : (p : ℕ) → next_hand p (history_of s.events) ≤ 100004
+  pub events_fit : EventsFit script.shape (history_of s.events)
+  -- how many references came to each thread: one for each operation and each global at most, and a few more
+  pub few : (p : ℕ) → next_hand p (history_of s.events) ≤ 100068
   pub no_other : NoOtherThread script (history_of s.events)
 
 pub record GoesTo (script : Script) (came : Hands) (s : Stage) (p : ℕ) (t : Thread) (step : Step) : Type 0 where
@@ -129,7 +130,7 @@ module _ (script : Script) (came : Hands) (valid : IsScript script) (served : Is
     log = history_of s.events
 
     bare : IsBareHeap (came_in log) (heap_after h.replaying.kept.log)
-    bare = subst (λ (l : History). IsBareHeap (came_in log) (heap_after l)) (sym h.replaying.log_is) (bare_after (length script.shape.classes) log h.events_fit)
+    bare = subst (λ (l : History). IsBareHeap (came_in log) (heap_after l)) (sym h.replaying.log_is) (bare_after script.shape log h.events_fit)
 
     few_came : came_in log < script.shape.caps.strong
     few_came =
@@ -151,11 +152,11 @@ module _ (script : Script) (came : Hands) (valid : IsScript script) (served : Is
       may_turn = record { there = there; asked = asked; stepper = stepper; served = served-work script p came valid served; same_shape = refl; word = serves_it.word }
 
       -- so many references came to the thread
-      few_hands : next_hand p log ≤ 100003
+      few_hands : next_hand p log ≤ 100067
       few_hands =
           let n = (replays_are_one_history script.shape (λ q. work_of script q came) s.threads s.words log h.replaying).notes p t there in
           let is : next_hand p log ≡ t.hands + 1 = hands_are Judged script.shape p n.0 log n.2 ∙ ap (λ k. k + 1) (sym n.1.counts.hands_are) in
-          let hands = stepper.hands in let index = stepper.index in let few = stepper.few in
+          let hands = stepper.hands in let index = stepper.index in let few = stepper.few in let cleared = stepper.cleared in let globals = stepper.globals in
           omega arith
 
       pub goes_to : GoesTo script came s p t step
@@ -169,9 +170,9 @@ module _ (script : Script) (came : Hands) (valid : IsScript script) (served : Is
             holds = record {
               replaying = subst (λ (l : History). Replaying script.shape work (slice_set s.threads p u) (made_by step s.words) l) same g.1;
               as_many = length-set s.threads p u ∙ h.as_many;
-              events_fit = subst (EventsFit (length script.shape.classes)) same (fits_on (length script.shape.classes) p u.event log (subst (EventFits (length script.shape.classes)) x.event serves_it.event) h.events_fit);
+              events_fit = subst (EventsFit script.shape) same (fits_on script.shape p u.event log (subst (EventFits script.shape) x.event serves_it.event) h.events_fit);
               no_other = subst (NoOtherThread script) same (within_on script p u.event log (let lt = slice_get_within s.threads p t there in let long = h.as_many in omega arith) h.no_other);
-              few = λ q. subst (λ (l : History). next_hand q l ≤ 100004) same (came_on p q u.event log 100004 (h.few q) (λ own. let f = few_hands in let e : next_hand q log ≡ next_hand p log = ap (λ (k : ℕ). next_hand k log) own in omega arith));
+              few = λ q. subst (λ (l : History). next_hand q l ≤ 100068) same (came_on p q u.event log 100068 (h.few q) (λ own. let f = few_hands in let e : next_hand q log ≡ next_hand p log = ap (λ (k : ℕ). next_hand k log) own in omega arith));
             };
           }
 
@@ -249,14 +250,18 @@ one_begun ts p t there awaits = record {
 
 -- ---- all stages
 
-pub reached_holds : (script : Script) (came : Hands) → IsScript script → IsServed script → (s : Stage) → Reached script s → Holds script came s
-reached_holds script came valid served _ new = holds_first script came valid served
-reached_holds script came valid served _ (begins {s = s} r none waits may) = holds_begun script came valid served s (reached_holds script came valid served s r) (begun_threads s.threads) (s.begun + 1) (all_begun s.threads)
-reached_holds script came valid served _ (makes {s = s} {p = p} {places = places} {t = t} step intent r next other m) =
-    (goes_to script came valid served (record s { places = places }) (holds_on_places script came valid served s (reached_holds script came valid served s r) places) p t step intent m.there m.stepper m.asked).holds
-reached_holds script came valid served _ (passes {s = s} {places = places} r next other there none busy) = holds_on_places script came valid served s (reached_holds script came valid served s r) places
-reached_holds script came valid served _ (by_number {s = s} {p = p} {t = t} step intent r next other first m) =
-    (goes_to script came valid served s (reached_holds script came valid served s r) p t step intent m.there m.stepper m.asked).holds
-reached_holds script came valid served _ (last {s = s} {t = t} r none ends there awaits may) =
-    holds_begun script came valid served s (reached_holds script came valid served s r) (slice_set s.threads 0 (turned t None)) s.begun (one_begun s.threads 0 t there awaits)
-reached_holds script came valid served _ (last_step {s = s} {t = t} step intent r m) = (goes_to script came valid served s (reached_holds script came valid served s r) 0 t step intent m.there m.stepper m.asked).holds
+pub reached_holds : (script : Script) (came : Hands) → IsScript script → IsServed script → (ending : ℕ) (s : Stage) → Reached script ending s → Holds script came s
+reached_holds script came valid served _ _ new = holds_first script came valid served
+reached_holds script came valid served _ _ (begins {s = s} r none waits may) = holds_begun script came valid served s (reached_holds script came valid served 0 s r) (begun_threads s.threads) (s.begun + 1) (all_begun s.threads)
+reached_holds script came valid served _ _ (makes {s = s} {p = p} {places = places} {t = t} step intent r next other m) =
+    (goes_to script came valid served (record s { places = places }) (holds_on_places script came valid served s (reached_holds script came valid served 0 s r) places) p t step intent m.there m.stepper m.asked).holds
+reached_holds script came valid served _ _ (passes {s = s} {places = places} r next other there none busy) = holds_on_places script came valid served s (reached_holds script came valid served 0 s r) places
+reached_holds script came valid served _ _ (goes_inside {s = s} r next other first there is) = reached_holds script came valid served 0 s r
+reached_holds script came valid served _ _ (ends_it {s = s} {p = p} {t = t} step intent r other m is) =
+    (goes_to script came valid served s (reached_holds script came valid served p s r) p t step intent m.there m.stepper m.asked).holds
+reached_holds script came valid served _ _ (goes_outside {s = s} {p = p} r other there is) = reached_holds script came valid served p s r
+reached_holds script came valid served _ _ (by_number {s = s} {p = p} {t = t} step intent r next other first alone m) =
+    (goes_to script came valid served s (reached_holds script came valid served 0 s r) p t step intent m.there m.stepper m.asked).holds
+reached_holds script came valid served _ _ (last {s = s} {t = t} r none ends there awaits may) =
+    holds_begun script came valid served s (reached_holds script came valid served 0 s r) (slice_set s.threads 0 (turned t None)) s.begun (one_begun s.threads 0 t there awaits)
+reached_holds script came valid served _ _ (last_step {s = s} {t = t} step intent r m) = (goes_to script came valid served s (reached_holds script came valid served 0 s r) 0 t step intent m.there m.stepper m.asked).holds

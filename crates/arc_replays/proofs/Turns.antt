@@ -18,7 +18,7 @@ use Rattle.arc_side.specs.Ups.{Rise, up_turned, up_answer}
 use Rattle.arc_side.specs.Downs.{Fall, down_turned, down_answer}
 use Rattle.arc_cells.specs.declared.cascade.CascadeNext.{CascadeNext}
 use Rattle.arc_cells.specs.declared.cascade.CascadeNext.TheVariants as says
-use Rattle.arc_cells.specs.Cascades.{CascadeState, cascade_turned, cascade_answer}
+use Rattle.arc_cells.specs.BareCascades.{CascadeState, cascade_turned, cascade_answer}
 use Rattle.arc_model.specs.declared.event.ObjectName.{ObjectName}
 use Rattle.arc_model.specs.declared.event.Act.TheVariants as acts
 use Rattle.arc_model.specs.declared.event.Got.TheVariants as gots
@@ -27,16 +27,32 @@ use Rattle.arc_model.specs.declared.shape.Kind.TheVariants.{Strong, Unowned, Wea
 use Rattle.arc_model.specs.declared.answer.Answer.TheVariants as answers
 use Rattle.arc_script.specs.declared.script.Op.{Op}
 use Rattle.arc_script.specs.declared.script.Op.TheVariants as op
+use Rattle.arc_script.specs.declared.script.OpCell.TheVariants as opcell
+use Rattle.arc_model.specs.declared.event.CellName.{CellName}
+use Rattle.arc_model.specs.declared.event.Origin.{Origin}
+use Rattle.arc_model.specs.declared.event.Origin.TheVariants as origins
+use Rattle.arc_cells.specs.declared.begin.BeginAnswer.{BeginAnswer}
+use Rattle.arc_cells.specs.declared.begin.BeginAnswer.TheVariants as begins
+use Rattle.arc_cells.specs.declared.swap.SwapAnswer.{SwapAnswer}
+use Rattle.arc_cells.specs.declared.swap.SwapAnswer.TheVariants as swaps
+use Rattle.arc_cells.specs.Begins.{Beginning, begin_turned, begin_answer}
+use Rattle.arc_cells.specs.Ends.{AccessEnd, end_turned, end_answer}
+use Rattle.arc_cells.specs.Swaps.{SwapAttempt, swap_turned, swap_answer}
+use Rattle.arc_ops.specs.declared.cell.Cell.{Cell}
+use Rattle.arc_ops.specs.declared.gain.Source.{Source}
+use Rattle.arc_ops.specs.Cells.{global_of, source_in, held_in, hand_in, swapped, open_begun, set_begun, clear_begun, next_global}
+use Rattle.arc_ops.specs.Gets.{opened_on, closed_on}
+use Rattle.arc_ops.specs.Sets.{set_on, cleared_on}
 use Rattle.arc_ops.specs.declared.stepper.Held.{Held}
 use Rattle.arc_ops.specs.declared.stepper.Doing.{Doing}
-use Rattle.arc_ops.specs.declared.stepper.Doing.TheVariants.{Ready, Making, Gaining, Naming, Dropping, Dying, Vacating, Ended}
+use Rattle.arc_ops.specs.declared.stepper.Doing.TheVariants.{Ready, Making, Gaining, Naming, Opening, Closing, Setting, Clearing, Dropping, Dying, Vacating, Ended}
 use Rattle.arc_ops.specs.declared.stepper.Move.{Move}
 use Rattle.arc_ops.specs.declared.stepper.Move.TheVariants as moves
 use Rattle.arc_ops.specs.declared.gain.Gain.{Gain}
 use Rattle.arc_ops.specs.declared.gain.Gain.TheVariants as gains
 use Rattle.arc_ops.specs.Thread.{Thread, value, set_var, put, asking, is_held}
-use Rattle.arc_ops.specs.Plans.{drop_begun, gain_begun, make_begun, make_begun_as}
-use Rattle.arc_ops.specs.Begins.{skipped, begun_nil, begun_gain, moved, begun_move, begun_drop, begun_op, scope_drop, scope_at, scope_begun, phase_end, phase_over, block_goes_on, at_place, begun_at, begun, next_op}
+use Rattle.arc_ops.specs.Plans.{hand_of, of_hand, drop_begun, gain_begun, make_begun, make_begun_as}
+use Rattle.arc_ops.specs.Begins.{skipped, begun_nil, begun_gain, moved, begun_move, begun_drop, begun_op, has_globals, scope_drop, scope_at, scope_begun, phase_end, phase_over, block_goes_on, at_place, begun_at, begun, next_op}
 use Rattle.arc_ops.specs.Drops.{replaced_old, replaced, dying_asks, last_gone, dropped_on, dying_on, vacated_on}
 use Rattle.arc_ops.specs.Gains.{gained, came_by, has_gained, gained_on, named_on}
 use Rattle.arc_ops.specs.Makes.{came_to, made_on, strong_to}
@@ -88,8 +104,17 @@ module _ (phases : List (List Op)) (n : ℕ) where
   make_as_after : (to : ℕ) (name : ObjectName) (t : Thread) → IsIdle phases n t → IsAfter phases n (make_begun_as to name t)
   make_as_after to name t i = (i.phases_are, i.phase_is)
 
-  gain_after : (gain : Gain) (to : ℕ) (from : Held) (t : Thread) → IsIdle phases n t → IsAfter phases n (gain_begun gain to from t)
+  gain_after : (gain : Gain) (to : ℕ) (from : Source) (t : Thread) → IsIdle phases n t → IsAfter phases n (gain_begun gain to from t)
   gain_after gain to from t i = (i.phases_are, i.phase_is)
+
+  open_after : (to : ℕ) (cell : Cell) (t : Thread) → IsIdle phases n t → IsAfter phases n (open_begun to cell t)
+  open_after to cell t i = (i.phases_are, i.phase_is)
+
+  set_after : (from : ℕ) (cell : Cell) (t : Thread) → IsIdle phases n t → IsAfter phases n (set_begun from cell t)
+  set_after from cell t i = (i.phases_are, i.phase_is)
+
+  clear_after : (t : Thread) → IsIdle phases n t → IsAfter phases n (clear_begun t)
+  clear_after t i = (i.phases_are, i.phase_is)
 
   -- ---- the next operation
 
@@ -100,8 +125,12 @@ module _ (phases : List (List Op)) (n : ℕ) where
       dropped v None = last_stays t i last
       dropped v (Some held) = drop_after held (set_var v None t) (record { phases_are = i.phases_are; phase_is = i.phase_is; idle = i.idle })
 
+      over : (b : Bool) → IsAfter phases n (cond b (clear_begun t) (record t { doing = Ended; asked = moves.Ended }))
+      over true = clear_after t i
+      over false = (i.phases_are, last)
+
       at : (m : Option ℕ) → IsAfter phases n (scope_at m t)
-      at None = (i.phases_are, last)
+      at None = over (has_globals t)
       at (Some v) = dropped v (value t.vars v)
 
   over_after : (t : Thread) → IsIdle phases n t → IsAfter phases n (phase_over t)
@@ -125,7 +154,7 @@ module _ (phases : List (List Op)) (n : ℕ) where
 
       gains_from : (gain : Gain) (to : ℕ) (from old : Option Held) → IsAfter phases n (begun_gain gain to from old t rest)
       gains_from gain to None old = nil to old
-      gains_from gain to (Some held) old = gain_after gain to held (record t { first = true }) firstly
+      gains_from gain to (Some held) old = gain_after gain to (of_hand held) (record t { first = true }) firstly
 
       moves_on : (to from : ℕ) (held old : Option Held) → IsAfter phases n (begun_move to from held old t rest)
       moves_on to from None old = nil to old
@@ -152,8 +181,10 @@ module _ (phases : List (List Op)) (n : ℕ) where
       by (op.Unown to of) = gains_from gains.Unown to (value t.vars of) (value t.vars to)
       by (op.Weak to of) = skips
       by (op.Load to of) = gains_from gains.Load to (value t.vars of) (value t.vars to)
-      by (op.Get to cell) = skips
-      by (op.Set cell from) = skips
+      by (op.Get to (opcell.Global g)) = open_after to (global_of t.shape g) (record t { first = true }) firstly
+      by (op.Get to (opcell.Field owner field)) = skips
+      by (op.Set (opcell.Global g) from) = set_after from (global_of t.shape g) (record t { first = true }) firstly
+      by (op.Set (opcell.Field owner field) from) = skips
       by (op.IfNil v to) = goes_by (block_goes_on t.vars t.index (op.IfNil v to))
       by (op.IfSome v to) = goes_by (block_goes_on t.vars t.index (op.IfSome v to))
 
@@ -197,18 +228,58 @@ module _ (phases : List (List Op)) (n : ℕ) where
   made_after to name plan (nexts.Done NoSlot) t i = next_after (put answers.Full (record t { event = Some acts.Full })) (record { phases_are = i.phases_are; phase_is = i.phase_is; idle = i.idle })
   made_after to name plan (nexts.Done (Again changed)) t i = make_as_after to name t i
 
-  gained_after : (gain : Gain) (to : ℕ) (held : Held) (t : Thread) → IsIdle phases n t → IsAfter phases n (has_gained gain to held t)
-  gained_after gains.Copy to held t i = replaced_after to (Some held) (put answers.Ok t) (record { phases_are = i.phases_are; phase_is = i.phase_is; idle = i.idle })
-  gained_after gains.Unown to held t i = replaced_after to (Some held) (put answers.Ok t) (record { phases_are = i.phases_are; phase_is = i.phase_is; idle = i.idle })
-  gained_after gains.Load to held t i = (i.phases_are, i.phase_is)
+  gained_after : (gain : Gain) (o : Origin) (to : ℕ) (held : Held) (t : Thread) → IsIdle phases n t → IsAfter phases n (has_gained gain o to held t)
+  gained_after gains.Copy (origins.Hand hand) to held t i = replaced_after to (Some held) (put answers.Ok t) (record { phases_are = i.phases_are; phase_is = i.phase_is; idle = i.idle })
+  gained_after gains.Copy (origins.Cell cell) to held t i = (i.phases_are, i.phase_is)
+  gained_after gains.Unown (origins.Hand hand) to held t i = replaced_after to (Some held) (put answers.Ok t) (record { phases_are = i.phases_are; phase_is = i.phase_is; idle = i.idle })
+  gained_after gains.Unown (origins.Cell cell) to held t i = (i.phases_are, i.phase_is)
+  gained_after gains.Load o to held t i = (i.phases_are, i.phase_is)
 
-  rise_after : (gain : Gain) (to : ℕ) (from : Held) (plan : Rise) (next : Next UpAnswer) (t : Thread) → IsIdle phases n t → HasAsked t → IsAfter phases n (gained_on gain to from plan next t)
+  rise_after : (gain : Gain) (to : ℕ) (from : Source) (plan : Rise) (next : Next UpAnswer) (t : Thread) → IsIdle phases n t → HasAsked t → IsAfter phases n (gained_on gain to from plan next t)
   rise_after gain to from plan (nexts.Step s) t i asked = (i.phases_are, i.phase_is)
-  rise_after gain to from plan (nexts.Done ups.Up) t i asked = gained_after gain to (gained gain from t) (came_by gain from t) (record { phases_are = i.phases_are; phase_is = i.phase_is; idle = i.idle })
-  rise_after gain to from plan (nexts.Done ups.Dead) t i asked = replaced_after to None (put answers.Dead (record t { event = Some (acts.Load from.hand gots.Dead) })) (record { phases_are = i.phases_are; phase_is = i.phase_is; idle = i.idle })
+  rise_after gain to from plan (nexts.Done ups.Up) t i asked = gained_after gain from.origin to (gained gain from t) (came_by gain from t) (record { phases_are = i.phases_are; phase_is = i.phase_is; idle = i.idle })
+  rise_after gain to from plan (nexts.Done ups.Dead) t i asked = replaced_after to None (put answers.Dead (record t { event = Some (acts.Load (hand_of from.origin) gots.Dead) })) (record { phases_are = i.phases_are; phase_is = i.phase_is; idle = i.idle })
   rise_after gain to from plan (nexts.Done (ups.Again changed)) t i asked = gain_after gain to from t i
   rise_after gain to from plan (nexts.Done ups.AtCap) t i asked = asked_stays t i asked
   rise_after gain to from plan (nexts.Done ups.CountFull) t i asked = asked_stays t i asked
+
+  -- ---- the steps on cells
+
+  old_after : (old : Option Held) (t : Thread) → IsIdle phases n t → IsAfter phases n (replaced_old old t)
+  old_after None t i = next_after t i
+  old_after (Some old) t i = drop_after old t i
+
+  opened_after : (to : ℕ) (cell : Cell) (plan : Beginning) (next : Next BeginAnswer) (t : Thread) → IsIdle phases n t → IsAfter phases n (opened_on to cell plan next t)
+  opened_after to cell plan (nexts.Step s) t i = (i.phases_are, i.phase_is)
+  opened_after to cell plan (nexts.Done (begins.Held w)) t i = gain_after gains.Copy to (source_in cell w) t i
+  opened_after to cell plan (nexts.Done begins.Nil) t i = replaced_after to None (put answers.Nil (record t { event = Some (acts.Look cell.name) })) (record { phases_are = i.phases_are; phase_is = i.phase_is; idle = i.idle })
+  opened_after to cell plan (nexts.Done begins.Busy) t i = open_after to cell t i
+  opened_after to cell plan (nexts.Done (begins.Again changed)) t i = open_after to cell t i
+
+  closed_after : (to : ℕ) (cell : CellName) (held : Held) (plan : AccessEnd) (next : Next (Unit {0})) (t : Thread) → IsIdle phases n t → IsAfter phases n (closed_on to cell held plan next t)
+  closed_after to cell held plan (nexts.Step s) t i = (i.phases_are, i.phase_is)
+  closed_after to cell held plan (nexts.Done a) t i = replaced_after to (Some held) (put answers.Ok t) (record { phases_are = i.phases_are; phase_is = i.phase_is; idle = i.idle })
+
+  -- what was in the cell is dropped
+  there_after : (from : ℕ) (cell : CellName) (out : Option ℕ) (there : Option Held) (t : Thread) → IsIdle phases n t → IsAfter phases n (replaced_old there (put answers.Ok (set_var from None (swapped cell out there t))))
+  there_after from cell out None t i = old_after None (put answers.Ok (set_var from None (swapped cell out None t))) (record { phases_are = i.phases_are; phase_is = i.phase_is; idle = i.idle })
+  there_after from cell out (Some old) t i = drop_after old (put answers.Ok (set_var from None (swapped cell out (Some old) t))) (record { phases_are = i.phases_are; phase_is = i.phase_is; idle = i.idle })
+
+  set_on_after : (from : ℕ) (cell : Cell) (plan : SwapAttempt) (next : Next SwapAnswer) (t : Thread) → IsIdle phases n t → IsAfter phases n (set_on from cell plan next t)
+  set_on_after from cell plan (nexts.Step s) t i = (i.phases_are, i.phase_is)
+  set_on_after from cell plan (nexts.Done (swaps.Took w)) t i = there_after from cell.name (hand_in (value t.vars from)) (held_in cell.kind (t.hands + 1) w) t i
+  set_on_after from cell plan (nexts.Done swaps.Busy) t i = set_after from cell t i
+  set_on_after from cell plan (nexts.Done (swaps.Again changed)) t i = set_after from cell t i
+
+  cleared_there : (cell : CellName) (there : Option Held) (t : Thread) → IsIdle phases n t → IsAfter phases n (replaced_old there (swapped cell None there (record t { cleared = t.cleared + 1 })))
+  cleared_there cell None t i = old_after None (swapped cell None None (record t { cleared = t.cleared + 1 })) (record { phases_are = i.phases_are; phase_is = i.phase_is; idle = i.idle })
+  cleared_there cell (Some old) t i = drop_after old (swapped cell None (Some old) (record t { cleared = t.cleared + 1 })) (record { phases_are = i.phases_are; phase_is = i.phase_is; idle = i.idle })
+
+  cleared_after : (plan : SwapAttempt) (next : Next SwapAnswer) (t : Thread) → IsIdle phases n t → IsAfter phases n (cleared_on plan next t)
+  cleared_after plan (nexts.Step s) t i = (i.phases_are, i.phase_is)
+  cleared_after plan (nexts.Done (swaps.Took w)) t i = cleared_there (next_global t).name (held_in (next_global t).kind (t.hands + 1) w) t i
+  cleared_after plan (nexts.Done swaps.Busy) t i = clear_after t i
+  cleared_after plan (nexts.Done (swaps.Again changed)) t i = clear_after t i
 
   named_after : (to : ℕ) (held : Held) (plan : OneStep) (next : Next ObjectName) (t : Thread) → IsIdle phases n t → IsAfter phases n (named_on to held plan next t)
   named_after to held plan (nexts.Step s) t i = (i.phases_are, i.phase_is)
@@ -259,6 +330,10 @@ turned_after t last may = at t.doing refl may
     at (Making to name plan) is m = made_after t.phases t.phase to name (creation_turned plan last) (creation_answer plan last) (quiet t) idle
     at (Gaining gain to from plan) is m = rise_after t.phases t.phase gain to from (up_turned plan last) (up_answer plan last) (quiet t) idle (no is (λ e. cc) m)
     at (Naming to held plan) is m = named_after t.phases t.phase to held (one_turned plan last) (name_of_answer plan last) (quiet t) idle
+    at (Opening to cell plan) is m = opened_after t.phases t.phase to cell (begin_turned plan last) (begin_answer plan last) (quiet t) idle
+    at (Closing to cell held plan) is m = closed_after t.phases t.phase to cell held (end_turned plan last) (end_answer plan last) (quiet t) idle
+    at (Setting from cell plan) is m = set_on_after t.phases t.phase from cell (swap_turned plan last) (swap_answer plan last) (quiet t) idle
+    at (Clearing plan) is m = cleared_after t.phases t.phase (swap_turned plan last) (swap_answer plan last) (quiet t) idle
     at (Dropping held plan) is m = dropped_after t.phases t.phase held (down_turned plan last) (down_answer plan last) (quiet t) idle (no is (λ e. cc) m)
     at (Dying c) is m = dying_after t.phases t.phase (cascade_turned c last) (cascade_answer c last) (record (quiet t) { event = (cascade_turned c last).event }) (record { phases_are = refl; phase_is = refl; idle = refl }) (no is (λ e. cc) m)
     at (Vacating slot plan) is m = vacated_after t.phases t.phase slot (one_turned plan last) (vacate_answer plan last) (quiet t) idle

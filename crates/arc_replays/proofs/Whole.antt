@@ -1,23 +1,20 @@
 -- A replay that has come to its end is one legal history, and leaves no object but immortal ones.
-use Rattle.std.proofs.Common.{◌≡◌, ◌⊎◌, inl, inr, ℕ, zero, suc, ◌+◌, ◌/◌, ◌≤◌, ◌<◌, Bool, true, false, not, cond, List, [], ◌∷◌, ◌++◌, length, map, drop, Option, Some, None, refl, sym, ap, ◌∙◌, subst, arith}
-use Rattle.std.specs.Prelude.{All, find, filter, slice_get, slice_index, sum_by, is_some, ◌||◌}
+use Rattle.std.proofs.Common.{◌≡◌, ◌⊎◌, inl, inr, ℕ, zero, suc, ◌+◌, ◌/◌, ◌≤◌, ◌<◌, true, false, cond, List, [], ◌∷◌, length, map, drop, Option, Some, None, refl, sym, ap, ◌∙◌, subst, arith}
+use Rattle.std.specs.Prelude.{All, find, slice_get, slice_index, sum_by, is_some, ◌||◌}
 use Rattle.std.specs.List.{AllByRecursion, list_any}
-use Rattle.std.proofs.lemmas.Bool.{cases_lt, eqb-true}
+use Rattle.std.proofs.lemmas.Bool.{cases_lt}
 use Rattle.std.proofs.lemmas.List.{length-map}
 use Rattle.std.proofs.lemmas.List.Elements.{All-from_recursion, recursion_from_All}
 use Rattle.std.proofs.lemmas.List.Sums.{sum_by-cons}
 use Rattle.std.proofs.lemmas.Option.{slice_get_within}
-use Rattle.arc_model.specs.declared.event.Event.{Event}
 use Rattle.arc_model.specs.declared.event.ObjectName.{ObjectName}
-use Rattle.arc_model.specs.Shapes.{ObjectClass, class_at}
+use Rattle.arc_model.specs.Shapes.{HeapShape, ObjectClass, class_at}
 use Rattle.arc_model.specs.SpellingTies.{name_of}
 use Rattle.arc_model.specs.Heaps.{Object}
 use Rattle.arc_model.specs.Holders.{is_number, has_entry, at_slot, claims_it, is_slot_taken, is_entry_taken}
-use Rattle.arc_model.specs.History.{History, heap_after, is_of, share}
-use Rattle.arc_model.specs.Spelling.{Note, acts_of}
+use Rattle.arc_model.specs.History.{History, heap_after}
 use Rattle.arc_model.specs.SpellingTies.Causes.{Judged}
 use Rattle.arc_model.proofs.Basics.{None≢Some, Some-inj}
-use Rattle.arc_model.proofs.Others.{not-among}
 use Rattle.arc_rule.specs.Places.{extent_of, number}
 use Rattle.arc_rule.specs.Bits.{words_of}
 use Rattle.arc_rule.proofs.Bits.{bit_shown}
@@ -25,15 +22,12 @@ use Rattle.arc_rule.specs.Isa.{IsIsaWord, isa_word_of, isa_name_of}
 use Rattle.arc_rule.specs.Shown.{Shows, ShowsCounts, ShowsName, IsInline}
 use Rattle.arc_rule.specs.declared.layout.Place.TheVariants.{Count, Isa, SlotBits, EntryBits}
 use Rattle.arc_script.specs.declared.answer.Line.{Line}
-use Rattle.arc_script.specs.declared.script.VarDecl.{VarDecl}
 use Rattle.arc_script.specs.declared.script.Script.{Script}
 use Rattle.arc_script.specs.Valid.{IsScript}
 use Rattle.arc_script.proofs.OneList.{length_in_one}
-use Rattle.arc_programs.specs.Programs.{Hands, GlobalsCleared}
-use Rattle.arc_programs.specs.Programs.GlobalsCleared.{begins as cleared_none, nil as cleared_nil, cleared as cleared_one}
+use Rattle.arc_programs.specs.Programs.{Hands}
 use Rattle.arc_programs.specs.ProgramsLines.{told}
-use Rattle.arc_programs.specs.ProgramsTied.{hands_in, HasProgram, Spells}
-use Rattle.arc_programs.specs.ProgramsTied.Spells.{thread as spells_thread, end as spells_end}
+use Rattle.arc_programs.specs.ProgramsTied.{HasProgram}
 use Rattle.arc_quiet.specs.OneWay.{NoClassIsImmortal, StrongFieldsLeadOneWay, AllDead}
 use Rattle.arc_quiet.specs.Quiet.{IsQuietHeap}
 use Rattle.arc_quiet.specs.Whole.{AllFinish, StandsLast}
@@ -57,38 +51,13 @@ use Rattle.arc_replays.specs.Laws.{ReplaysAreHistories, IsWholeReplay}
 use Rattle.arc_replays.specs.Left.{isa_of, IsImmortalSlot, OnlyImmortals}
 use Rattle.arc_replays.specs.Named.{LineFits, ActFits, EventsFit}
 use Rattle.arc_replays.specs.Replaying.{IsSpelledInLog, IsOneHistory}
-use Rattle.arc_replays.specs.Stages.{Stage, IsRun}
+use Rattle.arc_replays.specs.Stages.{Stage, IsRun, is_phase_end}
 use Rattle.arc_replays.proofs.Bare.{came_in, IsBareHeap, AreBare, bare_after}
 use Rattle.arc_replays.proofs.GoesOn.{replays_are_one_history, ended_threads_spell}
 use Rattle.arc_replays.proofs.Holds.{Holds, is_sized, reached_holds}
 use Rattle.arc_replays.proofs.Left.{slotted_immortal, found_there}
-use Rattle.arc_replays.proofs.Phases.{IsPoint, IsPhased, reached_phased, point_of_all, there_is}
+use Rattle.arc_replays.proofs.Phases.{IsPoint, IsPhased, reached_phased, there_is}
 use Rattle.arc_replays.proofs.Promises.{deinits_once, loads_come_before, slots_are_vacated, entries_are_given_back}
-
--- ---- thread 0 does nothing
-
--- where no global is cleared there is no event
-nothing_cleared : (script : Script) (came : Hands) (n : ℕ) (notes : List Note) → GlobalsCleared script.shape came n notes → n ≡ 0 → acts_of notes ≡ []
-nothing_cleared script came n notes cleared_none z = refl
-nothing_cleared script came n notes (cleared_nil c lt next) z = absurd (omega arith)
-nothing_cleared script came n notes (cleared_one c lt next k there d) z = absurd (omega arith)
-
-main_acts : (script : Script) (came : Hands) (notes : List Note) → length script.shape.globals ≡ 0 → Spells script came 0 notes → acts_of notes ≡ []
-main_acts script came notes none (spells_thread positive there program) = absurd (omega arith)
-main_acts script came notes none (spells_end {n = n} c all) = nothing_cleared script came n notes c (all ∙ none)
-
--- so the others' events are the whole history
-alone_last : (h : History) → share h 0 ≡ [] → filter (λ (e : Event). not (is_of 0 e)) h ≡ h
-alone_last [] none = refl
-alone_last (e ∷ h) none = let apart = not-among 0 e h none in go (is_of 0 e) refl (alone_last h apart.1) apart.0
-  where
-    go : (b : Bool) → is_of 0 e ≡ b → filter (λ (x : Event). not (is_of 0 x)) h ≡ h → (e.thread ≡ 0 → ⊥) → cond (not b) (e ∷ filter (λ (x : Event). not (is_of 0 x)) h) (filter (λ (x : Event). not (is_of 0 x)) h) ≡ e ∷ h
-    go false is rest ne = ap (λ (g : History). e ∷ g) rest
-    go true is rest ne = absurd (ne (eqb-true e.thread 0 is))
-
-none_earlier : (later earlier : History) → share (later ++ earlier) 0 ≡ [] → share earlier 0 ≡ []
-none_earlier [] earlier none = none
-none_earlier (e ∷ later) earlier none = none_earlier later earlier (not-among 0 e (later ++ earlier) none).1
 
 -- ---- lines
 
@@ -134,9 +103,9 @@ no_entry n e (o ∷ os) b = ap (λ (m : Option ℕ). cond (is_number m e) (Some 
 
 -- ---- events
 
-stamped_fit : (n : ℕ) (events : List Stamped) → EventsFit n (history_of events) → AllByRecursion (λ (x : Stamped). ActFits n x.event.act) events
-stamped_fit n [] fits = tt
-stamped_fit n (e ∷ events) fits = (fits.0, stamped_fit n events fits.1)
+stamped_fit : (shape : HeapShape) (events : List Stamped) → EventsFit shape (history_of events) → AllByRecursion (λ (x : Stamped). ActFits shape x.event.act) events
+stamped_fit shape [] fits = tt
+stamped_fit shape (e ∷ events) fits = (fits.0, stamped_fit shape events fits.1)
 
 -- ---- the whole
 
@@ -148,14 +117,14 @@ module _ (script : Script) (s : Stage) (valid : IsScript script) (served : IsSer
   log = history_of s.events
 
   holds : Holds script nothing s
-  holds = reached_holds script nothing valid served s run.reached
+  holds = reached_holds script nothing valid served 0 s run.reached
 
   one : IsOneHistory script.shape (λ p. work_of script p nothing) s.threads s.words log
   one = replays_are_one_history script.shape (λ p. work_of script p nothing) s.threads s.words log holds.replaying
 
-  spelled : (p : ℕ) (t : Thread) → slice_get s.threads p ≡ Some t → IsSpelledInLog script nothing (hands_in p log) p t log
+  spelled : (p : ℕ) (t : Thread) → slice_get s.threads p ≡ Some t → IsSpelledInLog script p t log
   spelled p t at =
-      ended_threads_spell script nothing (hands_in p log) s.threads s.words log p t valid served (let lt = slice_get_within s.threads p t at in let long = holds.as_many in omega arith) holds.replaying at (run.ended p t at)
+      ended_threads_spell script nothing s.threads s.words log p t valid served (let lt = slice_get_within s.threads p t at in let long = holds.as_many in omega arith) holds.replaying at (run.ended p t at)
 
   -- ---- each thread's program
 
@@ -203,27 +172,21 @@ module _ (script : Script) (s : Stage) (valid : IsScript script) (served : IsSer
 
   -- ---- thread 0, and phases
 
-  no_globals : length script.shape.globals ≡ 0
-  no_globals = ap length valid.heading.of_globals ∙ (length-map script.globals (λ (v : VarDecl). record { kind = v.kind; class = v.class }) ∙ ap length served.no_globals)
-
-  none_of_main : share log 0 ≡ []
-  none_of_main = let x = spelled 0 main.0 main.1 in sym x.share_is ∙ ap (map (λ a. record { thread = 0; act = a })) (main_acts script (hands_in 0 log) x.notes no_globals x.spelled.spelled)
+  phased : IsPhased script s
+  phased = reached_phased script nothing valid served 0 s run.reached
 
   stands_last : StandsLast 0 log
-  stands_last = sym (ap (λ (g : History). g ++ filter (λ (e : Event). not (is_of 0 e)) log) none_of_main ∙ alone_last log none_of_main)
-
-  phased : IsPhased script s
-  phased = reached_phased script nothing valid served s run.reached
+  stands_last = phased.last
 
   phases : PhasesFollow script log
   phases k = of_point (at (cases_lt k s.begun))
     where
       at : (k < s.begun) ⊎ (s.begun ≤ k) → IsPoint script k log
       at (inl lt) = phased.points k lt
-      at (inr ge) = point_of_all script nothing valid served s holds phased k ge run.ended
+      at (inr ge) = (phased.begun_last main.0 main.1 (ap is_phase_end (run.ended 0 main.0 main.1))).points k ge
 
       of_point : IsPoint script k log → PhaseEnds script k log
-      of_point x = record { later = x.later; earlier = x.earlier; split = x.split; done = x.done; none_of_main = none_earlier x.later x.earlier (ap (λ (h : History). share h 0) (sym x.split) ∙ none_of_main) }
+      of_point x = record { later = x.later; earlier = x.earlier; split = x.split; done = x.done; none_of_main = x.none_of_main }
 
   -- ---- what is left
 
@@ -234,7 +197,7 @@ module _ (script : Script) (s : Stage) (valid : IsScript script) (served : IsSer
   all_dead mortal ways = leaves_nothing Judged script log valid mortal ways one.legal finish stands_last holds.no_other
 
   bare : IsBareHeap (came_in log) (heap_after log)
-  bare = bare_after (length script.shape.classes) log holds.events_fit
+  bare = bare_after script.shape log holds.events_fit
 
   quiet : IsQuietHeap (heap_after log)
   quiet = whole_is_quiet Judged script log valid one.legal finish stands_last holds.no_other
@@ -308,7 +271,7 @@ module _ (script : Script) (s : Stage) (valid : IsScript script) (served : IsSer
     left = left;
     lines_fit = All-from_recursion (λ (x : ThreadLines). All (LineFits (length script.shape.classes)) x.lines) threads (all_at (λ (x : ThreadLines). All (LineFits (length script.shape.classes)) x.lines) threads (λ i x at. fit (i + 1) x.lines (each_spelled i x at).1));
     end_fits = fit 0 (first_lines s.threads) end_spelled;
-    events_fit = All-from_recursion (λ (x : Stamped). ActFits (length script.shape.classes) x.event.act) s.events (stamped_fit (length script.shape.classes) s.events holds.events_fit);
+    events_fit = All-from_recursion (λ (x : Stamped). ActFits script.shape x.event.act) s.events (stamped_fit script.shape s.events holds.events_fit);
   }
 
 pub replays_are_histories : ReplaysAreHistories

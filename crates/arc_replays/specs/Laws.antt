@@ -26,7 +26,7 @@ pub record IsWhole (script : Script) (s : Stage) : Type 0 where
   pub words : length s.words ≡ word_count (extent_of script.shape)
 
 abbrev pub StagesAreWhole : Type 0
-StagesAreWhole = (script : Script) (s : Stage) → IsScript script → IsServed script → Reached script s → IsWhole script s
+StagesAreWhole = (script : Script) (ending : ℕ) (s : Stage) → IsScript script → IsServed script → Reached script ending s → IsWhole script s
 
 -- A thread is at work on its program in the script's heap, and its plan waits for the word of the step that it asks for.
 pub record IsAtWork (script : Script) (p : ℕ) (t : Thread) : Type 0 where
@@ -37,7 +37,7 @@ pub record IsAtWork (script : Script) (p : ℕ) (t : Thread) : Type 0 where
   pub asks : Asks script.shape t t.doing
 
 abbrev pub ThreadsAreAtWork : Type 0
-ThreadsAreAtWork = (script : Script) (s : Stage) (p : ℕ) (t : Thread) → IsScript script → IsServed script → Reached script s → slice_get s.threads p ≡ Some t → IsAtWork script p t
+ThreadsAreAtWork = (script : Script) (ending : ℕ) (s : Stage) (p : ℕ) (t : Thread) → IsScript script → IsServed script → Reached script ending s → slice_get s.threads p ≡ Some t → IsAtWork script p t
 
 -- A step that a thread asks for has its place among the words, and the stepper may be given what it finds there.
 pub record MayBeMade (s : Stage) (t : Thread) (step : Step) : Type 0 where
@@ -45,11 +45,11 @@ pub record MayBeMade (s : Stage) (t : Thread) (step : Step) : Type 0 where
   pub takes_it : takes t (Some (found_by step s.words))
 
 abbrev pub StepsMayBeMade : Type 0
-StepsMayBeMade = (script : Script) (s : Stage) (p : ℕ) (t : Thread) (step : Step) (intent : Intent) → IsScript script → IsServed script → Reached script s → slice_get s.threads p ≡ Some t → IsStepper t → t.asked ≡ moves.Step step intent → MayBeMade s t step
+StepsMayBeMade = (script : Script) (ending : ℕ) (s : Stage) (p : ℕ) (t : Thread) (step : Step) (intent : Intent) → IsScript script → IsServed script → Reached script ending s → slice_get s.threads p ≡ Some t → IsStepper t → t.asked ≡ moves.Step step intent → MayBeMade s t step
 
 -- A thread that waits for its next phase may begin it.
 abbrev pub PhasesMayBegin : Type 0
-PhasesMayBegin = (script : Script) (s : Stage) (p : ℕ) (t : Thread) → IsScript script → IsServed script → Reached script s → slice_get s.threads p ≡ Some t → t.asked ≡ moves.PhaseEnd → takes t None
+PhasesMayBegin = (script : Script) (ending : ℕ) (s : Stage) (p : ℕ) (t : Thread) → IsScript script → IsServed script → Reached script ending s → slice_get s.threads p ≡ Some t → t.asked ≡ moves.PhaseEnd → takes t None
 
 -- What a replay is that has come to its end: one legal history with the lines of its threads, and no object is left but immortal ones. Lines and events name classes of
 -- the script.
@@ -58,7 +58,7 @@ pub record IsWholeReplay (script : Script) (s : Stage) : Type 0 where
   pub left : OnlyImmortals script.shape s.words
   pub lines_fit : All (λ (x : ThreadLines). All (LineFits (length script.shape.classes)) x.lines) (lines_from 1 (drop 1 s.threads))
   pub end_fits : All (LineFits (length script.shape.classes)) (first_lines s.threads)
-  pub events_fit : All (λ (x : Stamped). ActFits (length script.shape.classes) x.event.act) s.events
+  pub events_fit : All (λ (x : Stamped). ActFits script.shape x.event.act) s.events
 
 abbrev pub ReplaysAreHistories : Type 0
 ReplaysAreHistories = (script : Script) (s : Stage) → IsScript script → IsServed script → IsRun script s → IsWholeReplay script s

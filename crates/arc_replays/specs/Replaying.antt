@@ -19,10 +19,12 @@ use Rattle.arc_ops.specs.Turns.{turned}
 use Rattle.arc_ops.specs.Takes.{takes}
 use Rattle.arc_ops.specs.Steppers.{IsStepper}
 use Rattle.arc_spelled.specs.StepperStands.{Work, IsServedWork, StandsFor}
+use Rattle.arc_spelled.specs.Came.{knowing}
 use Rattle.arc_spelled.specs.Spelled.{work_of, with_event_of, IsSpelled}
 use Rattle.arc_ops.specs.Served.{IsServed}
 use Rattle.arc_script.specs.Valid.{IsScript}
 use Rattle.arc_programs.specs.Programs.{Hands}
+use Rattle.arc_programs.specs.ProgramsTied.{hands_in}
 use Rattle.arc_script.specs.declared.script.Script.{Script}
 use Rattle.arc_view.specs.declared.view.Role.TheVariants.{Pass}
 use Rattle.arc_view.specs.declared.view.View.{View}
@@ -86,10 +88,11 @@ abbrev pub ReplaysBeginPhases : Type 0
 ReplaysBeginPhases = (shape : HeapShape) (work : ℕ → Work) (threads after : List Thread) (words : List ℕ) (log : History) → Replaying shape work threads words log → ((i : ℕ) (t : Thread) → slice_get threads i ≡ Some t → IsServedWork (work i) × NamesVariables (work i)) → AreBegun threads after →
     Replaying shape work after words log
 
--- One legal history, in which each thread's notes are its own. Where all have ended the words show the heap after it.
+-- One legal history, in which each thread's notes are its own; it tells what the thread's hands referred to when they came. Where all have ended the words show
+-- the heap after it.
 pub record IsOneHistory (shape : HeapShape) (work : ℕ → Work) (threads : List Thread) (words : List ℕ) (log : History) : Type 0 where
   pub legal : IsLegal shape log
-  pub notes : (i : ℕ) (t : Thread) → slice_get threads i ≡ Some t → (ns : List Note) × StandsFor (work i) t ns × Ties Judged (work i).shape (work i).thread ns log
+  pub notes : (i : ℕ) (t : Thread) → slice_get threads i ≡ Some t → (ns : List Note) × StandsFor (knowing (hands_in (work i).thread log) (work i)) t ns × Ties Judged (work i).shape (work i).thread ns log
   pub shows : ((i : ℕ) (t : Thread) → slice_get threads i ≡ Some t → t.asked ≡ moves.Ended) → Shows shape (heap_after log) words
 
 abbrev pub ReplaysAreOneHistory : Type 0
@@ -97,15 +100,15 @@ ReplaysAreOneHistory = (shape : HeapShape) (work : ℕ → Work) (threads : List
 
 -- Where a thread of a replay of the script has ended, notes that are its own in the history spell its program, and of their lines its stepper
 -- keeps the first ones. Its share of the history is their events.
-pub record IsSpelledInLog (script : Script) (came any : Hands) (i : ℕ) (t : Thread) (log : History) : Type 0 where
+pub record IsSpelledInLog (script : Script) (i : ℕ) (t : Thread) (log : History) : Type 0 where
   pub notes : List Note
   pub tied : Ties Judged script.shape i notes log
-  pub spelled : IsSpelled script any i t notes
+  pub spelled : IsSpelled script (hands_in i log) i t notes
   pub share_is : map (λ a. record { thread = i; act = a }) (acts_of notes) ≡ share log i
 
 abbrev pub EndedThreadsSpell : Type 0
-EndedThreadsSpell = (script : Script) (came any : Hands) (threads : List Thread) (words : List ℕ) (log : History) (i : ℕ) (t : Thread) → IsScript script → IsServed script → i ≤ length script.threads →
-    Replaying script.shape (λ p. work_of script p came) threads words log → slice_get threads i ≡ Some t → t.asked ≡ moves.Ended → IsSpelledInLog script came any i t log
+EndedThreadsSpell = (script : Script) (came : Hands) (threads : List Thread) (words : List ℕ) (log : History) (i : ℕ) (t : Thread) → IsScript script → IsServed script → i ≤ length script.threads →
+    Replaying script.shape (λ p. work_of script p came) threads words log → slice_get threads i ≡ Some t → t.asked ≡ moves.Ended → IsSpelledInLog script i t log
 
 -- the steppers of the script's threads, from thread 0 on, before any has begun
 pub record AreNew (script : Script) (threads : List Thread) : Type 0 where

@@ -1,5 +1,5 @@
 -- A replay: which steps are made, in which order, and what comes of them.
-use Rattle.std.specs.Prelude.{ℕ, zero, suc, Bool, true, false, ◌≡◌, ◌≤◌, ◌<◌, ◌+◌, if◌then◌else◌, List, [], ◌∷◌, length, map, replicate, slice_get, slice_set, Option, Some, None}
+use Rattle.std.specs.Prelude.{ℕ, zero, suc, Bool, true, false, ◌≡◌, ◌≢◌, ◌≤◌, ◌<◌, ◌+◌, if◌then◌else◌, List, [], ◌∷◌, length, map, replicate, slice_get, slice_set, Option, Some, None}
 use Rattle.arc_model.specs.declared.event.Act.{Act}
 use Rattle.arc_rule.specs.Places.{extent_of, word_count}
 use Rattle.arc_rule.specs.Steps.{found_by, made_by}
@@ -9,7 +9,7 @@ use Rattle.arc_script.specs.declared.script.Script.{Script}
 use Rattle.arc_ops.specs.declared.told.Stamped.{Stamped}
 use Rattle.arc_ops.specs.declared.stepper.Move.{Move}
 use Rattle.arc_ops.specs.declared.stepper.Move.TheVariants as moves
-use Rattle.arc_ops.specs.Thread.{Thread, stepper_of}
+use Rattle.arc_ops.specs.Thread.{Thread, stepper_of, in_access, in_operation}
 use Rattle.arc_ops.specs.Turns.{turned}
 use Rattle.arc_ops.specs.Takes.{takes}
 use Rattle.arc_ops.specs.Steppers.{IsStepper}
@@ -103,30 +103,43 @@ pub record MayStep (s : Stage) (p : ℕ) (t : Thread) (step : Step) (intent : In
 
 -- ---- the order of the steps
 
--- The stages that a replay of the script comes to.
-pub data Reached (script : Script) : Stage → Type 0 where
-  new : Reached script (first_stage script)
+-- no thread from 1 on but this one
+abbrev pub IsNoneBut : ℕ → (Thread → Bool) → List Thread → Type 0
+IsNoneBut n test threads = (p : ℕ) (t : Thread) → 1 ≤ p → p ≢ n → slice_get threads p ≡ Some t → test t ≡ false
+
+-- The stages that a replay of the script comes to. Where no place of the schedule is left, the threads inside an access end their operations first: `ending` is
+-- the one that is to do so now, 0 where none is.
+pub data Reached (script : Script) : (ending : ℕ) → Stage → Type 0 where
+  new : Reached script 0 (first_stage script)
   -- no thread has a step, and some thread waits for its next phase: all that wait begin it
-  begins : {s : Stage} → Reached script s → IsNone has_step s.threads → IsSome awaits_phase s.threads →
+  begins : {s : Stage} → Reached script 0 s → IsNone has_step s.threads → IsSome awaits_phase s.threads →
       ((p : ℕ) (t : Thread) → 1 ≤ p → slice_get s.threads p ≡ Some t → awaits_phase t ≡ true → takes t None) →
-      Reached script (record s { begun = s.begun + 1; threads = begun_threads s.threads })
+      Reached script 0 (record s { begun = s.begun + 1; threads = begun_threads s.threads })
   -- the next place of the schedule is that of a thread that has a step, which it makes
   makes : {s : Stage} {p : ℕ} {places : List ℕ} {t : Thread} (step : Step) (intent : Intent) →
-      Reached script s → s.places ≡ p ∷ places → 1 ≤ p → MayStep s p t step intent → Reached script (stepped p t step (record s { places = places }))
+      Reached script 0 s → s.places ≡ p ∷ places → 1 ≤ p → MayStep s p t step intent → Reached script 0 (stepped p t step (record s { places = places }))
   -- it is that of a thread without one, while another thread has one: the place is used up
   passes : {s : Stage} {p : ℕ} {places : List ℕ} {t : Thread} →
-      Reached script s → s.places ≡ p ∷ places → 1 ≤ p → slice_get s.threads p ≡ Some t → has_step t ≡ false → IsSome has_step s.threads → Reached script (record s { places = places })
-  -- no place is left: the first thread that has a step makes it
+      Reached script 0 s → s.places ≡ p ∷ places → 1 ≤ p → slice_get s.threads p ≡ Some t → has_step t ≡ false → IsSome has_step s.threads → Reached script 0 (record s { places = places })
+  -- no place is left: the first thread inside an access is to end its operation
+  inside : {s : Stage} {p : ℕ} {t : Thread} →
+      Reached script 0 s → s.places ≡ [] → 1 ≤ p → IsNoneBelow p in_access s.threads → slice_get s.threads p ≡ Some t → in_access t ≡ true → Reached script p s
+  -- it makes a step of the operation
+  ends_it : {s : Stage} {p : ℕ} {t : Thread} (step : Step) (intent : Intent) →
+      Reached script p s → 1 ≤ p → MayStep s p t step intent → in_operation t ≡ true → Reached script p (stepped p t step s)
+  -- the operation is over
+  outside : {s : Stage} {p : ℕ} {t : Thread} → Reached script p s → 1 ≤ p → slice_get s.threads p ≡ Some t → in_operation t ≡ false → Reached script 0 s
+  -- no place is left, and no other thread is inside an access: the first thread that has a step makes it
   by_number : {s : Stage} {p : ℕ} {t : Thread} (step : Step) (intent : Intent) →
-      Reached script s → s.places ≡ [] → 1 ≤ p → IsNoneBelow p has_step s.threads → MayStep s p t step intent → Reached script (stepped p t step s)
+      Reached script 0 s → s.places ≡ [] → 1 ≤ p → IsNoneBelow p has_step s.threads → IsNoneBut p in_access s.threads → MayStep s p t step intent → Reached script 0 (stepped p t step s)
   -- all other threads have ended: thread 0 begins
   last : {s : Stage} {t : Thread} →
-      Reached script s → IsNone has_step s.threads → IsNone awaits_phase s.threads → slice_get s.threads 0 ≡ Some t → awaits_phase t ≡ true → takes t None →
-      Reached script (record s { threads = slice_set s.threads 0 (turned t None) })
+      Reached script 0 s → IsNone has_step s.threads → IsNone awaits_phase s.threads → slice_get s.threads 0 ≡ Some t → awaits_phase t ≡ true → takes t None →
+      Reached script 0 (record s { threads = slice_set s.threads 0 (turned t None) })
   -- and makes its steps
-  last_step : {s : Stage} {t : Thread} (step : Step) (intent : Intent) → Reached script s → MayStep s 0 t step intent → Reached script (stepped 0 t step s)
+  last_step : {s : Stage} {t : Thread} (step : Step) (intent : Intent) → Reached script 0 s → MayStep s 0 t step intent → Reached script 0 (stepped 0 t step s)
 
 -- a replay that has come to its end
 pub record IsRun (script : Script) (s : Stage) : Type 0 where
-  pub reached : Reached script s
+  pub reached : Reached script 0 s
   pub ended : (p : ℕ) (t : Thread) → slice_get s.threads p ≡ Some t → t.asked ≡ moves.Ended

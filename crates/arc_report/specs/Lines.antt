@@ -19,19 +19,23 @@ answer_text classes answer.NoEntry = codes "noentry"
 answer_text classes answer.CountFull = codes "countfull"
 answer_text classes (answer.Deinit name) = codes "deinit " ++ object_text classes name
 
+-- the answer, at the end of its line
+abbrev pub answer_line : List (List ℕ) → Answer → List ℕ
+answer_line classes a = answer_text classes a ++ codes "\n"
+
 -- the number of an operation, or the end of the thread's scope
 abbrev pub operation_text : ℕ → List ℕ
 operation_text n = if n == 0 then codes "end" else decimal n
 
 abbrev pub line_text : List (List ℕ) → Line → List ℕ
-line_text classes line = operation_text line.operation ++ (codes " " ++ (answer_text classes line.answer ++ codes "\n"))
+line_text classes line = operation_text line.operation ++ (codes " " ++ answer_line classes line.answer)
 
 abbrev pub thread_text : List (List ℕ) → ThreadLines → List ℕ
 thread_text classes t = codes "thread " ++ (decimal t.thread ++ (codes "\n" ++ flat_map (line_text classes) t.lines))
 
 -- a line of the end section has no number
 abbrev pub end_line_text : List (List ℕ) → Line → List ℕ
-end_line_text classes line = answer_text classes line.answer ++ codes "\n"
+end_line_text classes line = answer_line classes line.answer
 
 abbrev pub end_text : List (List ℕ) → List Line → List ℕ
 end_text classes lines = codes "end\n" ++ flat_map (end_line_text classes) lines

@@ -4,35 +4,36 @@ ghost use Rattle.std.specs.Prelude.{◌≡◌, ◌++◌, length, OnOk};
 ghost use Rattle.std.specs.String.{string_bytes};
 ghost use Rattle.std.specs.List.{flat_map};
 ghost use Rattle.arc_script.specs.Valid.{class_names};
-ghost use Rattle.arc_report.specs.Lines.{answer_text, line_text, thread_text, end_line_text, end_text, AnswerHasClass, LinesHaveClasses, ThreadsHaveClasses};
+ghost use Rattle.arc_report.specs.Lines.{answer_line, line_text, thread_text, end_line_text, end_text, AnswerHasClass, LinesHaveClasses, ThreadsHaveClasses};
 
 use crate::names::object_in;
 use arc_ops::ThreadLines;
 use arc_script::{Answer, ClassDecl, Line};
 use std::alloc::AllocError;
 
+/// The answer, at the end of its line.
 fn put_answer(out: &mut String, classes: &[ClassDecl], answer: Answer) -> Result<(), AllocError>
     requires { AnswerHasClass (length classes.now) answer }
-    ensures { OnOk result (string_bytes out.new ≡ string_bytes out.old ++ answer_text (class_names classes.now) answer) }
+    ensures { OnOk result (string_bytes out.new ≡ string_bytes out.old ++ answer_line (class_names classes.now) answer) }
 {
     match answer {
         Answer::New(name) => {
             let object = object_in(classes, name);
-            write!(out, "new {object}")
+            writeln!(out, "new {object}")
         }
-        Answer::Full => write!(out, "full"),
+        Answer::Full => writeln!(out, "full"),
         Answer::Got(name) => {
             let object = object_in(classes, name);
-            write!(out, "got {object}")
+            writeln!(out, "got {object}")
         }
-        Answer::Ok => write!(out, "ok"),
-        Answer::Nil => write!(out, "nil"),
-        Answer::Dead => write!(out, "dead"),
-        Answer::NoEntry => write!(out, "noentry"),
-        Answer::CountFull => write!(out, "countfull"),
+        Answer::Ok => writeln!(out, "ok"),
+        Answer::Nil => writeln!(out, "nil"),
+        Answer::Dead => writeln!(out, "dead"),
+        Answer::NoEntry => writeln!(out, "noentry"),
+        Answer::CountFull => writeln!(out, "countfull"),
         Answer::Deinit(name) => {
             let object = object_in(classes, name);
-            write!(out, "deinit {object}")
+            writeln!(out, "deinit {object}")
         }
     }
 }
@@ -47,8 +48,7 @@ fn put_line(out: &mut String, classes: &[ClassDecl], line: Line) -> Result<(), A
     } else {
         write!(out, "{operation} ")?;
     }
-    put_answer(out, classes, line.answer)?;
-    writeln!(out)
+    put_answer(out, classes, line.answer)
 }
 
 fn put_thread(
@@ -92,7 +92,6 @@ pub(crate) fn put_end(
     writeln!(out, "end")?;
     for line in lines {
         put_answer(out, classes, line.answer)?;
-        writeln!(out)?;
     }
     Ok(())
 }

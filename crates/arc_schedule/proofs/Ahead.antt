@@ -1,182 +1,76 @@
 -- The steps that are still to come stand in the order of the phases and the schedule, and so do those with the step before.
-use Rattle.std.proofs.Common.{◌≡◌, ℕ, zero, suc, ◌+◌, ◌-◌, ◌<◌, ◌≤◌, Bool, true, false, cond, not, eqb, List, [], ◌∷◌, ◌++◌, length, set, Some, ◌⊎◌, inl, inr, refl, sym, ap, subst, ◌∙◌, arith}
-use Rattle.std.proofs.lemmas.Bool.{eqb-true, eqb-false, cases_lt}
+use Rattle.std.proofs.Common.{◌≡◌, ℕ, zero, suc, ◌+◌, ◌-◌, ◌<◌, ◌≤◌, Bool, true, false, cond, eqb, List, [], ◌∷◌, ◌++◌, length, set, Some, ◌⊎◌, inl, inr, refl, sym, ap, subst, ◌∙◌, arith}
+use Rattle.std.proofs.lemmas.Bool.{eqb-true, eqb-false}
 use Rattle.std.proofs.lemmas.List.Elements.{All-from_recursion}
-use Rattle.std.proofs.lemmas.List.{reverse-append, append_assoc}
-use Rattle.std.specs.Prelude.{◌&&◌, slice_get, reverse, filter}
+use Rattle.std.specs.Prelude.{slice_get, reverse, filter}
 use Rattle.std.specs.List.{AllByRecursion}
 use Rattle.arc_rule.specs.Extents.{Extent}
 use Rattle.arc_rule.specs.Places.{extent_of}
 use Rattle.arc_script.specs.declared.script.Script.{Script}
 use Rattle.arc_ops.specs.Thread.{Thread}
-use Rattle.arc_replays.specs.Stages.{Stage, has_step, IsSome, IsNone, IsNoneBelow}
+use Rattle.arc_replays.specs.Stages.{Stage, has_step, awaits_phase, IsSome, IsNone, IsNoneBelow}
 use Rattle.arc_schedule.specs.Made.{Made, own, is_of}
-use Rattle.arc_schedule.specs.Orders.{is_in, steps_of, ending_of, other_of, in_access, in_turn, by_numbers, InOrder}
-use Rattle.arc_schedule.specs.Orders.InOrder.{makes, passes, next_phase, runs_out}
+use Rattle.arc_schedule.specs.Orders.{is_in, steps_of, ending_of, other_of, in_access, in_turn, InOrder}
+use Rattle.arc_schedule.specs.Orders.InOrder.{makes, passes, next_phase, runs_out, ends}
 use Rattle.arc_schedule.proofs.Lists.{there-is, get-other}
-use Rattle.arc_schedule.proofs.Calm.{AreCalm, never-inside}
-
--- ---- numbers and lists
-
-apart : (p q : ℕ) → (p ≡ q → ⊥) → eqb p q ≡ false
-apart p q differ = go (eqb p q) refl
-  where
-    go : (b : Bool) → eqb p q ≡ b → eqb p q ≡ false
-    go true e = absurd (differ (eqb-true p q e))
-    go false e = e
-
-equal : (p q : ℕ) → p ≡ q → eqb p q ≡ true
-equal p q same = go (eqb p q) refl
-  where
-    go : (b : Bool) → eqb p q ≡ b → eqb p q ≡ true
-    go true e = e
-    go false e = absurd (eqb-false p q e same)
-
--- the newest step, before it is turned round and behind it
-pub reverse-onto : (ms left : List Made) (m : Made) → reverse (m ∷ ms) ++ left ≡ reverse ms ++ (m ∷ left)
-reverse-onto ms left m = ap (λ (xs : List Made). xs ++ left) (reverse-append (m ∷ []) ms) ∙ append_assoc (reverse ms) (m ∷ []) left
-
--- ---- a thread's own steps, and those of a phase
-
-pub own-other : (m : Made) (ms : List Made) (q : ℕ) → (m.point.thread ≡ q → ⊥) → own q (m ∷ ms) ≡ own q ms
-own-other m ms q differ = let e : eqb m.point.thread q ≡ false = apart m.point.thread q differ in rw e refl
-
-pub own-this : (m : Made) (ms : List Made) (q : ℕ) → m.point.thread ≡ q → own q (m ∷ ms) ≡ m ∷ own q ms
-own-this m ms q same = let e : eqb m.point.thread q ≡ true = equal m.point.thread q same in rw e refl
-
-is-in : (phase : ℕ) (m : Made) → 1 ≤ m.point.thread → m.point.phase ≡ phase → is_in phase m ≡ true
-is-in phase m some same =
-    let a : eqb m.point.thread 0 ≡ false = apart m.point.thread 0 (λ e. (let f : m.point.thread ≡ 0 = e in absurd (omega arith))) in
-    let b : eqb m.point.phase phase ≡ true = equal m.point.phase phase same in
-    rw (a, b) refl
-
-is-later : (phase : ℕ) (m : Made) → phase < m.point.phase → is_in phase m ≡ false
-is-later phase m later =
-    let b : eqb m.point.phase phase ≡ false = apart m.point.phase phase (λ e. (let f : m.point.phase ≡ phase = e in absurd (omega arith))) in
-    go (eqb m.point.thread 0) b
-  where
-    go : (a : Bool) → eqb m.point.phase phase ≡ false → (not a && eqb m.point.phase phase) ≡ false
-    go true b = refl
-    go false b = b
-
-abbrev AreLater : ℕ → List Made → Type 0
-AreLater phase ms = AllByRecursion (λ m. phase < m.point.phase) ms
-
-later-none : (phase : ℕ) (ms : List Made) → AreLater phase ms → filter (is_in phase) ms ≡ []
-later-none phase [] h = refl
-later-none phase (m ∷ ms) h = let e : is_in phase m ≡ false = is-later phase m h.0 in rw e (later-none phase ms h.1)
-
-later-own : (phase p : ℕ) (ms : List Made) → AreLater phase ms → AreLater phase (own p ms)
-later-own phase p [] h = tt
-later-own phase p (m ∷ ms) h = go (is_of p m) (later-own phase p ms h.1)
-  where
-    go : (b : Bool) → AreLater phase (own p ms) → AreLater phase (cond b (m ∷ own p ms) (own p ms))
-    go true rest = (h.0, rest)
-    go false rest = rest
-
--- where there is no step of the phase, no thread has one
-none-own : (phase q : ℕ) (ms : List Made) → filter (is_in phase) ms ≡ [] → steps_of phase q ms ≡ []
-none-own phase q [] e = refl
-none-own phase q (m ∷ ms) e = go (is_in phase m) refl (is_of q m) e (λ f. none-own phase q ms f)
-  where
-    go : (b : Bool) → is_in phase m ≡ b → (c : Bool) → cond b (m ∷ filter (is_in phase) ms) (filter (is_in phase) ms) ≡ [] → (filter (is_in phase) ms ≡ [] → steps_of phase q ms ≡ []) →
-        filter (is_in phase) (cond c (m ∷ own q ms) (own q ms)) ≡ []
-    go true f c e rest = absurd (cc)
-    go false f true e rest = rw f (rest e)
-    go false f false e rest = rest e
-
--- a thread without a step in the phase has none among steps of the phase
-none-here : (phase q : ℕ) (here later : List Made) → AllByRecursion (λ m. is_in phase m ≡ true) here → steps_of phase q (here ++ later) ≡ [] → own q here ≡ []
-none-here phase q [] later h e = refl
-none-here phase q (m ∷ here) later h e = go (is_of q m) e (λ f. none-here phase q here later h.1 f)
-  where
-    go : (b : Bool) → filter (is_in phase) (cond b (m ∷ own q (here ++ later)) (own q (here ++ later))) ≡ [] → (steps_of phase q (here ++ later) ≡ [] → own q here ≡ []) → cond b (m ∷ own q here) (own q here) ≡ []
-    go true e rest = let f : is_in phase m ≡ true = h.0 in let g : m ∷ filter (is_in phase) (own q (here ++ later)) ≡ [] = rw f at e in absurd (cc)
-    go false e rest = rest e
-
--- ---- the threads in turn
-
-in-turn-same : (n : ℕ) (f g : ℕ → List Made) → ((p : ℕ) → f p ≡ g p) → in_turn n f ≡ in_turn n g
-in-turn-same zero f g h = refl
-in-turn-same (suc n) f g h = rw (in-turn-same n f g h, h (suc n)) refl
-
-pub in-turn-none : (n : ℕ) (f : ℕ → List Made) → ((p : ℕ) → 1 ≤ p → p ≤ n → f p ≡ []) → in_turn n f ≡ []
-in-turn-none zero f h = refl
-in-turn-none (suc n) f h = rw (in-turn-none n f (λ p some most. h p some (omega arith)), h (suc n) (omega arith) (omega arith)) refl
-
--- a step of a thread below which no one has a step comes first
-in-turn-more : (n : ℕ) (m : Made) (here : List Made) → 1 ≤ m.point.thread → m.point.thread ≤ n → ((q : ℕ) → 1 ≤ q → q < m.point.thread → own q here ≡ []) →
-    in_turn n (λ q. own q (m ∷ here)) ≡ m ∷ in_turn n (λ q. own q here)
-in-turn-more zero m here some most none = absurd (omega arith)
-in-turn-more (suc n) m here some most none = go (cases_lt n m.point.thread) (λ below. in-turn-more n m here some below none)
-  where
-    go : (n < m.point.thread) ⊎ (m.point.thread ≤ n) → (m.point.thread ≤ n → in_turn n (λ q. own q (m ∷ here)) ≡ m ∷ in_turn n (λ q. own q here)) →
-        in_turn n (λ q. own q (m ∷ here)) ++ own (suc n) (m ∷ here) ≡ m ∷ (in_turn n (λ q. own q here) ++ own (suc n) here)
-    go (inl above) rest =
-        let same : m.point.thread ≡ suc n = omega arith in
-        let a : in_turn n (λ q. own q (m ∷ here)) ≡ [] =
-        in-turn-none n (λ q. own q (m ∷ here)) (λ q first few. own-other m here q (λ e. (let f : m.point.thread ≡ q = e in absurd (omega arith))) ∙ none q first (omega arith)) in
-        let b : in_turn n (λ q. own q here) ≡ [] = in-turn-none n (λ q. own q here) (λ q first few. none q first (omega arith)) in
-        rw (a, b) (own-this m here (suc n) same)
-    go (inr below) rest =
-        let a = rest below in
-        let b : own (suc n) (m ∷ here) ≡ own (suc n) here = own-other m here (suc n) (λ e. (let f : m.point.thread ≡ suc n = e in absurd (omega arith))) in
-        rw (a, b) refl
+use Rattle.arc_schedule.proofs.Arranged.{reverse-onto, own-other, own-this, is-in, IsLater, AreLater, later-none, later-own, none-own, none-here, in-turn-more, op_now, IsBehind, IsFrom, AllFrom, AllBehind, AllOf, AreSorted, all-from, all-behind, whole-here, nothing-here, arrangement, AreOutside, IsNot, numbers-in-turn, numbers-inside, numbers-outside, numbers-step}
 
 -- ---- the order of the steps to come
 
--- Where no place is left, the steps of the phase stand by the numbers of their threads.
-pub record RunsOut (l : Extent) (n phase : ℕ) (ms left : List Made) : Type 0 where
+-- Where no place is left, the steps of the phase stand by the numbers of their threads, those of a thread that ends its operation first. The
+-- operations of each thread come in order, from the one that is under way on.
+pub record RunsOut (l : Extent) (n phase ending : ℕ) (threads : List Thread) (ms left : List Made) : Type 0 where
   pub here : List Made
   pub later : List Made
   pub left_is : left ≡ here ++ later
   pub all_in : AllByRecursion (λ m. is_in phase m ≡ true) here
+  pub all_of : AllByRecursion (λ m. m.point.phase ≡ phase) here
   pub none : filter (is_in phase) later ≡ []
-  pub sorted : here ≡ in_turn n (λ p. own p here)
+  pub sorted : (p : ℕ) → 1 ≤ p → AreSorted (own p here)
+  pub behind : (p : ℕ) (t : Thread) → 1 ≤ p → slice_get threads p ≡ Some t → has_step t ≡ true → AllFrom (op_now t) (own p here)
+  pub arranged : here ≡ arrangement l n ending ms here
   pub rest : InOrder l n (phase + 1) [] (reverse here ++ ms) later
 
-abbrev pub OrderFor : Extent → (n phase : ℕ) → (places : List ℕ) → (ms left : List Made) → Type 0
-OrderFor l n phase [] ms left = RunsOut l n phase ms left
-OrderFor l n phase (p ∷ places) ms left = InOrder l n phase (p ∷ places) ms left
+abbrev pub OrderFor : Extent → (n phase ending : ℕ) → List Thread → (places : List ℕ) → (ms left : List Made) → Type 0
+OrderFor l n phase ending threads [] ms left = RunsOut l n phase ending threads ms left
+OrderFor l n phase ending threads (p ∷ places) ms left = InOrder l n phase (p ∷ places) ms left
 
-pub order-in : (l : Extent) (n phase : ℕ) (places : List ℕ) (ms left : List Made) → AreCalm l ms → OrderFor l n phase places ms left → InOrder l n phase places ms left
-order-in l n phase [] ms left calm r = runs_out r.here r.later r.left_is (All-from_recursion (λ m. is_in phase m ≡ true) r.here r.all_in) r.none (r.sorted ∙ sym numbers) r.rest
-  where
-    inside : (p : ℕ) → in_access l (own p ms) ≡ false
-    inside p = never-inside l p ms calm
+pub order-in : (l : Extent) (n phase : ℕ) (threads : List Thread) (places : List ℕ) (ms left : List Made) → OrderFor l n phase 0 threads places ms left → InOrder l n phase places ms left
+order-in l n phase threads [] ms left r = runs_out r.here r.later r.left_is (All-from_recursion (λ m. is_in phase m ≡ true) r.here r.all_in) r.none r.arranged r.rest
+order-in l n phase threads (p ∷ places) ms left o = o
 
-    numbers : by_numbers l n ms r.here ≡ in_turn n (λ p. own p r.here)
-    numbers =
-        let a : in_turn n (λ p. ending_of (in_access l (own p ms)) (own p ms) (own p r.here)) ≡ [] =
-        in-turn-none n (λ p. ending_of (in_access l (own p ms)) (own p ms) (own p r.here)) (λ p some few. (let e = inside p in rw e refl)) in
-        let b : in_turn n (λ p. other_of (in_access l (own p ms)) (own p ms) (own p r.here)) ≡ in_turn n (λ p. own p r.here) =
-        in-turn-same n (λ p. other_of (in_access l (own p ms)) (own p ms) (own p r.here)) (λ p. own p r.here) (λ p. (let e = inside p in rw e refl)) in
-        rw (a, b) refl
-order-in l n phase (p ∷ places) ms left calm o = o
+-- the step is of a phase that isn't over, or of thread 0
+abbrev pub IsToCome : ℕ → Made → Type 0
+IsToCome begun m = (m.point.thread ≡ 0) ⊎ (begun ≤ m.point.phase + 1)
 
--- What is to come from a stage on, where these steps were made: a thread has a step in the phase just where it asks for one, all are of this phase
--- or of later ones, and they stand in order.
-pub record IsAhead (script : Script) (s : Stage) (ms left : List Made) : Type 0 where
-  pub later : AllByRecursion (λ m. s.begun ≤ m.point.phase + 1) left
+-- What is to come from a stage on, where these steps were made: a thread has a step in the phase just where it asks for one, all are of this phase,
+-- of later ones or of thread 0, and they stand in order.
+pub record IsAhead (script : Script) (ending : ℕ) (s : Stage) (ms left : List Made) : Type 0 where
+  pub later : AllByRecursion (IsToCome s.begun) left
   pub none : (p : ℕ) (t : Thread) → 1 ≤ p → slice_get s.threads p ≡ Some t → has_step t ≡ false → 1 ≤ s.begun → steps_of (s.begun - 1) p left ≡ []
   pub some : (p : ℕ) (t : Thread) → 1 ≤ p → slice_get s.threads p ≡ Some t → has_step t ≡ true → steps_of (s.begun - 1) p left ≡ [] → ⊥
-  pub order : OrderFor (extent_of script.shape) (length script.threads) (s.begun - 1) s.places ms left
+  -- once thread 0 has begun, all are its own
+  pub last : (t : Thread) → slice_get s.threads 0 ≡ Some t → awaits_phase t ≡ false → AllByRecursion (λ m. m.point.thread ≡ 0) left
+  pub order : OrderFor (extent_of script.shape) (length script.threads) (s.begun - 1) ending s.threads s.places ms left
 
 -- ---- backwards, from the stage behind to the stage before
 
--- a step that thread p makes in the phase
-pub record MadeBy (script : Script) (s : Stage) (p : ℕ) (t : Thread) (m : Made) : Type 0 where
+-- a step that thread p makes in the phase, and what the thread is behind it; thread 0 hasn't begun
+pub record MadeBy (script : Script) (s : Stage) (p : ℕ) (t new : Thread) (m : Made) : Type 0 where
   pub other : 1 ≤ p
   pub there : slice_get s.threads p ≡ Some t
   pub has : has_step t ≡ true
   pub thread : m.point.thread ≡ p
   pub phase : m.point.phase + 1 ≡ s.begun
   pub few : p ≤ length script.threads
+  pub number : m.point.operation ≡ op_now t
+  pub on : has_step new ≡ true → IsFrom (op_now t) (op_now new)
+  pub waits : (u : Thread) → slice_get s.threads 0 ≡ Some u → awaits_phase u ≡ true
 
-in-phase : (script : Script) (s : Stage) (p : ℕ) (t : Thread) (m : Made) → MadeBy script s p t m → is_in (s.begun - 1) m ≡ true
-in-phase script s p t m h = let a = h.other in let b = h.thread in let c = h.phase in is-in (s.begun - 1) m (omega arith) (omega arith)
+in-phase : (script : Script) (s : Stage) (p : ℕ) (t new : Thread) (m : Made) → MadeBy script s p t new m → is_in (s.begun - 1) m ≡ true
+in-phase script s p t new m h = let a = h.other in let b = h.thread in let c = h.phase in is-in (s.begun - 1) m (omega arith) (omega arith)
 
-step-none : (script : Script) (s : Stage) (p : ℕ) (t new : Thread) (m : Made) (left : List Made) → MadeBy script s p t m →
+step-none : (script : Script) (s : Stage) (p : ℕ) (t new : Thread) (m : Made) (left : List Made) → MadeBy script s p t new m →
     ((q : ℕ) (u : Thread) → 1 ≤ q → slice_get (set s.threads p new) q ≡ Some u → has_step u ≡ false → 1 ≤ s.begun → steps_of (s.begun - 1) q left ≡ []) →
     (q : ℕ) (u : Thread) → 1 ≤ q → slice_get s.threads q ≡ Some u → has_step u ≡ false → 1 ≤ s.begun → steps_of (s.begun - 1) q (m ∷ left) ≡ []
 step-none script s p t new m left h none q u first there has some =
@@ -189,7 +83,7 @@ step-none script s p t new m left h none q u first there has some =
         let a : has_step u ≡ true = subst (λ (x : Thread). has_step x ≡ true) is h.has in
         absurd (cc)
 
-step-some : (script : Script) (s : Stage) (p : ℕ) (t new : Thread) (m : Made) (left : List Made) → MadeBy script s p t m →
+step-some : (script : Script) (s : Stage) (p : ℕ) (t new : Thread) (m : Made) (left : List Made) → MadeBy script s p t new m →
     ((q : ℕ) (u : Thread) → 1 ≤ q → slice_get (set s.threads p new) q ≡ Some u → has_step u ≡ true → steps_of (s.begun - 1) q left ≡ [] → ⊥) →
     (q : ℕ) (u : Thread) → 1 ≤ q → slice_get s.threads q ≡ Some u → has_step u ≡ true → steps_of (s.begun - 1) q (m ∷ left) ≡ [] → ⊥
 step-some script s p t new m left h some q u first there has e = go (eqb p q) refl
@@ -199,7 +93,7 @@ step-some script s p t new m left h some q u first there has e = go (eqb p q) re
         let same : p ≡ q = eqb-true p q f in
         let a : own q (m ∷ left) ≡ m ∷ own q left = own-this m left q (h.thread ∙ same) in
         let b : filter (is_in (s.begun - 1)) (m ∷ own q left) ≡ [] = ap (λ (ms : List Made). filter (is_in (s.begun - 1)) ms) (sym a) ∙ e in
-        let c : is_in (s.begun - 1) m ≡ true = in-phase script s p t m h in
+        let c : is_in (s.begun - 1) m ≡ true = in-phase script s p t new m h in
         let d : m ∷ filter (is_in (s.begun - 1)) (own q left) ≡ [] = rw c at b in
         absurd (cc)
     go false f =
@@ -207,96 +101,333 @@ step-some script s p t new m left h some q u first there has e = go (eqb p q) re
         some q u first (get-other s.threads p q new differ ∙ there) has
         (ap (λ (ms : List Made). filter (is_in (s.begun - 1)) ms) (sym (own-other m left q (λ z. differ (sym h.thread ∙ z)))) ∙ e)
 
-step-later : (script : Script) (s : Stage) (p : ℕ) (t : Thread) (m : Made) → MadeBy script s p t m → s.begun ≤ m.point.phase + 1
-step-later script s p t m h = let e = h.phase in omega arith
+step-later : (script : Script) (s : Stage) (p : ℕ) (t new : Thread) (m : Made) → MadeBy script s p t new m → IsToCome s.begun m
+step-later script s p t new m h = let e = h.phase in inr (omega arith)
+
+-- thread 0 hasn't begun
+step-last : (script : Script) (s : Stage) (p : ℕ) (t new : Thread) (m : Made) (left : List Made) → MadeBy script s p t new m →
+    (u : Thread) → slice_get s.threads 0 ≡ Some u → awaits_phase u ≡ false → AllByRecursion (λ m. m.point.thread ≡ 0) (m ∷ left)
+step-last script s p t new m left h u there e = let f = h.waits u there in absurd (cc)
+
+-- what holds of the stage behind, said of the stage before
+abbrev pub IsStepped : (s after : Stage) (p : ℕ) (new : Thread) (places : List ℕ) → Type 0
+IsStepped s after p new places = (after.begun ≡ s.begun) × (after.places ≡ places) × (after.threads ≡ set s.threads p new)
+
+moved : (s after : Stage) (p : ℕ) (new : Thread) (places : List ℕ) → IsStepped s after p new places → (P : ℕ → List ℕ → List Thread → Type 0) → P after.begun after.places after.threads → P s.begun places (set s.threads p new)
+moved s after p new places same P x =
+    subst (λ (ts : List Thread). P s.begun places ts) same.2 (subst (λ (ps : List ℕ). P s.begun ps after.threads) same.1 (subst (λ (n : ℕ). P n after.places after.threads) same.0 x))
+
+-- all but the order
+step-ahead : (script : Script) (ending : ℕ) (s : Stage) (p : ℕ) (places : List ℕ) (t new : Thread) (m : Made) (ms left : List Made) → MadeBy script s p t new m → (after : Stage) → IsStepped s after p new places → IsAhead script ending after (m ∷ ms) left →
+    OrderFor (extent_of script.shape) (length script.threads) (s.begun - 1) ending s.threads s.places ms (m ∷ left) → IsAhead script ending s ms (m ∷ left)
+step-ahead script ending s p places t new m ms left h after same a order = record {
+  later = (step-later script s p t new m h, subst (λ (n : ℕ). AllByRecursion (IsToCome n) left) same.0 a.later);
+  none = step-none script s p t new m left h
+      (moved s after p new places same (λ n ps ts. (q : ℕ) (u : Thread) → 1 ≤ q → slice_get ts q ≡ Some u → has_step u ≡ false → 1 ≤ n → steps_of (n - 1) q left ≡ []) a.none);
+  some = step-some script s p t new m left h (moved s after p new places same (λ n ps ts. (q : ℕ) (u : Thread) → 1 ≤ q → slice_get ts q ≡ Some u → has_step u ≡ true → steps_of (n - 1) q left ≡ [] → ⊥) a.some);
+  last = step-last script s p t new m left h;
+  order = order;
+}
 
 -- the next place is that of the thread that makes the step
-pub ahead-makes : (script : Script) (s : Stage) (p : ℕ) (places : List ℕ) (t new : Thread) (m : Made) (ms left : List Made) → s.places ≡ p ∷ places → AreCalm (extent_of script.shape) (m ∷ ms) →
-    MadeBy script s p t m → (after : Stage) → after.begun ≡ s.begun → after.places ≡ places → after.threads ≡ set s.threads p new → IsAhead script after (m ∷ ms) left → IsAhead script s ms (m ∷ left)
-ahead-makes script s p places t new m ms left place calm h after same_begun same_places same_threads a = record {
-  later = (step-later script s p t m h, subst (λ (n : ℕ). AllByRecursion (λ m. n ≤ m.point.phase + 1) left) same_begun a.later);
-  none = step-none script s p t new m left h (λ q u first there has some. moved (λ n ps ts. (q : ℕ) (u : Thread) → 1 ≤ q → slice_get ts q ≡ Some u → has_step u ≡ false → 1 ≤ n → steps_of (n - 1) q left ≡ []) a.none q u first there has some);
-  some = step-some script s p t new m left h (λ q u first there has e. moved (λ n ps ts. (q : ℕ) (u : Thread) → 1 ≤ q → slice_get ts q ≡ Some u → has_step u ≡ true → steps_of (n - 1) q left ≡ [] → ⊥) a.some q u first there has e);
-  order = rw place (subst (λ (q : ℕ). InOrder (extent_of script.shape) (length script.threads) (s.begun - 1) (q ∷ places) ms (m ∷ left)) h.thread
-      (makes m (in-phase script s p t m h) (order-in (extent_of script.shape) (length script.threads) (s.begun - 1) places (m ∷ ms) left calm
-      (moved (λ n ps ts. OrderFor (extent_of script.shape) (length script.threads) (n - 1) ps (m ∷ ms) left) a.order))));
-}
-  where
-    moved : (P : ℕ → List ℕ → List Thread → Type 0) → P after.begun after.places after.threads → P s.begun places (set s.threads p new)
-    moved P x = subst (λ (ts : List Thread). P s.begun places ts) same_threads (subst (λ (ps : List ℕ). P s.begun ps after.threads) same_places (subst (λ (n : ℕ). P n after.places after.threads) same_begun x))
+pub ahead-makes : (script : Script) (s : Stage) (p : ℕ) (places : List ℕ) (t new : Thread) (m : Made) (ms left : List Made) → s.places ≡ p ∷ places →
+    MadeBy script s p t new m → (after : Stage) → IsStepped s after p new places → IsAhead script 0 after (m ∷ ms) left → IsAhead script 0 s ms (m ∷ left)
+ahead-makes script s p places t new m ms left place h after same a =
+    step-ahead script 0 s p places t new m ms left h after same a
+    (rw place (subst (λ (q : ℕ). InOrder (extent_of script.shape) (length script.threads) (s.begun - 1) (q ∷ places) ms (m ∷ left)) h.thread
+    (makes m (in-phase script s p t new m h) (order-in (extent_of script.shape) (length script.threads) (s.begun - 1) (set s.threads p new) places (m ∷ ms) left
+    (moved s after p new places same (λ n ps ts. OrderFor (extent_of script.shape) (length script.threads) (n - 1) 0 ts ps (m ∷ ms) left) a.order)))))
 
--- no place is left, and no thread below has a step
-pub ahead-by-number : (script : Script) (s : Stage) (p : ℕ) (t new : Thread) (m : Made) (ms left : List Made) → s.places ≡ [] → IsNoneBelow p has_step s.threads → MadeBy script s p t m →
-    (after : Stage) → after.begun ≡ s.begun → after.places ≡ s.places → after.threads ≡ set s.threads p new → length s.threads ≡ length script.threads + 1 → IsAhead script after (m ∷ ms) left → IsAhead script s ms (m ∷ left)
-ahead-by-number script s p t new m ms left place below h after same_begun same_places same_threads many a = record {
-  later = (step-later script s p t m h, subst (λ (n : ℕ). AllByRecursion (λ m. n ≤ m.point.phase + 1) left) same_begun a.later);
-  none = step-none script s p t new m left h (λ q u first there has some. before_none q u first there has some);
-  some = step-some script s p t new m left h (λ q u first there has e. moved (λ n ps ts. (q : ℕ) (u : Thread) → 1 ≤ q → slice_get ts q ≡ Some u → has_step u ≡ true → steps_of (n - 1) q left ≡ [] → ⊥) a.some q u first there has e);
-  order = rw place more;
+-- ---- where no place is left
+
+-- a phase of these steps
+own-of : (phase p : ℕ) (ms : List Made) → AllOf phase ms → AllOf phase (own p ms)
+own-of phase p [] h = tt
+own-of phase p (m ∷ ms) h = go (is_of p m) (own-of phase p ms h.1)
+  where
+    go : (b : Bool) → AllOf phase (own p ms) → AllOf phase (cond b (m ∷ own p ms) (own p ms))
+    go true rest = (h.0, rest)
+    go false rest = rest
+
+-- the steps that the thread makes behind this one are of its operation or of later ones
+next-from : (script : Script) (ending : ℕ) (s : Stage) (p : ℕ) (t new : Thread) (m : Made) (ms left : List Made) → MadeBy script s p t new m →
+    ((q : ℕ) (u : Thread) → 1 ≤ q → slice_get (set s.threads p new) q ≡ Some u → has_step u ≡ false → 1 ≤ s.begun → steps_of (s.begun - 1) q left ≡ []) → length s.threads ≡ length script.threads + 1 →
+    (r : RunsOut (extent_of script.shape) (length script.threads) (s.begun - 1) ending (set s.threads p new) (m ∷ ms) left) → AllFrom (op_now t) (own p r.here)
+next-from script ending s p t new m ms left h none many r = go (has_step new) refl
+  where
+    there : slice_get (set s.threads p new) p ≡ Some new
+    there = got s.threads p (let a = h.few in let b = many in omega arith)
+      where
+        got : (ts : List Thread) (p : ℕ) → p < length ts → slice_get (set ts p new) p ≡ Some new
+        got [] p less = absurd (omega arith)
+        got (x ∷ ts) zero less = refl
+        got (x ∷ ts) (suc p) less = got ts p (omega arith)
+
+    go : (b : Bool) → has_step new ≡ b → AllFrom (op_now t) (own p r.here)
+    go true e = all-from (op_now t) (op_now new) (own p r.here) (h.on e) (r.behind p new h.other there e)
+    go false e =
+        let begun : 1 ≤ s.begun = let c = h.phase in omega arith in
+        let nothing : own p r.here ≡ [] = none-here (s.begun - 1) p r.here r.later r.all_in (ap (λ (xs : List Made). steps_of (s.begun - 1) p xs) (sym r.left_is) ∙ none p new h.other there e begun) in
+        rw nothing tt
+
+-- the step stands before those of its phase
+runs-on : (script : Script) (ending : ℕ) (s : Stage) (p : ℕ) (t new : Thread) (m : Made) (ms left : List Made) → MadeBy script s p t new m →
+    (r : RunsOut (extent_of script.shape) (length script.threads) (s.begun - 1) ending (set s.threads p new) (m ∷ ms) left) → AllFrom (op_now t) (own p r.here) →
+    m ∷ r.here ≡ arrangement (extent_of script.shape) (length script.threads) ending ms (m ∷ r.here) →
+    RunsOut (extent_of script.shape) (length script.threads) (s.begun - 1) ending s.threads ms (m ∷ left)
+runs-on script ending s p t new m ms left h r from arranged = record {
+  here = m ∷ r.here;
+  later = r.later;
+  left_is = ap (λ (xs : List Made). m ∷ xs) r.left_is;
+  all_in = (in-phase script s p t new m h, r.all_in);
+  all_of = (let c = h.phase in omega arith, r.all_of);
+  none = r.none;
+  sorted = λ q some. sorted q some (eqb p q) refl;
+  behind = λ q u some there has. behind q u some there has (eqb p q) refl;
+  arranged = arranged;
+  rest = subst (λ (xs : List Made). InOrder (extent_of script.shape) (length script.threads) (s.begun - 1 + 1) [] xs r.later) (sym (reverse-onto r.here ms m)) r.rest;
 }
   where
-    moved : (P : ℕ → List ℕ → List Thread → Type 0) → P after.begun after.places after.threads → P s.begun [] (set s.threads p new)
-    moved P x = subst (λ (ts : List Thread). P s.begun [] ts) same_threads (subst (λ (ps : List ℕ). P s.begun ps after.threads) (same_places ∙ place) (subst (λ (n : ℕ). P n after.places after.threads) same_begun x))
+    this : own p (m ∷ r.here) ≡ m ∷ own p r.here
+    this = own-this m r.here p h.thread
+
+    other : (q : ℕ) → eqb p q ≡ false → own q (m ∷ r.here) ≡ own q r.here
+    other q e = own-other m r.here q (λ z. eqb-false p q e (sym h.thread ∙ z))
+
+    sorted : (q : ℕ) → 1 ≤ q → (b : Bool) → eqb p q ≡ b → AreSorted (own q (m ∷ r.here))
+    sorted q some true e =
+        let same : p ≡ q = eqb-true p q e in
+        subst (λ (x : ℕ). AreSorted (own x (m ∷ r.here))) same
+        (subst AreSorted (sym this) (subst (λ (n : ℕ). AllFrom n (own p r.here)) (sym h.number) from, r.sorted p h.other))
+    sorted q some false e = subst AreSorted (sym (other q e)) (r.sorted q some)
+
+    behind : (q : ℕ) (u : Thread) → 1 ≤ q → slice_get s.threads q ≡ Some u → has_step u ≡ true → (b : Bool) → eqb p q ≡ b → AllFrom (op_now u) (own q (m ∷ r.here))
+    behind q u some there has true e =
+        let same : p ≡ q = eqb-true p q e in
+        let threads : Some t ≡ Some u = sym h.there ∙ ap (λ (n : ℕ). slice_get s.threads n) same ∙ there in
+        let is : t ≡ u = cc in
+        subst (λ (v : Thread). AllFrom (op_now v) (own q (m ∷ r.here))) is
+        (subst (λ (x : ℕ). AllFrom (op_now t) (own x (m ∷ r.here))) same (subst (AllFrom (op_now t)) (sym this) (inl (sym h.number), from)))
+    behind q u some there has false e =
+        subst (AllFrom (op_now u)) (sym (other q e)) (r.behind q u some (get-other s.threads p q new (eqb-false p q e) ∙ there) has)
+
+-- where a thread is inside an access, its newest step is one of the operation under way
+abbrev pub IsNewest : ℕ → (phase number : ℕ) → List Made → Type 0
+IsNewest p phase number ms = (m : Made) × (rest : List Made) × (own p ms ≡ m ∷ rest) × (m.point.phase ≡ phase) × (m.point.operation ≡ number)
+
+-- no place is left, no thread below has a step, and no other is inside an access
+pub ahead-by-number : (script : Script) (s : Stage) (p : ℕ) (t new : Thread) (m : Made) (ms left : List Made) → s.places ≡ [] → IsNoneBelow p has_step s.threads → MadeBy script s p t new m →
+    AreOutside (extent_of script.shape) (length script.threads) ms (IsNot p) → (in_access (extent_of script.shape) (own p ms) ≡ true → IsNewest p (s.begun - 1) (op_now t) ms) →
+    (after : Stage) → IsStepped s after p new [] → length s.threads ≡ length script.threads + 1 → IsAhead script 0 after (m ∷ ms) left → IsAhead script 0 s ms (m ∷ left)
+ahead-by-number script s p t new m ms left place below h outside newest after same many a = step-ahead script 0 s p [] t new m ms left h after same a (rw place (runs-on script 0 s p t new m ms left h r from more))
+  where
+    l : Extent
+    l = extent_of script.shape
+
+    n : ℕ
+    n = length script.threads
 
     before_none : (q : ℕ) (u : Thread) → 1 ≤ q → slice_get (set s.threads p new) q ≡ Some u → has_step u ≡ false → 1 ≤ s.begun → steps_of (s.begun - 1) q left ≡ []
-    before_none = moved (λ n ps ts. (q : ℕ) (u : Thread) → 1 ≤ q → slice_get ts q ≡ Some u → has_step u ≡ false → 1 ≤ n → steps_of (n - 1) q left ≡ []) a.none
+    before_none = moved s after p new [] same (λ n ps ts. (q : ℕ) (u : Thread) → 1 ≤ q → slice_get ts q ≡ Some u → has_step u ≡ false → 1 ≤ n → steps_of (n - 1) q left ≡ []) a.none
 
-    r : RunsOut (extent_of script.shape) (length script.threads) (s.begun - 1) (m ∷ ms) left
-    r = moved (λ n ps ts. OrderFor (extent_of script.shape) (length script.threads) (n - 1) ps (m ∷ ms) left) a.order
+    r : RunsOut (extent_of script.shape) (length script.threads) (s.begun - 1) 0 (set s.threads p new) (m ∷ ms) left
+    r = moved s after p new [] same (λ n ps ts. OrderFor (extent_of script.shape) (length script.threads) (n - 1) 0 ts ps (m ∷ ms) left) a.order
 
-    lower : (q : ℕ) → 1 ≤ q → q < m.point.thread → own q r.here ≡ []
+    from : AllFrom (op_now t) (own p r.here)
+    from = next-from script 0 s p t new m ms left h before_none many r
+
+    lower : (q : ℕ) → 1 ≤ q → q < p → own q r.here ≡ []
     lower q first less =
-        let e = h.thread in
         let few = h.few in
         let c = h.phase in
         let u = there-is s.threads q (omega arith) in
         let differ : p ≡ q → ⊥ = λ z. (let f : p ≡ q = z in absurd (omega arith)) in
-        let none : steps_of (s.begun - 1) q left ≡ [] = before_none q u.0 first (get-other s.threads p q new differ ∙ u.1) (below q u.0 first (omega arith) u.1) (omega arith) in
+        let none : steps_of (s.begun - 1) q left ≡ [] = before_none q u.0 first (get-other s.threads p q new differ ∙ u.1) (below q u.0 first less u.1) (omega arith) in
         none-here (s.begun - 1) q r.here r.later r.all_in (ap (λ (xs : List Made). steps_of (s.begun - 1) q xs) (sym r.left_is) ∙ none)
 
-    more : RunsOut (extent_of script.shape) (length script.threads) (s.begun - 1) ms (m ∷ left)
-    more = record {
-      here = m ∷ r.here;
-      later = r.later;
-      left_is = ap (λ (xs : List Made). m ∷ xs) r.left_is;
-      all_in = (in-phase script s p t m h, r.all_in);
-      none = r.none;
-      sorted = let e = h.thread in let few = h.few in let some = h.other in ap (λ (xs : List Made). m ∷ xs) r.sorted ∙ sym (in-turn-more (length script.threads) m r.here (omega arith) (omega arith) lower);
-      rest = subst (λ (xs : List Made). InOrder (extent_of script.shape) (length script.threads) (s.begun - 1 + 1) [] xs r.later) (sym (reverse-onto r.here ms m)) r.rest;
-    }
+    all_of : AllOf (s.begun - 1) (own p r.here)
+    all_of = own-of (s.begun - 1) p r.here r.all_of
 
--- the place's thread has no step, and another has one
-pub ahead-passes : (script : Script) (s : Stage) (p : ℕ) (places : List ℕ) (t : Thread) (ms left : List Made) → s.places ≡ p ∷ places → 1 ≤ p → slice_get s.threads p ≡ Some t → has_step t ≡ false → IsSome has_step s.threads →
-    1 ≤ s.begun → AreCalm (extent_of script.shape) ms → IsAhead script (record s { places = places }) ms left → IsAhead script s ms left
-ahead-passes script s p places t ms left place first there has other begun calm a = record {
+    phase_is : m.point.phase ≡ s.begun - 1
+    phase_is = let c = h.phase in omega arith
+
+    m_first : own p (m ∷ r.here) ≡ m ∷ own p r.here
+    m_first = own-this m r.here p h.thread
+
+    m_made : own p (m ∷ ms) ≡ m ∷ own p ms
+    m_made = own-this m ms p h.thread
+
+    -- behind the step
+    outside-on : AreOutside (extent_of script.shape) (length script.threads) (m ∷ ms) (IsNot p)
+    outside-on q first few differ = ap (λ (xs : List Made). in_access (extent_of script.shape) xs) (own-other m ms q (λ z. differ (sym z ∙ h.thread))) ∙ outside q first few differ
+
+    whole-on : ending_of (in_access (extent_of script.shape) (own p (m ∷ ms))) (own p (m ∷ ms)) (own p r.here) ++ other_of (in_access (extent_of script.shape) (own p (m ∷ ms))) (own p (m ∷ ms)) (own p r.here) ≡ own p r.here
+    whole-on = subst (λ (xs : List Made). ending_of (in_access (extent_of script.shape) (own p (m ∷ ms))) xs (own p r.here) ++ other_of (in_access (extent_of script.shape) (own p (m ∷ ms))) xs (own p r.here) ≡ own p r.here) (sym m_made)
+        (whole-here (in_access (extent_of script.shape) (own p (m ∷ ms))) m (own p ms) (own p r.here) (subst (λ (x : ℕ). AllOf x (own p r.here)) (sym phase_is) all_of) (subst (λ (x : ℕ). AllFrom x (own p r.here)) (sym h.number) from) (r.sorted p h.other))
+
+    -- before it
+    its : List Made
+    its = m ∷ own p r.here
+
+    whole-before : (b : Bool) → in_access (extent_of script.shape) (own p ms) ≡ b → ending_of b (own p ms) (m ∷ own p r.here) ++ other_of b (own p ms) (m ∷ own p r.here) ≡ m ∷ own p r.here
+    whole-before false e = refl
+    whole-before true e =
+        let w = newest e in
+        let own_is = w.2 in
+        let phase : w.0.point.phase ≡ s.begun - 1 = w.3 in
+        let number : w.0.point.operation ≡ op_now t = w.4 in
+        subst (λ (xs : List Made). ending_of true xs (m ∷ own p r.here) ++ other_of true xs (m ∷ own p r.here) ≡ m ∷ own p r.here) (sym own_is)
+        (whole-here true w.0 w.1 (m ∷ own p r.here) (phase_is ∙ sym phase, subst (λ (x : ℕ). AllOf x (own p r.here)) (sym phase) all_of)
+        (inl (number ∙ sym h.number), subst (λ (x : ℕ). AllFrom x (own p r.here)) (sym number) from)
+        (subst (λ (x : ℕ). AllFrom x (own p r.here)) (sym h.number) from, r.sorted p h.other))
+
+    more : m ∷ r.here ≡ arrangement (extent_of script.shape) (length script.threads) 0 ms (m ∷ r.here)
+    more =
+        let e = h.thread in
+        let few = h.few in
+        let some = h.other in
+        let turn : in_turn (length script.threads) (λ q. own q (m ∷ r.here)) ≡ m ∷ in_turn (length script.threads) (λ q. own q r.here) =
+        in-turn-more (length script.threads) m r.here (omega arith) (omega arith) (λ q first less. lower q first (omega arith)) in
+        ap (λ (xs : List Made). m ∷ xs) (r.arranged ∙ numbers-in-turn (extent_of script.shape) (length script.threads) p (m ∷ ms) r.here h.other h.few outside-on lower whole-on) ∙
+        sym turn ∙
+        sym (numbers-in-turn (extent_of script.shape) (length script.threads) p ms (m ∷ r.here) h.other h.few outside (λ q first less. own-other m r.here q (λ z. (let y : m.point.thread ≡ q = z in absurd (omega arith))) ∙ lower q first less)
+        (subst (λ (xs : List Made). ending_of (in_access (extent_of script.shape) (own p ms)) (own p ms) xs ++ other_of (in_access (extent_of script.shape) (own p ms)) (own p ms) xs ≡ xs) (sym m_first)
+        (whole-before (in_access (extent_of script.shape) (own p ms)) refl)))
+
+-- the first thread inside an access is to end its operation
+pub ahead-inside : (script : Script) (s : Stage) (p : ℕ) (ms left : List Made) → s.places ≡ [] → 1 ≤ p → p ≤ length script.threads →
+    AreOutside (extent_of script.shape) (length script.threads) ms (λ q. q < p) → in_access (extent_of script.shape) (own p ms) ≡ true → IsAhead script p s ms left → IsAhead script 0 s ms left
+ahead-inside script s zero ms left place first few outside inside a = absurd (omega arith)
+ahead-inside script s (suc e) ms left place first few outside inside a = record {
   later = a.later;
   none = a.none;
   some = a.some;
+  last = a.last;
+  order = rw place (record {
+    here = r.here;
+    later = r.later;
+    left_is = r.left_is;
+    all_in = r.all_in;
+    all_of = r.all_of;
+    none = r.none;
+    sorted = r.sorted;
+    behind = r.behind;
+    arranged = r.arranged ∙ sym (numbers-inside (extent_of script.shape) (length script.threads) e ms r.here few outside inside);
+    rest = r.rest;
+  });
+}
+  where
+    r : RunsOut (extent_of script.shape) (length script.threads) (s.begun - 1) (suc e) s.threads ms left
+    r = subst (λ (ps : List ℕ). OrderFor (extent_of script.shape) (length script.threads) (s.begun - 1) (suc e) s.threads ps ms left) place a.order
+
+-- it makes a step of the operation
+pub ahead-ends-it : (script : Script) (s : Stage) (p : ℕ) (t new : Thread) (m : Made) (ms left : List Made) → s.places ≡ [] → MadeBy script s p t new m → IsNewest p (s.begun - 1) (op_now t) ms →
+    (after : Stage) → IsStepped s after p new [] → length s.threads ≡ length script.threads + 1 → IsAhead script p after (m ∷ ms) left → IsAhead script p s ms (m ∷ left)
+ahead-ends-it script s zero t new m ms left place h newest after same many a = let o = h.other in absurd (omega arith)
+ahead-ends-it script s (suc e) t new m ms left place h newest after same many a = step-ahead script (suc e) s (suc e) [] t new m ms left h after same a (rw place (runs-on script (suc e) s (suc e) t new m ms left h r from more))
+  where
+    before_none : (q : ℕ) (u : Thread) → 1 ≤ q → slice_get (set s.threads (suc e) new) q ≡ Some u → has_step u ≡ false → 1 ≤ s.begun → steps_of (s.begun - 1) q left ≡ []
+    before_none = moved s after (suc e) new [] same (λ n ps ts. (q : ℕ) (u : Thread) → 1 ≤ q → slice_get ts q ≡ Some u → has_step u ≡ false → 1 ≤ n → steps_of (n - 1) q left ≡ []) a.none
+
+    r : RunsOut (extent_of script.shape) (length script.threads) (s.begun - 1) (suc e) (set s.threads (suc e) new) (m ∷ ms) left
+    r = moved s after (suc e) new [] same (λ n ps ts. OrderFor (extent_of script.shape) (length script.threads) (n - 1) (suc e) ts ps (m ∷ ms) left) a.order
+
+    from : AllFrom (op_now t) (own (suc e) r.here)
+    from = next-from script (suc e) s (suc e) t new m ms left h before_none many r
+
+    more : m ∷ r.here ≡ arrangement (extent_of script.shape) (length script.threads) (suc e) ms (m ∷ r.here)
+    more =
+        let c = h.phase in
+        let phase : m.point.phase ≡ newest.0.point.phase = (let d : newest.0.point.phase ≡ s.begun - 1 = newest.3 in omega arith) in
+        ap (λ (xs : List Made). m ∷ xs) r.arranged ∙
+        numbers-step (extent_of script.shape) (length script.threads) e m newest.0 newest.1 ms r.here h.thread newest.2 phase (h.number ∙ sym newest.4)
+
+-- the operation is over: the thread's newest step is one of an operation before
+pub ahead-outside : (script : Script) (s : Stage) (p : ℕ) (t : Thread) (newest : Made) (rest ms left : List Made) → s.places ≡ [] → 1 ≤ p → 1 ≤ s.begun → slice_get s.threads p ≡ Some t → own p ms ≡ newest ∷ rest →
+    (has_step t ≡ true → IsBehind newest.point.operation (op_now t)) → IsAhead script 0 s ms left → IsAhead script p s ms left
+ahead-outside script s zero t newest rest ms left place first begun there own_is behind a = absurd (omega arith)
+ahead-outside script s (suc e) t newest rest ms left place first begun there own_is behind a = record {
+  later = a.later;
+  none = a.none;
+  some = a.some;
+  last = a.last;
+  order = rw place (record {
+    here = r.here;
+    later = r.later;
+    left_is = r.left_is;
+    all_in = r.all_in;
+    all_of = r.all_of;
+    none = r.none;
+    sorted = r.sorted;
+    behind = r.behind;
+    arranged = r.arranged ∙ sym (numbers-outside (extent_of script.shape) (length script.threads) e newest rest ms r.here own_is (all_behind (has_step t) refl));
+    rest = r.rest;
+  });
+}
+  where
+    r : RunsOut (extent_of script.shape) (length script.threads) (s.begun - 1) 0 s.threads ms left
+    r = subst (λ (ps : List ℕ). OrderFor (extent_of script.shape) (length script.threads) (s.begun - 1) 0 s.threads ps ms left) place a.order
+
+    all_behind : (b : Bool) → has_step t ≡ b → AllBehind newest.point.operation (own (suc e) r.here)
+    all_behind true has = all-behind newest.point.operation (op_now t) (own (suc e) r.here) (behind has) (r.behind (suc e) t first there has)
+    all_behind false has =
+        let nothing : own (suc e) r.here ≡ [] = none-here (s.begun - 1) (suc e) r.here r.later r.all_in (ap (λ (xs : List Made). steps_of (s.begun - 1) (suc e) xs) (sym r.left_is) ∙ a.none (suc e) t first there has begun) in
+        rw nothing tt
+
+-- the place's thread has no step, and another has one
+pub ahead-passes : (script : Script) (s : Stage) (p : ℕ) (places : List ℕ) (t : Thread) (ms left : List Made) → s.places ≡ p ∷ places → 1 ≤ p → slice_get s.threads p ≡ Some t → has_step t ≡ false → IsSome has_step s.threads →
+    1 ≤ s.begun → IsAhead script 0 (record s { places = places }) ms left → IsAhead script 0 s ms left
+ahead-passes script s p places t ms left place first there has other begun a = record {
+  later = a.later;
+  none = a.none;
+  some = a.some;
+  last = a.last;
   order = rw place (passes (a.none p t first there has begun) (λ e. a.some other.place other.thread other.other other.there other.passes (none-own (s.begun - 1) other.place left e))
-      (order-in (extent_of script.shape) (length script.threads) (s.begun - 1) places ms left calm a.order));
+      (order-in (extent_of script.shape) (length script.threads) (s.begun - 1) s.threads places ms left a.order));
 }
 
 -- the next phase begins
-pub ahead-begins : (script : Script) (s : Stage) (threads : List Thread) (ms left : List Made) → IsNone has_step s.threads → AreCalm (extent_of script.shape) ms →
-    IsAhead script (record s { begun = s.begun + 1; threads = threads }) ms left → IsAhead script s ms left
-ahead-begins script s threads ms left quiet calm a = record {
+pub ahead-begins : (script : Script) (s : Stage) (threads : List Thread) (ms left : List Made) → IsNone has_step s.threads → ((u : Thread) → slice_get s.threads 0 ≡ Some u → slice_get threads 0 ≡ Some u) →
+    IsAhead script 0 (record s { begun = s.begun + 1; threads = threads }) ms left → IsAhead script 0 s ms left
+ahead-begins script s threads ms left quiet same a = record {
   later = weaker left a.later;
   none = λ p t first there has some. later-none (s.begun - 1) (own p left) (later-own (s.begun - 1) p left (later s.begun some left a.later));
   some = λ p t first there has e. (let f = quiet p t first there in absurd (cc));
+  last = λ t there e. a.last t (same t there) e;
   order = go s.begun s.places a.later a.order;
 }
   where
-    weaker : (xs : List Made) → AllByRecursion (λ m. s.begun + 1 ≤ m.point.phase + 1) xs → AllByRecursion (λ m. s.begun ≤ m.point.phase + 1) xs
+    weak : (x : Made) → IsToCome (s.begun + 1) x → IsToCome s.begun x
+    weak x (inl first) = inl first
+    weak x (inr more) = inr (omega arith)
+
+    weaker : (xs : List Made) → AllByRecursion (IsToCome (s.begun + 1)) xs → AllByRecursion (IsToCome s.begun) xs
     weaker [] h = tt
-    weaker (x ∷ xs) h = (let e = h.0 in omega arith, weaker xs h.1)
+    weaker (x ∷ xs) h = (weak x h.0, weaker xs h.1)
 
-    later : (n : ℕ) → 1 ≤ n → (xs : List Made) → AllByRecursion (λ m. n + 1 ≤ m.point.phase + 1) xs → AreLater (n - 1) xs
+    one : (n : ℕ) → 1 ≤ n → (x : Made) → IsToCome (n + 1) x → IsLater (n - 1) x
+    one n some x (inl first) = inl first
+    one n some x (inr more) = inr (omega arith)
+
+    later : (n : ℕ) → 1 ≤ n → (xs : List Made) → AllByRecursion (IsToCome (n + 1)) xs → AreLater (n - 1) xs
     later n some [] h = tt
-    later n some (x ∷ xs) h = (let e = h.0 in omega arith, later n some xs h.1)
+    later n some (x ∷ xs) h = (one n some x h.0, later n some xs h.1)
 
-    go : (n : ℕ) (places : List ℕ) → AllByRecursion (λ m. n + 1 ≤ m.point.phase + 1) left → OrderFor (extent_of script.shape) (length script.threads) (n + 1 - 1) places ms left →
-        OrderFor (extent_of script.shape) (length script.threads) (n - 1) places ms left
-    go zero places h o = o
+    go : (n : ℕ) (places : List ℕ) → AllByRecursion (IsToCome (n + 1)) left → OrderFor (extent_of script.shape) (length script.threads) (n + 1 - 1) 0 threads places ms left →
+        OrderFor (extent_of script.shape) (length script.threads) (n - 1) 0 s.threads places ms left
+    go zero (p ∷ places) h o = o
+    go zero [] h o = record {
+      here = o.here;
+      later = o.later;
+      left_is = o.left_is;
+      all_in = o.all_in;
+      all_of = o.all_of;
+      none = o.none;
+      sorted = o.sorted;
+      behind = λ p t first there has. (let f = quiet p t first there in absurd (cc));
+      arranged = o.arranged;
+      rest = o.rest;
+    }
     go (suc n) [] h o =
         let same : suc n + 1 - 1 ≡ suc n - 1 + 1 = omega arith in
         record {
@@ -304,22 +435,79 @@ ahead-begins script s threads ms left quiet calm a = record {
           later = left;
           left_is = refl;
           all_in = tt;
+          all_of = tt;
           none = later-none (suc n - 1) left (later (suc n) (omega arith) left h);
-          sorted = sym (in-turn-none (length script.threads) (λ p. []) (λ p some few. refl));
-          rest = subst (λ (m : ℕ). InOrder (extent_of script.shape) (length script.threads) m [] ms left) same (order-in (extent_of script.shape) (length script.threads) (suc n + 1 - 1) [] ms left calm o);
+          sorted = λ p first. tt;
+          behind = λ p t first there has. tt;
+          arranged = sym (nothing-here (extent_of script.shape) (length script.threads) ms);
+          rest = subst (λ (m : ℕ). InOrder (extent_of script.shape) (length script.threads) m [] ms left) same (order-in (extent_of script.shape) (length script.threads) (suc n + 1 - 1) threads [] ms left o);
         }
     go (suc n) (p ∷ places) h o =
         let same : suc n + 1 - 1 ≡ suc n - 1 + 1 = omega arith in
         next_phase (later-none (suc n - 1) left (later (suc n) (omega arith) left h)) (subst (λ (m : ℕ). InOrder (extent_of script.shape) (length script.threads) m (p ∷ places) ms left) same o)
 
--- thread 0 is none of those that have steps here
-pub ahead-last : (script : Script) (s : Stage) (new : Thread) (ms left : List Made) → IsAhead script (record s { threads = set s.threads 0 new }) ms left → IsAhead script s ms left
-ahead-last script s new ms left a = record {
+-- thread 0 begins, where no other has a step
+pub ahead-last : (script : Script) (s : Stage) (t new : Thread) (ms left : List Made) → slice_get s.threads 0 ≡ Some t → awaits_phase t ≡ true → IsAhead script 0 (record s { threads = set s.threads 0 new }) ms left → IsAhead script 0 s ms left
+ahead-last script s t new ms left there waits a = record {
   later = a.later;
   none = λ p t first there has some. a.none p t first (get-other s.threads 0 p new (apart-first p first) ∙ there) has some;
   some = λ p t first there has e. a.some p t first (get-other s.threads 0 p new (apart-first p first) ∙ there) has e;
-  order = a.order;
+  last = λ u at e. (let same : t ≡ u = (let f : Some t ≡ Some u = sym there ∙ at in cc) in let g : awaits_phase u ≡ true = subst (λ (v : Thread). awaits_phase v ≡ true) same waits in absurd (cc));
+  order = go s.places a.order;
 }
   where
     apart-first : (p : ℕ) → 1 ≤ p → 0 ≡ p → ⊥
     apart-first p first e = let f : 0 ≡ p = e in absurd (omega arith)
+
+    go : (places : List ℕ) → OrderFor (extent_of script.shape) (length script.threads) (s.begun - 1) 0 (set s.threads 0 new) places ms left → OrderFor (extent_of script.shape) (length script.threads) (s.begun - 1) 0 s.threads places ms left
+    go (p ∷ places) o = o
+    go [] o = record {
+      here = o.here;
+      later = o.later;
+      left_is = o.left_is;
+      all_in = o.all_in;
+      all_of = o.all_of;
+      none = o.none;
+      sorted = o.sorted;
+      behind = λ p u first there has. o.behind p u first (get-other s.threads 0 p new (apart-first p first) ∙ there) has;
+      arranged = o.arranged;
+      rest = o.rest;
+    }
+
+-- where all steps to come are thread 0's, they stand in order
+pub ends-order : (l : Extent) (n phase : ℕ) (threads : List Thread) (places : List ℕ) (ms left : List Made) → AllByRecursion (λ m. m.point.thread ≡ 0) left → OrderFor l n phase 0 threads places ms left
+ends-order l n phase threads (p ∷ places) ms left h = ends (All-from_recursion (λ m. m.point.thread ≡ 0) left h)
+ends-order l n phase threads [] ms left h = record {
+  here = [];
+  later = left;
+  left_is = refl;
+  all_in = tt;
+  all_of = tt;
+  none = later-none phase left (zero-later left h);
+  sorted = λ p first. tt;
+  behind = λ p t first there has. tt;
+  arranged = sym (nothing-here l n ms);
+  rest = ends (All-from_recursion (λ m. m.point.thread ≡ 0) left h);
+}
+  where
+    zero-later : (xs : List Made) → AllByRecursion (λ m. m.point.thread ≡ 0) xs → AreLater phase xs
+    zero-later [] h = tt
+    zero-later (x ∷ xs) h = (inl h.0, zero-later xs h.1)
+
+-- thread 0 makes a step, where no other has one
+pub ahead-last-step : (script : Script) (s : Stage) (new : Thread) (m : Made) (ms left : List Made) → m.point.thread ≡ 0 → IsNone has_step s.threads → slice_get (set s.threads 0 new) 0 ≡ Some new → awaits_phase new ≡ false →
+    (after : Stage) → (after.begun ≡ s.begun) × (after.threads ≡ set s.threads 0 new) → IsAhead script 0 after (m ∷ ms) left → IsAhead script 0 s ms (m ∷ left)
+ahead-last-step script s new m ms left thread quiet there begun after same a = record {
+  later = (inl thread, subst (λ (n : ℕ). AllByRecursion (IsToCome n) left) same.0 a.later);
+  none = λ p t first at has some. none-own (s.begun - 1) p (m ∷ left) (later-none (s.begun - 1) (m ∷ left) (zero-later (m ∷ left) all));
+  some = λ p t first at has e. (let f = quiet p t first at in absurd (cc));
+  last = λ u at e. all;
+  order = ends-order (extent_of script.shape) (length script.threads) (s.begun - 1) s.threads s.places ms (m ∷ left) all;
+}
+  where
+    all : AllByRecursion (λ m. m.point.thread ≡ 0) (m ∷ left)
+    all = (thread, a.last new (subst (λ (ts : List Thread). slice_get ts 0 ≡ Some new) (sym same.1) there) begun)
+
+    zero-later : (xs : List Made) → AllByRecursion (λ m. m.point.thread ≡ 0) xs → AreLater (s.begun - 1) xs
+    zero-later [] h = tt
+    zero-later (x ∷ xs) h = (inl h.0, zero-later xs h.1)

@@ -1,5 +1,5 @@
 -- Operations and drops begin, and the scope ends.
-use Rattle.std.proofs.Common.{◌≡◌, ◌≢◌, ℕ, zero, suc, ◌+◌, ◌<◌, ◌≤◌, Bool, true, false, not, cond, ltb, List, [], ◌∷◌, length, map, take, drop, set, get_or, Option, Some, None, ◌⊎◌, inl, inr, refl, sym, ap, subst, ◌∙◌, arith, add-one}
+use Rattle.std.proofs.Common.{◌≡◌, ◌≢◌, ℕ, zero, suc, ◌+◌, ◌<◌, ◌≤◌, Bool, true, false, not, cond, eqb, ltb, List, [], ◌∷◌, length, map, take, drop, set, get_or, Option, Some, None, ◌⊎◌, inl, inr, refl, sym, ap, subst, ◌∙◌, arith, add-one}
 use Rattle.std.proofs.lemmas.Bool.{ltb-true, ltb-false, lt-ltb, cases_lt}
 use Rattle.std.proofs.Math.ListN.{get_or-map}
 use Rattle.std.proofs.lemmas.List.{map-set, set-get_or, length-set, length-map, get_or-set_same, get_or-set_other, drop_all}
@@ -7,7 +7,7 @@ use Rattle.std.proofs.lemmas.List.Elements.{All-set, recursion_from_All}
 use Rattle.std.proofs.lemmas.List.Quantifiers.{position-Some}
 use Rattle.std.proofs.lemmas.List.Sums.{prefix_len_passes}
 use Rattle.std.proofs.lemmas.Option.{slice_get_within, same_Some, slice_get-map}
-use Rattle.std.specs.Prelude.{slice_get, position, is_some}
+use Rattle.std.specs.Prelude.{◌&&◌, slice_get, position, is_some}
 use Rattle.std.specs.List.{prefix_len, AllByRecursion}
 use Rattle.std.specs.Option.{option_map}
 use Rattle.arc_model.specs.declared.answer.Answer.TheVariants as answers
@@ -20,8 +20,14 @@ use Rattle.arc_side.specs.declared.up.UpAnswer.{UpAnswer}
 use Rattle.arc_side.specs.declared.down.DownAnswer.{DownAnswer}
 use Rattle.arc_side.specs.Ups.{Rise}
 use Rattle.arc_side.specs.Downs.{Fall}
+use Rattle.arc_cells.specs.declared.begin.BeginAnswer.{BeginAnswer}
+use Rattle.arc_cells.specs.declared.swap.SwapAnswer.{SwapAnswer}
+use Rattle.arc_cells.specs.Begins.{Beginning}
+use Rattle.arc_cells.specs.Swaps.{SwapAttempt}
 use Rattle.arc_script.specs.declared.script.Op.{Op}
 use Rattle.arc_script.specs.declared.script.Op.TheVariants as op
+use Rattle.arc_script.specs.declared.script.OpCell.TheVariants as opcell
+use Rattle.arc_script.specs.Valid.{begins_block}
 use Rattle.arc_script.specs.OneList.{in_one_list, moved_behind, numbered}
 use Rattle.arc_script.proofs.OneList.{length_in_one}
 use Rattle.arc_ops.specs.declared.stepper.Held.{Held}
@@ -32,15 +38,18 @@ use Rattle.arc_ops.specs.Served.{IsServedOp}
 use Rattle.arc_ops.specs.declared.gain.Gain.{Gain}
 use Rattle.arc_ops.specs.declared.gain.Gain.TheVariants as gains
 use Rattle.arc_ops.specs.Thread.{Thread, value, is_held, put, set_var}
-use Rattle.arc_ops.specs.Plans.{op_of, drop_from, creation_from, gain_from, gain_begun, drop_begun}
+use Rattle.arc_ops.specs.declared.cell.Cell.{Cell}
+use Rattle.arc_ops.specs.Cells.{global_of, open_from, open_begun, swap_from, set_begun, clear_begun}
+use Rattle.arc_ops.specs.Cells as in-cell
+use Rattle.arc_ops.specs.Plans.{op_of, of_hand, drop_from, creation_from, gain_from, gain_begun, drop_begun}
 use Rattle.arc_ops.specs.Begins.{skipped, moved, begun_nil, begun_gain, begun_move, begun_drop, phase_over, begun_op, begun_at, begun, scope_drop, scope_at, scope_begun, next_op}
 use Rattle.arc_ops.specs.Drops.{replaced_old, replaced}
 use Rattle.arc_ops.specs.Steppers.{IsHeld, HeldFits}
 use Rattle.arc_spelled.proofs.KindsKept.{kinds-set, kinds-nil, fits-some}
 use Rattle.arc_schedule.specs.Made.{Point, Made}
-use Rattle.arc_schedule.specs.Plans.{Plan, Starts, new_object, down}
+use Rattle.arc_schedule.specs.Plans.{Plan, Starts, new_object, down, begin_access, swap}
 use Rattle.arc_schedule.specs.Plans.Starts.{first as starts_first}
-use Rattle.arc_schedule.specs.Operations.{State, Holding, Variables, Drops, Does, forms, goes_on}
+use Rattle.arc_schedule.specs.Operations.{State, Holding, Variables, Drops, Does, forms, goes_on, word_of, hand_of}
 use Rattle.arc_schedule.specs.Operations.Drops.{nothing as drops_nothing}
 use Rattle.arc_schedule.specs.Operations.Does.{forms_nil, moves as does_move, moves_nil, drops as does_drop}
 use Rattle.arc_schedule.specs.Operations as operations
@@ -49,9 +58,10 @@ use Rattle.arc_schedule.specs.Threads.OpsDone.{none as ops_none, one as ops_one,
 use Rattle.arc_schedule.specs.Threads.PhasesDone.{one as phases_one}
 use Rattle.arc_schedule.specs.Threads.ScopeEnds.{none as scope_none, one as scope_one}
 use Rattle.arc_ops.proofs.Counts.{first_few, first_all}
-use Rattle.arc_schedule.proofs.Lists.{there-is, all-there, get-drop, nothing-left}
+use Rattle.arc_schedule.proofs.Lists.{not-equal, there-is, all-there, get-drop, nothing-left}
 use Rattle.arc_schedule.proofs.Phases.{all-ops, phase-next, phase-rest}
-use Rattle.arc_schedule.proofs.Stands.{waits, begun-from, Task, Job, kinds_here, start_of, ref, refs, state_of, AreDone, here, IsInScope, IsOverIf, IsOver, AreServed, gain_plan, Works, WorksAt, AreIn, Stands}
+use Rattle.arc_schedule.proofs.Newest.{IsHere, IsPast, Newest, Passed, passed-on, passed-phase, passed-here, passed-scope, passed-it}
+use Rattle.arc_schedule.proofs.Stands.{waits, begun-from, Task, Job, kinds_here, start_of, ref, refs, state_of, AreDone, here, IsInScope, IsOverIf, IsOver, AreServed, IsGlobalOf, gain_plan, Works, WorksAt, IsAt, AreIn, Stands}
 
 -- ---- variables
 
@@ -134,7 +144,7 @@ on-within vars i end (op.IfSome v past) below g = go (is_some (operations.value 
     go true = (omega arith, omega arith)
     go false = g
 
-done-within : {kinds : List Kind} {shape : HeapShape} {thread phase : ℕ} {ops : List Op} {first : State} {b : List Made} {i : ℕ} {state : State} {now : List Made} → AreServed kinds ops → OpsDone shape thread phase ops first b i state now → i ≤ length ops
+done-within : {kinds : List Kind} {shape : HeapShape} {thread phase : ℕ} {ops : List Op} {first : State} {b : List Made} {i : ℕ} {state : State} {now : List Made} → AreServed shape kinds ops → OpsDone shape thread phase ops first b i state now → i ≤ length ops
 done-within served ops_none = omega arith
 done-within {ops = ops} served (ops_one {i = i} {o = o} d there x) = let h = slice_get_within ops i o there in omega arith
 done-within {ops = ops} served (ops_block {i = i} {n = n} {o = o} {state = state} d there begins goes further) =
@@ -182,13 +192,35 @@ works-at {n = n} k j i next t index works place = record {
 works-next : {n : ℕ} (k : Task) (j : Job k) (i : ℕ) (t : Thread) → WorksAt k j i n t → Works k j (i + 1) n t.layout t.shape t.thread t.phases t.program t.phase (t.index + 1)
 works-next {n = n} k j i t works = works-at k j i (i + 1) t (t.index + 1) works (let h = works.index_is in omega arith)
 
+-- ---- where the newest step is
+
+pub here-is : (k : Task) (j : Job k) (i : ℕ) → i < length j.ops → here k j i ≡ point_of k.thread j.phase (numbered (take (i + 1) j.ops))
+here-is k j i within = rw (lt-ltb i (length j.ops) within) refl
+
+-- the operation at this place is under way
+pub is-at : (k : Task) (j : Job k) (i : ℕ) (o : Op) → slice_get j.ops i ≡ Some o → begins_block o ≡ false → IsAt k j i
+is-at k j i o there plain = record { numbered = λ within. (o, there, plain); scope = λ most. (let within = slice_get_within j.ops i o there in absurd (omega arith)) }
+
+-- it has made no step yet
+newest-first : (k : Task) (j : Job k) (i : ℕ) (o : Op) (now : List Made) → slice_get j.ops i ≡ Some o → begins_block o ≡ false → Passed j.phase j.ops i now → Newest (here k j i) true now
+newest-first k j i o now there plain passed =
+    let Q : Point → Type 0 = λ (p : Point). IsPast p now in
+    inr (subst Q (sym (here-is k j i (slice_get_within j.ops i o there))) (passed-here k.thread j.phase j.ops i o now there plain passed), inl refl)
+
+-- the operation is done, and its last step is the newest
+passed-op : (k : Task) (j : Job k) (i : ℕ) (now : List Made) → IsAt k j i → i < length j.ops → IsHere (here k j i) now → Passed j.phase j.ops (i + 1) now
+passed-op k j i now at within h =
+    let o = at.numbered within in
+    let Q : Point → Type 0 = λ (p : Point). IsHere p now in
+    passed-it k.thread j.phase j.ops i o.0 now o.1 o.2 (subst Q (here-is k j i within) h)
+
 -- ---- plans begin
 
 -- the release of a reference begins
-pub drop-asks : {n : ℕ} (k : Task) (j : Job k) (i : ℕ) (t : Thread) (held : Held) (now begin : List Made) → WorksAt k j i n t → AreIn k t.vars → IsHeld k.shape.slots held →
+pub drop-asks : {n : ℕ} (k : Task) (j : Job k) (i : ℕ) (t : Thread) (held : Held) (now begin : List Made) → WorksAt k j i n t → AreIn k t.vars → IsAt k j i → Newest (here k j i) t.first now → IsHeld k.shape.slots held →
     Starts (down (extent_of k.shape) held.kind held.place held.hand) (here k j i) begin now →
     ((after : List Made) → Drops k.shape (here k j i) (ref (Some held)) begin after → IsOver k j i t.vars t.made t.hands after) → Stands k n (drop_begun held t) now
-drop-asks {n = n} k j i t held now begin works vars inside starts ends =
+drop-asks {n = n} k j i t held now begin works vars at newest inside starts ends =
     let plan : Plan Fall DownAnswer = down (extent_of k.shape) held.kind held.place held.hand in
     let same : plan.start ≡ drop_from held t = rw works.layout_is refl in
     record {
@@ -198,6 +230,7 @@ drop-asks {n = n} k j i t held now begin works vars inside starts ends =
       phased = refl;
       works = works;
       vars_in = vars;
+      placed = (at, newest);
       up_to = record {
         base = begin;
         ends = ends;
@@ -208,12 +241,12 @@ drop-asks {n = n} k j i t held now begin works vars inside starts ends =
     }
 
 -- a reference is gained of another
-pub gain-asks : {n : ℕ} (k : Task) (j : Job k) (i : ℕ) (gain : Gain) (to from : ℕ) (t : Thread) (held : Held) (now begin : List Made) → WorksAt k j i n t → AreIn k t.vars →
+pub gain-asks : {n : ℕ} (k : Task) (j : Job k) (i : ℕ) (gain : Gain) (to from : ℕ) (t : Thread) (held : Held) (now begin : List Made) → WorksAt k j i n t → AreIn k t.vars → IsAt k j i → Newest (here k j i) t.first now →
     AreDone k j i (state_of t.vars t.made t.hands) begin → slice_get j.ops i ≡ Some (op_of gain to from) → value t.vars from ≡ Some held →
-    Starts (gain_plan k gain held t.hands) (here k j i) begin now → Stands k n (gain_begun gain to held t) now
-gain-asks {n = n} k j i gain to from t held now begin works vars done there source starts =
+    Starts (gain_plan k gain held t.hands) (here k j i) begin now → Stands k n (gain_begun gain to (of_hand held) t) now
+gain-asks {n = n} k j i gain to from t held now begin works vars at newest done there source starts =
     let plan : Plan Rise UpAnswer = gain_plan k gain held t.hands in
-    let same : plan.start ≡ gain_from gain held t = rw (works.layout_is, works.shape_is) refl in
+    let same : plan.start ≡ gain_from gain (of_hand held) t = rw (works.layout_is, works.shape_is) refl in
     record {
       job = j;
       at = i;
@@ -221,15 +254,73 @@ gain-asks {n = n} k j i gain to from t held now begin works vars done there sour
       phased = refl;
       works = works;
       vars_in = vars;
+      placed = (at, newest);
       up_to = record {
         base = begin;
         from = from;
         done = done;
         there = there;
         source = source;
-        waits = waits plan (here k j i) begin now _ _ (begun-from plan (here k j i) begin now (gain_from gain held t) starts same);
+        waits = waits plan (here k j i) begin now _ _ (begun-from plan (here k j i) begin now (gain_from gain (of_hand held) t) starts same);
         inside = held-in k t.vars from held vars source;
         bare = refl;
+      };
+    }
+
+-- an access to a global begins
+pub open-asks : {n : ℕ} (k : Task) (j : Job k) (i to : ℕ) (cell : Cell) (of : IsGlobalOf k.shape cell.name cell.kind) (t : Thread) (now begin : List Made) → WorksAt k j i n t → AreIn k t.vars → IsAt k j i → Newest (here k j i) t.first now →
+    AreDone k j i (state_of t.vars t.made t.hands) begin → slice_get j.ops i ≡ Some (op.Get to (opcell.Global of.global)) →
+    Starts (begin_access (extent_of k.shape) of.global) (here k j i) begin now → Stands k n (open_begun to cell t) now
+open-asks {n = n} k j i to cell of t now begin works vars at newest done there starts =
+    let plan : Plan Beginning BeginAnswer = begin_access (extent_of k.shape) of.global in
+    let same : plan.start ≡ open_from cell t = rw (works.layout_is, of.name_is) refl in
+    record {
+      job = j;
+      at = i;
+      phases = n;
+      phased = refl;
+      works = works;
+      vars_in = vars;
+      placed = (at, newest);
+      up_to = record {
+        of = of;
+        base = begin;
+        done = done;
+        there = there;
+        waits = waits plan (here k j i) begin now _ _ (begun-from plan (here k j i) begin now (open_from cell t) starts same);
+        word = tt;
+      };
+    }
+
+pub word-is : (o : Option Held) → word_of (ref o) ≡ in-cell.word_of o
+word-is None = refl
+word-is (Some h) = refl
+
+-- the plan of a variable's reference, or nil, that comes into a global
+abbrev pub set-plan : Task → ℕ → Option Held → ℕ → Plan SwapAttempt SwapAnswer
+set-plan k g put hands = swap (extent_of k.shape) g (word_of (ref put)) (hand_of (ref put)) (hands + 1)
+
+pub set-asks : {n : ℕ} (k : Task) (j : Job k) (i from : ℕ) (cell : Cell) (of : IsGlobalOf k.shape cell.name cell.kind) (t : Thread) (now begin : List Made) → WorksAt k j i n t → AreIn k t.vars → IsAt k j i → Newest (here k j i) t.first now →
+    AreDone k j i (state_of t.vars t.made t.hands) begin → slice_get j.ops i ≡ Some (op.Set (opcell.Global of.global) from) →
+    Starts (set-plan k of.global (value t.vars from) t.hands) (here k j i) begin now → Stands k n (set_begun from cell t) now
+set-asks {n = n} k j i from cell of t now begin works vars at newest done there starts =
+    let plan : Plan SwapAttempt SwapAnswer = set-plan k of.global (value t.vars from) t.hands in
+    let same : plan.start ≡ swap_from cell.name (value t.vars from) t = rw (works.layout_is, of.name_is, word-is (value t.vars from)) refl in
+    record {
+      job = j;
+      at = i;
+      phases = n;
+      phased = refl;
+      works = works;
+      vars_in = vars;
+      placed = (at, newest);
+      up_to = record {
+        of = of;
+        base = begin;
+        done = done;
+        there = there;
+        waits = waits plan (here k j i) begin now _ _ (begun-from plan (here k j i) begin now (swap_from cell.name (value t.vars from) t) starts same);
+        word = tt;
       };
     }
 
@@ -251,21 +342,24 @@ scope-skips {shape = shape} {point = point} {vars = vars} {b = b} {ns = ns} {v =
             let one : ScopeEnds shape point vars b (w + 1) ns = scope_one (before above) d in
             rw (← add-one) one
 
-scopes : {n : ℕ} (k : Task) (j : Job k) (i : ℕ) (t : Thread) (now : List Made) → WorksAt k j i n t → AreIn k t.vars → ltb i (length j.ops) ≡ false → IsInScope k j t.vars now → Stands k n (scope_begun t) now
-scopes {n = n} k j i t now works vars past s = go (position is_held t.vars) refl
+scopes : {n : ℕ} (k : Task) (j : Job k) (i : ℕ) (t : Thread) (now : List Made) → WorksAt k j i n t → AreIn k t.vars → ltb i (length j.ops) ≡ false → Newest (here k j i) t.first now → IsInScope k j t.vars now → Stands k n (scope_begun t) now
+scopes {n = n} k j i t now works vars past newest s = go (position is_held t.vars) refl
   where
     point_is : here k j i ≡ point_of k.thread j.phase 0
     point_is = rw past refl
 
+    at : IsAt k j i
+    at = record { numbered = λ within. (let most = ltb-false i (length j.ops) past in absurd (omega arith)); scope = λ most. s.last }
+
     held : (v : ℕ) (h : Held) → value t.vars v ≡ Some h → v < length t.vars → ((u : ℕ) → u < v → is_held (value t.vars u) ≡ false) → Stands k n (drop_begun h (set_var v None t)) now
-    held v h e within before = drop-asks k j i (set_var v None t) h now now works (nil-in k t.vars v vars) (held-in k t.vars v h vars e) starts_first (λ after x. rw past (over after x))
+    held v h e within before = drop-asks k j i (set_var v None t) h now now works (nil-in k t.vars v vars) at newest (held-in k t.vars v h vars e) starts_first (λ after x. rw past (over after x))
       where
         above : s.below ≤ v
-        above = at (cases_lt v s.below)
+        above = go (cases_lt v s.below)
           where
-            at : (v < s.below) ⊎ (s.below ≤ v) → s.below ≤ v
-            at (inl below) = let n = s.nils v below in absurd (cc)
-            at (inr most) = most
+            go : (v < s.below) ⊎ (s.below ≤ v) → s.below ≤ v
+            go (inl below) = let n = s.nils v below in absurd (cc)
+            go (inr most) = most
 
         others : (u : ℕ) → u < v → value t.vars u ≡ None
         others u below = not-held (value t.vars u) (before u below)
@@ -299,13 +393,14 @@ scopes {n = n} k j i t now works vars past s = go (position is_held t.vars) refl
             }
 
     go : (o : Option ℕ) → position is_held t.vars ≡ o → Stands k n (scope_at o t) now
-    go None e = record {
+    go None e = subst (λ (b : Bool). Stands k n (cond (b && ltb t.cleared t.layout.globals) (clear_begun t) (record t { doing = Ended; asked = moves.Ended })) now) (sym no_end) (record {
       job = j;
       at = i;
       phases = n;
       phased = tt;
       works = works;
       vars_in = vars;
+      placed = tt;
       up_to = (
         refl,
         record {
@@ -317,22 +412,25 @@ scopes {n = n} k j i t now works vars past s = go (position is_held t.vars) refl
           scope = rw s.count (scope-skips s.ends (length t.vars) s.within (λ u from below. s.rest u from ∙ ap ref (none-held t.vars e u below)));
         },
       );
-    }
-    go (Some v) e = at (value t.vars v) refl found.1
+    })
+      where
+        no_end : eqb t.thread 0 ≡ false
+        no_end = not-equal t.thread 0 (λ (z : t.thread ≡ 0). (let f = works.thread_is in let o = k.other in absurd (omega arith)))
+    go (Some v) e = drop-it (value t.vars v) refl found.1
       where
         found : (v < length t.vars) × (is_held (get_or t.vars v None) ≡ true) × ((k : ℕ) → k < v → is_held (get_or t.vars k None) ≡ false)
         found = position-Some is_held t.vars v None e
 
-        at : (o : Option Held) → value t.vars v ≡ o → is_held o ≡ true → Stands k n (scope_drop v o t) now
-        at None f g = absurd (cc)
-        at (Some h) f g = held v h f found.0 found.2
+        drop-it : (o : Option Held) → value t.vars v ≡ o → is_held o ≡ true → Stands k n (scope_drop v o t) now
+        drop-it None f g = absurd (cc)
+        drop-it (Some h) f g = held v h f found.0 found.2
 
 -- ---- the next operation
 
 -- the operations of the phase are done: the next phase is to begin, or the scope ends
-phase-ends : {n : ℕ} (k : Task) (j : Job k) (i : ℕ) (t : Thread) (now : List Made) → WorksAt k j i n t → AreIn k t.vars → i ≡ length j.ops → AreDone k j i (state_of t.vars t.made t.hands) now →
+phase-ends : {n : ℕ} (k : Task) (j : Job k) (i : ℕ) (t : Thread) (now : List Made) → WorksAt k j i n t → AreIn k t.vars → i ≡ length j.ops → Passed j.phase j.ops i now → AreDone k j i (state_of t.vars t.made t.hands) now →
     Stands k n (phase_over t) now
-phase-ends {n = n} k j i t now works vars at_end d = go (ltb (t.phase + 1) (length t.phases)) refl
+phase-ends {n = n} k j i t now works vars at_end passed d = go (ltb (t.phase + 1) (length t.phases)) refl
   where
     phases_are : t.phases ≡ k.decl.phases
     phases_are = works.phases_is
@@ -365,6 +463,7 @@ phase-ends {n = n} k j i t now works vars at_end d = go (ltb (t.phase + 1) (leng
             begun_is = ap (λ (m : ℕ). m + 1) works.begun_is;
           };
           vars_in = vars;
+          placed = passed-phase j.phase (j.phase + 1) j.ops h.0 i 0 now (omega arith) passed;
           up_to = (refl, ops_none);
         }
 
@@ -380,7 +479,9 @@ phase-ends {n = n} k j i t now works vars at_end d = go (ltb (t.phase + 1) (leng
         let many : length t.phases ≡ length k.decl.phases = ap (λ (ps : List (List Op)). length ps) phases_are in
         let within = slice_get_within k.decl.phases j.phase j.ops j.there in
         let past : ltb i (length j.ops) ≡ false = over_all (ltb i (length j.ops)) refl in
-        scopes k j i t now works vars past (record {
+        let Q : Point → Type 0 = λ (p : Point). Newest p t.first now in
+        let point_is : here k j i ≡ point_of k.thread j.phase 0 = rw past refl in
+        scopes k j i t now works vars past (subst Q (sym point_is) (inr (passed-scope k.thread j.phase j.ops i now passed, inr refl))) (record {
           last = omega arith;
           behind = state_of t.vars t.made t.hands;
           worked = now;
@@ -398,14 +499,14 @@ phase-ends {n = n} k j i t now works vars at_end d = go (ltb (t.phase + 1) (leng
         over_all false e = e
 
 -- a nil reference makes the variable nil, and what that held is dropped
-nil-begins : {n : ℕ} (k : Task) (j : Job k) (i : ℕ) (t : Thread) (now : List Made) → WorksAt k j i n t → AreIn k t.vars → i < length j.ops → (to : ℕ) →
+nil-begins : {n : ℕ} (k : Task) (j : Job k) (i : ℕ) (t : Thread) (now : List Made) → WorksAt k j i n t → AreIn k t.vars → IsAt k j i → Newest (here k j i) true now → i < length j.ops → (to : ℕ) →
     ((old : Option Held) → value t.vars to ≡ old → (after : List Made) → Drops k.shape (here k j i) (ref old) now after → AreDone k j (i + 1) (state_of (set t.vars to None) t.made t.hands) after) →
     (rest : Thread → Thread) → (AreDone k j (i + 1) (state_of t.vars t.made t.hands) now → Stands k n (rest (skipped answers.Nil t)) now) →
     (old : Option Held) → value t.vars to ≡ old → Stands k n (begun_nil to old t rest) now
-nil-begins {n = n} k j i t now works vars within to done rest skip (Some old) e =
-    drop-asks k j i (set_var to None (put answers.Nil (record t { first = true }))) old now now works (nil-in k t.vars to vars) (held-in k t.vars to old vars e) starts_first
+nil-begins {n = n} k j i t now works vars at newest within to done rest skip (Some old) e =
+    drop-asks k j i (set_var to None (put answers.Nil (record t { first = true }))) old now now works (nil-in k t.vars to vars) at newest (held-in k t.vars to old vars e) starts_first
     (λ after x. over-done k j i (set t.vars to None) t.made t.hands after within (done (Some old) e after x))
-nil-begins {n = n} k j i t now works vars within to done rest skip None e =
+nil-begins {n = n} k j i t now works vars at newest within to done rest skip None e =
     let same : set t.vars to None ≡ t.vars = ap (λ (o : Option Held). set t.vars to o) (sym e) ∙ set-get_or t.vars to None in
     let Q : List (Option Held) → Type 0 = λ (vs : List (Option Held)). AreDone k j (i + 1) (state_of vs t.made t.hands) now in
     skip (subst Q same (done None e now drops_nothing))
@@ -415,13 +516,24 @@ gain-forms gains.Copy to from = refl
 gain-forms gains.Unown to from = refl
 gain-forms gains.Load to from = refl
 
+gain-plain : (gain : Gain) (to from : ℕ) → begins_block (op_of gain to from) ≡ false
+gain-plain gains.Copy to from = refl
+gain-plain gains.Unown to from = refl
+gain-plain gains.Load to from = refl
+
 -- a reference is formed for a variable from that in another
 gains-op : {n : ℕ} (k : Task) (j : Job k) (gain : Gain) (to from i : ℕ) (t : Thread) (now : List Made) → WorksAt k j i n t → AreIn k t.vars →
-    slice_get j.ops i ≡ Some (op_of gain to from) → AreDone k j i (state_of t.vars t.made t.hands) now → (rest : Thread → Thread) →
+    slice_get j.ops i ≡ Some (op_of gain to from) → Passed j.phase j.ops i now → AreDone k j i (state_of t.vars t.made t.hands) now → (rest : Thread → Thread) →
     ((on : ℕ) (u : Thread) → i < on → WorksAt k j on n u → AreIn k u.vars → AreDone k j on (state_of u.vars u.made u.hands) now → Stands k n (rest u) now) →
     Stands k n (begun_gain gain to (value t.vars from) (value t.vars to) t rest) now
-gains-op {n = n} k j gain to from i t now works vars there d rest next = go (value t.vars from) refl
+gains-op {n = n} k j gain to from i t now works vars there passed d rest next = go (value t.vars from) refl
   where
+    at : IsAt k j i
+    at = is-at k j i (op_of gain to from) there (gain-plain gain to from)
+
+    newest : Newest (here k j i) true now
+    newest = newest-first k j i (op_of gain to from) now there (gain-plain gain to from) passed
+
     nil_done : value t.vars from ≡ None → (old : Option Held) → value t.vars to ≡ old → (after : List Made) → Drops k.shape (here k j i) (ref old) now after →
         AreDone k j (i + 1) (state_of (set t.vars to None) t.made t.hands) after
     nil_done e old f after x =
@@ -430,17 +542,20 @@ gains-op {n = n} k j gain to from i t now works vars there d rest next = go (val
         (forms_nil (gain-forms gain to from) (value-ref t.vars from None e) (subst Q (sym (value-ref t.vars to old f)) x) (ap (λ (vs : Variables). record { vars = vs; made = t.made; hands = t.hands }) (put-ref t.vars to None)))
 
     go : (source : Option Held) → value t.vars from ≡ source → Stands k n (begun_gain gain to source (value t.vars to) t rest) now
-    go (Some h) e = gain-asks k j i gain to from (record t { first = true }) h now now works vars d there e starts_first
+    go (Some h) e = gain-asks k j i gain to from (record t { first = true }) h now now works vars at newest d there e starts_first
     go None e =
-        nil-begins k j i t now works vars (slice_get_within j.ops i (op_of gain to from) there) to (nil_done e) rest
+        nil-begins k j i t now works vars at newest (slice_get_within j.ops i (op_of gain to from) there) to (nil_done e) rest
         (λ done. next (i + 1) (skipped answers.Nil t) (omega arith) (works-next k j i t works) vars done) (value t.vars to) refl
 
+abbrev pub global-is : {n : ℕ} (k : Task) {j : Job k} {i : ℕ} (t : Thread) (g : ℕ) → WorksAt k j i n t → g < length k.shape.globals → IsGlobalOf k.shape (global_of t.shape g).name (global_of t.shape g).kind
+global-is k t g works there = record { global = g; there = there; name_is = refl; kind_is = rw works.shape_is refl }
+
 -- the operation begins, and where it asks for no step, the thread goes on behind it
-begins-op : {n : ℕ} (k : Task) (j : Job k) → AreServed (kinds_here k) j.ops → (o : Op) (i : ℕ) (t : Thread) (now : List Made) → WorksAt k j i n t → AreIn k t.vars →
-    slice_get j.ops i ≡ Some o → AreDone k j i (state_of t.vars t.made t.hands) now → (rest : Thread → Thread) →
+begins-op : {n : ℕ} (k : Task) (j : Job k) → AreServed k.shape (kinds_here k) j.ops → (o : Op) (i : ℕ) (t : Thread) (now : List Made) → WorksAt k j i n t → AreIn k t.vars →
+    slice_get j.ops i ≡ Some o → Passed j.phase j.ops i now → AreDone k j i (state_of t.vars t.made t.hands) now → (rest : Thread → Thread) →
     ((on : ℕ) (u : Thread) → i < on → WorksAt k j on n u → AreIn k u.vars → AreDone k j on (state_of u.vars u.made u.hands) now → Stands k n (rest u) now) →
     Stands k n (begun_op (moved_behind (start_of k j) o) t rest) now
-begins-op {n = n} k j served (op.New to class) i t now works vars there d rest next =
+begins-op {n = n} k j served (op.New to class) i t now works vars there passed d rest next =
     let name : ObjectName = record { class = class; thread = t.thread; number = t.made + 1 } in
     let same : record { layout = extent_of k.shape; name = name; immortal = (class_at k.shape class).immortal; at = search.Start } ≡ creation_from t name = rw (works.layout_is, works.shape_is) refl in
     record {
@@ -450,6 +565,7 @@ begins-op {n = n} k j served (op.New to class) i t now works vars there d rest n
       phased = refl;
       works = works;
       vars_in = vars;
+      placed = (is-at k j i (op.New to class) there refl, newest-first k j i (op.New to class) now there refl passed);
       up_to = record {
         base = now;
         before = t.made;
@@ -462,15 +578,21 @@ begins-op {n = n} k j served (op.New to class) i t now works vars there d rest n
         count = (refl, refl);
       };
     }
-begins-op {n = n} k j served (op.Copy to from) i t now works vars there d rest next = gains-op k j gains.Copy to from i t now works vars there d rest next
-begins-op {n = n} k j served (op.Unown to of) i t now works vars there d rest next = gains-op k j gains.Unown to of i t now works vars there d rest next
-begins-op {n = n} k j served (op.Load to of) i t now works vars there d rest next = gains-op k j gains.Load to of i t now works vars there d rest next
-begins-op {n = n} k j served (op.Move to from) i t now works vars there d rest next = moving (value t.vars from) refl (λ e.
+begins-op {n = n} k j served (op.Copy to from) i t now works vars there passed d rest next = gains-op k j gains.Copy to from i t now works vars there passed d rest next
+begins-op {n = n} k j served (op.Unown to of) i t now works vars there passed d rest next = gains-op k j gains.Unown to of i t now works vars there passed d rest next
+begins-op {n = n} k j served (op.Load to of) i t now works vars there passed d rest next = gains-op k j gains.Load to of i t now works vars there passed d rest next
+begins-op {n = n} k j served (op.Move to from) i t now works vars there passed d rest next = moving (value t.vars from) refl (λ e.
     next (i + 1) (skipped answers.Nil t) (omega arith) (works-next k j i t works) vars e) (λ h e x.
     next (i + 1) (moved to from h (skipped answers.Ok t)) (omega arith) (works-next k j i t works) (moved-in h e) x)
   where
     within : i < length j.ops
     within = slice_get_within j.ops i (op.Move to from) there
+
+    at : IsAt k j i
+    at = is-at k j i (op.Move to from) there refl
+
+    newest : Newest (here k j i) true now
+    newest = newest-first k j i (op.Move to from) now there refl passed
 
     moved-in : (h : Held) → value t.vars from ≡ Some h → AreIn k (set (set t.vars to (Some h)) from None)
     moved-in h e =
@@ -496,19 +618,25 @@ begins-op {n = n} k j served (op.Move to from) i t now works vars there d rest n
     moving : (source : Option Held) → value t.vars from ≡ source → (AreDone k j (i + 1) (state_of t.vars t.made t.hands) now → Stands k n (rest (skipped answers.Nil t)) now) →
         ((h : Held) → value t.vars from ≡ Some h → AreDone k j (i + 1) (state_of (set (set t.vars to (Some h)) from None) t.made t.hands) now → Stands k n (rest (moved to from h (skipped answers.Ok t))) now) →
         Stands k n (begun_move to from source (value t.vars to) t rest) now
-    moving None e skip on = nil-begins k j i t now works vars within to (nil_done e) rest skip (value t.vars to) refl
+    moving None e skip on = nil-begins k j i t now works vars at newest within to (nil_done e) rest skip (value t.vars to) refl
     moving (Some h) e skip on = dropping (value t.vars to) refl
       where
         dropping : (old : Option Held) → value t.vars to ≡ old → Stands k n (begun_move to from (Some h) old t rest) now
         dropping None f = on h e (moved_done h e None f now drops_nothing)
         dropping (Some old) f =
-            drop-asks k j i (moved to from h (put answers.Ok (record t { first = true }))) old now now works (moved-in h e) (held-in k t.vars to old vars f) starts_first
+            drop-asks k j i (moved to from h (put answers.Ok (record t { first = true }))) old now now works (moved-in h e) at newest (held-in k t.vars to old vars f) starts_first
             (λ after x. over-done k j i (set (set t.vars to (Some h)) from None) t.made t.hands after within (moved_done h e (Some old) f after x))
-begins-op {n = n} k j served (op.Drop v) i t now works vars there d rest next = dropping (value t.vars v) refl (λ e.
+begins-op {n = n} k j served (op.Drop v) i t now works vars there passed d rest next = dropping (value t.vars v) refl (λ e.
     next (i + 1) (skipped answers.Nil t) (omega arith) (works-next k j i t works) vars (stays e))
   where
     within : i < length j.ops
     within = slice_get_within j.ops i (op.Drop v) there
+
+    at : IsAt k j i
+    at = is-at k j i (op.Drop v) there refl
+
+    newest : Newest (here k j i) true now
+    newest = newest-first k j i (op.Drop v) now there refl passed
 
     dropped : (old : Option Held) → value t.vars v ≡ old → (after : List Made) → Drops k.shape (here k j i) (ref old) now after →
         AreDone k j (i + 1) (state_of (set t.vars v None) t.made t.hands) after
@@ -526,13 +654,19 @@ begins-op {n = n} k j served (op.Drop v) i t now works vars there d rest next = 
     dropping : (old : Option Held) → value t.vars v ≡ old → (value t.vars v ≡ None → Stands k n (rest (skipped answers.Nil t)) now) →
         Stands k n (begun_drop v old t rest) now
     dropping (Some old) e skip =
-        drop-asks k j i (set_var v None (put answers.Ok (record t { first = true }))) old now now works (nil-in k t.vars v vars) (held-in k t.vars v old vars e) starts_first
+        drop-asks k j i (set_var v None (put answers.Ok (record t { first = true }))) old now now works (nil-in k t.vars v vars) at newest (held-in k t.vars v old vars e) starts_first
         (λ after x. over-done k j i (set t.vars v None) t.made t.hands after within (dropped (Some old) e after x))
     dropping None e skip = skip e
-begins-op {n = n} k j served (op.Weak to of) i t now works vars there d rest next = absurd (all-there IsServedOp j.ops i (op.Weak to of) served.served there)
-begins-op {n = n} k j served (op.Get to cell) i t now works vars there d rest next = absurd (all-there IsServedOp j.ops i (op.Get to cell) served.served there)
-begins-op {n = n} k j served (op.Set cell from) i t now works vars there d rest next = absurd (all-there IsServedOp j.ops i (op.Set cell from) served.served there)
-begins-op {n = n} k j served (op.IfNil v past) i t now works vars there d rest next = go (is_held (value t.vars v)) refl
+begins-op {n = n} k j served (op.Weak to of) i t now works vars there passed d rest next = absurd (all-there IsServedOp j.ops i (op.Weak to of) served.served there)
+begins-op {n = n} k j served (op.Get to (opcell.Global g)) i t now works vars there passed d rest next =
+    open-asks k j i to (global_of t.shape g) (global-is k t g works (served.cells_fit i (op.Get to (opcell.Global g)) there)) (record t { first = true }) now now works vars
+    (is-at k j i (op.Get to (opcell.Global g)) there refl) (newest-first k j i (op.Get to (opcell.Global g)) now there refl passed) d there starts_first
+begins-op {n = n} k j served (op.Get to (opcell.Field owner field)) i t now works vars there passed d rest next = absurd (all-there IsServedOp j.ops i (op.Get to (opcell.Field owner field)) served.served there)
+begins-op {n = n} k j served (op.Set (opcell.Global g) from) i t now works vars there passed d rest next =
+    set-asks k j i from (global_of t.shape g) (global-is k t g works (served.cells_fit i (op.Set (opcell.Global g) from) there)) (record t { first = true }) now now works vars
+    (is-at k j i (op.Set (opcell.Global g) from) there refl) (newest-first k j i (op.Set (opcell.Global g) from) now there refl passed) d there starts_first
+begins-op {n = n} k j served (op.Set (opcell.Field owner field) from) i t now works vars there passed d rest next = absurd (all-there IsServedOp j.ops i (op.Set (opcell.Field owner field) from) served.served there)
+begins-op {n = n} k j served (op.IfNil v past) i t now works vars there passed d rest next = go (is_held (value t.vars v)) refl
   where
     go : (b : Bool) → is_held (value t.vars v) ≡ b → Stands k n (rest (record t { index = cond b (start_of k j + past) (t.index + 1) })) now
     go true e =
@@ -541,7 +675,7 @@ begins-op {n = n} k j served (op.IfNil v past) i t now works vars there d rest n
     go false e =
         next (i + 1) (record t { index = t.index + 1 }) (omega arith) (works-next k j i t works) vars
         (ops_block d there refl (ap (λ (b : Bool). cond b past (i + 1)) (sym e ∙ sym (block-is t.vars v))) (omega arith))
-begins-op {n = n} k j served (op.IfSome v past) i t now works vars there d rest next = go (is_held (value t.vars v)) refl
+begins-op {n = n} k j served (op.IfSome v past) i t now works vars there passed d rest next = go (is_held (value t.vars v)) refl
   where
     go : (b : Bool) → is_held (value t.vars v) ≡ b → Stands k n (rest (record t { index = cond b (t.index + 1) (start_of k j + past) })) now
     go true e =
@@ -552,22 +686,22 @@ begins-op {n = n} k j served (op.IfSome v past) i t now works vars there d rest 
         (ops_block d there refl (ap (λ (b : Bool). cond b (i + 1) past) (sym e ∙ sym (block-is t.vars v))) (served.forth i (op.IfSome v past) there).0)
 
 -- the first operation of the rest that asks for a step begins, or the phase is over
-pub begins : {n : ℕ} (k : Task) (j : Job k) → AreServed (kinds_here k) j.ops → (rest : List Op) (place at i : ℕ) (t : Thread) (now : List Made) → WorksAt k j i n t → AreIn k t.vars →
-    place ≡ start_of k j + at → at ≤ i → rest ≡ drop at (moved-ops k j) → AreDone k j i (state_of t.vars t.made t.hands) now → Stands k n (begun_at place rest t) now
-begins {n = n} k j served [] place at i t now works vars place_is least r d =
+pub begins : {n : ℕ} (k : Task) (j : Job k) → AreServed k.shape (kinds_here k) j.ops → (rest : List Op) (place at i : ℕ) (t : Thread) (now : List Made) → WorksAt k j i n t → AreIn k t.vars →
+    place ≡ start_of k j + at → at ≤ i → rest ≡ drop at (moved-ops k j) → Passed j.phase j.ops i now → AreDone k j i (state_of t.vars t.made t.hands) now → Stands k n (begun_at place rest t) now
+begins {n = n} k j served [] place at i t now works vars place_is least r passed d =
     let within = done-within served d in
     let most : length (moved-ops k j) ≤ at = nothing-left (moved-ops k j) at r in
     let long : length (moved-ops k j) ≡ length j.ops = length-map j.ops (moved_behind (start_of k j)) in
-    phase-ends k j i t now works vars (omega arith) d
-begins {n = n} k j served (o ∷ rest) place at i t now works vars place_is least r d =
-    go (λ on u past works_on vars_on done. begins k j served rest (place + 1) (at + 1) on u now works_on vars_on (omega (arith, place_is)) past (get-drop (moved-ops k j) rest at o r).1 done) (ltb place t.index) refl
+    phase-ends k j i t now works vars (omega arith) passed d
+begins {n = n} k j served (o ∷ rest) place at i t now works vars place_is least r passed d =
+    go (λ on u further past works_on vars_on done. begins k j served rest (place + 1) (at + 1) on u now works_on vars_on (omega (arith, place_is)) past (get-drop (moved-ops k j) rest at o r).1 (passed-on j.phase j.ops i on now further passed) done) (ltb place t.index) refl
   where
-    go : ((on : ℕ) (u : Thread) → at + 1 ≤ on → WorksAt k j on n u → AreIn k u.vars → AreDone k j on (state_of u.vars u.made u.hands) now → Stands k n (begun_at (place + 1) rest u) now) →
+    go : ((on : ℕ) (u : Thread) → i ≤ on → at + 1 ≤ on → WorksAt k j on n u → AreIn k u.vars → AreDone k j on (state_of u.vars u.made u.hands) now → Stands k n (begun_at (place + 1) rest u) now) →
         (b : Bool) → ltb place t.index ≡ b → Stands k n (cond b (begun_at (place + 1) rest t) (begun_op o t (λ (behind : Thread). begun_at (place + 1) rest behind))) now
     go next true e =
         let below = ltb-true place t.index e in
         let index = works.index_is in
-        next i t (omega (arith, below, index, place_is)) works vars d
+        next i t (omega arith) (omega (arith, below, index, place_is)) works vars d
     go next false e =
         let past = ltb-false place t.index e in
         let index = works.index_is in
@@ -575,13 +709,13 @@ begins {n = n} k j served (o ∷ rest) place at i t now works vars place_is leas
         let there : slice_get (moved-ops k j) at ≡ Some o = (get-drop (moved-ops k j) rest at o r).0 in
         let x = in-map (moved_behind (start_of k j)) (slice_get j.ops at) o (sym (slice_get-map (moved_behind (start_of k j)) j.ops at) ∙ there) in
         let Q : Op → Type 0 = λ (y : Op). Stands k n (begun_op y t (λ (behind : Thread). begun_at (place + 1) rest behind)) now in
-        subst Q x.2 (begins-op k j served x.0 i t now works vars (ap (λ (m : ℕ). slice_get j.ops m) (sym here_is) ∙ x.1) d (λ (behind : Thread). begun_at (place + 1) rest behind)
-        (λ on u further. next on u (omega (arith, further, here_is))))
+        subst Q x.2 (begins-op k j served x.0 i t now works vars (ap (λ (m : ℕ). slice_get j.ops m) (sym here_is) ∙ x.1) passed d (λ (behind : Thread). begun_at (place + 1) rest behind)
+        (λ on u further. next on u (omega (arith, further)) (omega (arith, further, here_is))))
 
 -- ---- what was under way is over
 
 -- where the stepper is in its program
-program-many : {n : ℕ} (k : Task) (j : Job k) (i : ℕ) (t : Thread) → WorksAt k j i n t → i < length j.ops → ltb t.index (length t.program) ≡ true
+pub program-many : {n : ℕ} (k : Task) (j : Job k) (i : ℕ) (t : Thread) → WorksAt k j i n t → i < length j.ops → ltb t.index (length t.program) ≡ true
 program-many {n = n} k j i t works within =
     let next = phase-next k.decl.phases j.phase j.ops j.there in
     let few = first_few (suc j.phase) k.decl.phases in
@@ -589,7 +723,7 @@ program-many {n = n} k j i t works within =
     let index : t.index ≡ ops_in_first j.phase k.decl.phases + i = works.index_is in
     lt-ltb t.index (length t.program) (omega arith)
 
-program-over : {n : ℕ} (k : Task) (j : Job k) (i : ℕ) (t : Thread) → WorksAt k j i n t → length j.ops ≤ i → j.phase + 1 ≡ length k.decl.phases → ltb t.index (length t.program) ≡ false
+pub program-over : {n : ℕ} (k : Task) (j : Job k) (i : ℕ) (t : Thread) → WorksAt k j i n t → length j.ops ≤ i → j.phase + 1 ≡ length k.decl.phases → ltb t.index (length t.program) ≡ false
 program-over {n = n} k j i t works most last = go (ltb t.index (length t.program)) refl
   where
     go : (b : Bool) → ltb t.index (length t.program) ≡ b → ltb t.index (length t.program) ≡ false
@@ -602,8 +736,8 @@ program-over {n = n} k j i t works most last = go (ltb t.index (length t.program
         let index : t.index ≡ ops_in_first j.phase k.decl.phases + i = works.index_is in
         absurd (omega arith)
 
-pub goes-on : {n : ℕ} (k : Task) (j : Job k) → AreServed (kinds_here k) j.ops → (i : ℕ) (t : Thread) (now : List Made) → WorksAt k j i n t → AreIn k t.vars → IsOver k j i t.vars t.made t.hands now → Stands k n (next_op t) now
-goes-on {n = n} k j served i t now works vars over = go (ltb i (length j.ops)) refl over
+pub goes-on : {n : ℕ} (k : Task) (j : Job k) → AreServed k.shape (kinds_here k) j.ops → (i : ℕ) (t : Thread) (now : List Made) → WorksAt k j i n t → AreIn k t.vars → IsAt k j i → IsHere (here k j i) now → t.first ≡ false → IsOver k j i t.vars t.made t.hands now → Stands k n (next_op t) now
+goes-on {n = n} k j served i t now works vars at newest first over = go (ltb i (length j.ops)) refl over
   where
     At : Bool → Type 0
     At b = Stands k n (begun (record t { doing = Ended; index = cond b (t.index + 1) t.index })) now
@@ -614,7 +748,7 @@ goes-on {n = n} k j served i t now works vars over = go (ltb i (length j.ops)) r
         rest-is k j (i + 1) t.phases t.program t.phase (t.index + 1) works.phases_is works.program_is works.phase_is (works-next k j i t works).index_is in
         subst At (sym (program-many k j i t works (ltb-true i (length j.ops) e)))
         (begins k j served (drop (t.index + 1) (take (ops_in_first (t.phase + 1) t.phases) t.program)) (t.index + 1) (i + 1) (i + 1) (record t { doing = Ended; index = t.index + 1 }) now (works-next k j i t works) vars
-        (works-next k j i t works).index_is (omega arith) rest over)
+        (works-next k j i t works).index_is (omega arith) rest (passed-op k j i now at (ltb-true i (length j.ops) e) newest) over)
     go false e over =
         let past = ltb-false i (length j.ops) e in
         let rest : drop t.index (take (ops_in_first (t.phase + 1) t.phases) t.program) ≡ drop i (moved-ops k j) = rest-is k j i t.phases t.program t.phase t.index works.phases_is works.program_is works.phase_is works.index_is in
@@ -627,17 +761,17 @@ goes-on {n = n} k j served i t now works vars over = go (ltb i (length j.ops)) r
         let R : Bool → Type 0 = λ (b : Bool). Stands k n (cond b (record t { doing = Ready; asked = moves.PhaseEnd; phase = t.phase + 1; index = t.index }) (scope_begun (record t { doing = Ended; index = t.index }))) now in
         let no_more : ltb (t.phase + 1) (length t.phases) ≡ false = not_below (ltb (t.phase + 1) (length t.phases)) refl (omega arith) in
         subst At (sym (program-over k j i t works past last))
-        (subst Q (sym (rest ∙ none)) (subst R (sym no_more) (scopes k j i (record t { doing = Ended; index = t.index }) now works vars e over)))
+        (subst Q (sym (rest ∙ none)) (subst R (sym no_more) (scopes k j i (record t { doing = Ended; index = t.index }) now works vars e (inl (newest, first)) over)))
       where
         not_below : (b : Bool) → ltb (t.phase + 1) (length t.phases) ≡ b → length t.phases ≤ t.phase + 1 → ltb (t.phase + 1) (length t.phases) ≡ false
         not_below false e most = e
         not_below true e most = let below = ltb-true (t.phase + 1) (length t.phases) e in absurd (omega arith)
 
 -- the destination has its new value, and what it held is dropped last
-pub replaces : {n : ℕ} (k : Task) (j : Job k) → AreServed (kinds_here k) j.ops → (i : ℕ) (t : Thread) (to : ℕ) (new : Option Held) (now : List Made) → WorksAt k j i n t → AreIn k t.vars → AreIn k (set t.vars to new) → i < length j.ops →
+pub replaces : {n : ℕ} (k : Task) (j : Job k) → AreServed k.shape (kinds_here k) j.ops → (i : ℕ) (t : Thread) (to : ℕ) (new : Option Held) (now : List Made) → WorksAt k j i n t → AreIn k t.vars → IsAt k j i → IsHere (here k j i) now → t.first ≡ false → AreIn k (set t.vars to new) → i < length j.ops →
     ((after : List Made) → Drops k.shape (here k j i) (operations.value (refs t.vars) to) now after → AreDone k j (i + 1) (state_of (set t.vars to new) t.made t.hands) after) →
     Stands k n (replaced to new t) now
-replaces {n = n} k j served i t to new now works vars inside within ends = go (value t.vars to) refl
+replaces {n = n} k j served i t to new now works vars at newest first inside within ends = go (value t.vars to) refl
   where
     over : (o : Option Held) → value t.vars to ≡ o → (after : List Made) → Drops k.shape (here k j i) (ref o) now after → IsOver k j i (set t.vars to new) t.made t.hands after
     over o e after x =
@@ -645,5 +779,5 @@ replaces {n = n} k j served i t to new now works vars inside within ends = go (v
         over-done k j i (set t.vars to new) t.made t.hands after within (ends after (subst Q (sym (value-ref t.vars to o e)) x))
 
     go : (o : Option Held) → value t.vars to ≡ o → Stands k n (replaced_old o (set_var to new t)) now
-    go None e = goes-on k j served i (set_var to new t) now works inside (over None e now drops_nothing)
-    go (Some old) e = drop-asks k j i (set_var to new t) old now now works inside (held-in k t.vars to old vars e) starts_first (over (Some old) e)
+    go None e = goes-on k j served i (set_var to new t) now works inside at newest first (over None e now drops_nothing)
+    go (Some old) e = drop-asks k j i (set_var to new t) old now now works inside at (inl (newest, first)) (held-in k t.vars to old vars e) starts_first (over (Some old) e)

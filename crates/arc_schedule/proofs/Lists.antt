@@ -1,8 +1,23 @@
--- Lists: an element that is there, one that is put in, and what is behind a first part.
-use Rattle.std.proofs.Common.{◌≡◌, ℕ, zero, suc, ◌+◌, ◌<◌, ◌≤◌, List, [], ◌∷◌, ◌++◌, length, take, drop, set, Some, refl, ap, subst, arith, add-one}
+-- Numbers and lists: an element that is there, one that is put in, and what is behind a first part.
+use Rattle.std.proofs.Common.{◌≡◌, ℕ, zero, suc, ◌+◌, ◌<◌, ◌≤◌, Bool, true, false, eqb, List, [], ◌∷◌, ◌++◌, length, take, drop, set, Some, refl, ap, subst, arith, add-one}
+use Rattle.std.proofs.lemmas.Bool.{eqb-true, eqb-false}
 use Rattle.std.proofs.lemmas.Option.{slice_get_within, get_or_from_slice_get}
 use Rattle.std.proofs.lemmas.List.Elements.{All-get_or}
 use Rattle.std.specs.Prelude.{slice_get, All}
+
+pub not-equal : (p q : ℕ) → (p ≡ q → ⊥) → eqb p q ≡ false
+not-equal p q differ = go (eqb p q) refl
+  where
+    go : (b : Bool) → eqb p q ≡ b → eqb p q ≡ false
+    go true e = absurd (differ (eqb-true p q e))
+    go false e = e
+
+pub equal : (p q : ℕ) → p ≡ q → eqb p q ≡ true
+equal p q same = go (eqb p q) refl
+  where
+    go : (b : Bool) → eqb p q ≡ b → eqb p q ≡ true
+    go true e = e
+    go false e = absurd (eqb-false p q e same)
 
 -- an element within the list is there
 pub there-is : {X : Type 0} (xs : List X) (i : ℕ) → i < length xs → (x : X) × (slice_get xs i ≡ Some x)

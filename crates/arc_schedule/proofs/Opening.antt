@@ -1,13 +1,18 @@
 -- The threads before their first phase, and where phases begin.
-use Rattle.std.proofs.Common.{◌≡◌, ℕ, zero, suc, ◌+◌, ◌-◌, ◌<◌, ◌≤◌, Bool, true, false, eqb, List, [], ◌∷◌, length, map, Some, None, inl, inr, refl, sym, ap, subst, ◌∙◌, arith, add-one}
+use Rattle.std.proofs.Common.{◌≡◌, ℕ, zero, suc, ◌+◌, ◌-◌, ◌<◌, ◌≤◌, Bool, true, false, eqb, List, [], ◌∷◌, length, map, drop, Some, None, refl, sym, ap, subst, ◌∙◌, arith, add-one}
 use Rattle.std.proofs.lemmas.Bool.{eqb-true}
 use Rattle.std.proofs.lemmas.Option.{same_Some}
 use Rattle.std.proofs.lemmas.List.{length-map}
-use Rattle.std.proofs.lemmas.List.Elements.{All-replicate, All-from_recursion, recursion_from_All}
-use Rattle.std.specs.Prelude.{slice_get, replicate, All}
+use Rattle.std.proofs.lemmas.List.Elements.{All-replicate, All-map, All-from_recursion, recursion_from_All}
+use Rattle.std.specs.Prelude.{slice_get, replicate, take, All}
 use Rattle.std.specs.List.{AllByRecursion}
-use Rattle.arc_rule.specs.declared.step.Step.{Step}
-use Rattle.arc_rule.specs.declared.step.Intent.{Intent}
+use Rattle.arc_model.specs.declared.shape.RefShape.{RefShape}
+use Rattle.arc_rule.specs.Places.{extent_of}
+use Rattle.arc_side.specs.Inline.{IsCountedInline}
+use Rattle.arc_script.specs.declared.script.ClassDecl.{ClassDecl}
+use Rattle.arc_script.specs.declared.script.VarDecl.{VarDecl}
+use Rattle.arc_script.specs.declared.script.Op.TheVariants as op
+use Rattle.arc_script.specs.declared.script.OpCell.TheVariants as opcell
 use Rattle.arc_script.specs.declared.script.Op.{Op}
 use Rattle.arc_script.specs.declared.script.ThreadDecl.{ThreadDecl}
 use Rattle.arc_script.specs.declared.script.Script.{Script}
@@ -15,25 +20,34 @@ use Rattle.arc_script.specs.OneList.{in_one_list}
 use Rattle.arc_script.specs.Valid.{IsScript, IsThread, IsOp, Nested}
 use Rattle.arc_ops.specs.declared.stepper.Move.TheVariants as moves
 use Rattle.arc_ops.proofs.Blocks.{nested_forth}
-use Rattle.arc_ops.specs.Programs.{GoesForth, declared_of, phases_in, phases_of, count_of_vars, vars_of}
+use Rattle.arc_ops.specs.Programs.{GoesForth, KindsFit, CellFits, declared_of, phases_in, phases_of, count_of_vars, vars_of}
 use Rattle.arc_ops.specs.declared.stepper.Held.{Held}
 use Rattle.arc_ops.specs.Served.{IsServed, IsServedThread, IsServedVar, IsServedOp}
 use Rattle.arc_spelled.proofs.Declared.{op-kinds}
-use Rattle.arc_ops.specs.Thread.{Thread, stepper_of, value}
-use Rattle.arc_ops.specs.Turns.{turned}
-use Rattle.arc_ops.specs.Takes.{takes}
+use Rattle.arc_ops.specs.declared.stepper.Doing.{Doing}
+use Rattle.arc_ops.specs.declared.stepper.Doing.TheVariants.{Ready, Making, Gaining, Naming, Opening, Closing, Setting, Clearing, Dropping, Dying, Vacating, Ended}
+use Rattle.arc_ops.specs.Begins.{phase_end}
+use Rattle.arc_ops.specs.Thread.{Thread, stepper_of, value, in_access as accesses}
+use Rattle.arc_ops.specs.Turns.{turned_at, turned}
+use Rattle.arc_ops.specs.Takes.{takes_at, takes}
 use Rattle.arc_ops.specs.Steppers.{HeldFits}
 use Rattle.arc_replays.specs.Stages.{Stage, has_step, awaits_phase, IsNone, new_threads, begun_thread, begun_threads}
 use Rattle.arc_schedule.specs.Made.{Made, own}
 use Rattle.arc_schedule.specs.Operations.{State, Variables}
 use Rattle.arc_schedule.specs.Threads.{PhasesDone}
+use Rattle.arc_schedule.specs.Orders.{in_access}
+use Rattle.arc_schedule.specs.Threads.GlobalsCleared.{none as globals_none}
 use Rattle.arc_schedule.specs.Threads.OpsDone.{none as ops_none}
 use Rattle.arc_schedule.specs.Threads.PhasesDone.{none as phases_none}
-use Rattle.arc_schedule.proofs.Lists.{all-there}
-use Rattle.arc_schedule.proofs.Stands.{Task, Job, kinds_here, AreServed, refs, state_of, here, Stands}
+use Rattle.arc_schedule.proofs.Lists.{there-is, all-there}
+use Rattle.arc_schedule.proofs.Tells.{idle}
+use Rattle.arc_schedule.proofs.Idle.{IsIdle, idle-here}
+use Rattle.arc_schedule.proofs.Outside.{begun-outside}
+use Rattle.arc_schedule.proofs.Newer.{idle-outside}
+use Rattle.arc_schedule.proofs.Stands.{Task, Job, kinds_here, AreServed, refs, state_of, step_in, Stands, StandsFirst}
 use Rattle.arc_schedule.proofs.Keeps.{begins-phase}
 use Rattle.arc_schedule.proofs.Asks.{waits-for-phase, has-ended, ended-stays}
-use Rattle.arc_schedule.proofs.Stages.{task_of, AllStand, IsFirst}
+use Rattle.arc_schedule.proofs.Stages.{task_of, AllStand, AllInside}
 
 -- ---- what is served
 
@@ -48,23 +62,53 @@ forth ops nested i o here =
     let end : 0 + length ops ≡ length ops = omega arith in
     subst (λ (e : ℕ). GoesForth i e o) end (subst (λ (n : ℕ). GoesForth n (0 + length ops) o) place (nested_forth nested i o here))
 
+pub globals-are-many : (script : Script) → IsScript script → length script.shape.globals ≡ length script.globals
+globals-are-many script valid = ap length valid.heading.of_globals ∙ length-map script.globals (λ (v : VarDecl). record { kind = v.kind; class = v.class })
+
+pub globals-served : (script : Script) → IsScript script → IsServed script → All (λ (r : RefShape). IsCountedInline r.kind) script.shape.globals
+globals-served script valid served =
+    subst (All (λ (r : RefShape). IsCountedInline r.kind)) (sym valid.heading.of_globals) (All-map (λ (r : RefShape). IsCountedInline r.kind) (λ (v : VarDecl). record { kind = v.kind; class = v.class }) script.globals served.globals)
+
+op-cells : (classes : List ClassDecl) (globals vars : List VarDecl) (o : Op) → IsOp classes globals vars o → IsServedOp o → CellFits (length globals) o
+op-cells classes globals vars (op.New to class) h s = tt
+op-cells classes globals vars (op.Copy to from) h s = tt
+op-cells classes globals vars (op.Move to from) h s = tt
+op-cells classes globals vars (op.Drop v) h s = tt
+op-cells classes globals vars (op.Unown to of) h s = tt
+op-cells classes globals vars (op.Weak to of) h s = tt
+op-cells classes globals vars (op.Load to of) h s = tt
+op-cells classes globals vars (op.Get to (opcell.Global g)) h s = h.1
+op-cells classes globals vars (op.Get to (opcell.Field owner field)) h s = absurd s
+op-cells classes globals vars (op.Set (opcell.Global g) from) h s = h.1
+op-cells classes globals vars (op.Set (opcell.Field owner field) from) h s = absurd s
+op-cells classes globals vars (op.IfNil v to) h s = tt
+op-cells classes globals vars (op.IfSome v to) h s = tt
+
 pub job-served : (script : Script) (some : 0 < script.shape.slots) → IsScript script → IsServed script → (i : ℕ) (decl : ThreadDecl) → slice_get script.threads i ≡ Some decl → (p : ℕ) (ops : List Op) → slice_get decl.phases p ≡ Some ops →
-    AreServed (kinds_here (task_of script some i decl)) ops
+    AreServed script.shape (kinds_here (task_of script some i decl)) ops
 job-served script some valid served i decl there p ops here = record {
   served = all-there (All IsServedOp) decl.phases p ops thread.ops here;
-  kinds_fit = λ x o at. op-kinds script.classes script.globals decl.vars (recursion_from_All IsServedVar decl.vars thread.vars) o
-      (among (IsOp script.classes script.globals decl.vars) ops x o (among (AllByRecursion (IsOp script.classes script.globals decl.vars)) decl.phases p ops declared_so.ops here) at);
+  kinds_fit = λ x o at. subst (λ (rs : List RefShape). KindsFit rs (kinds_here (task_of script some i decl)) o) (sym valid.heading.of_globals)
+      (op-kinds script.classes script.globals decl.vars (recursion_from_All IsServedVar decl.vars thread.vars) o (is-op x o at));
+  cells_fit = λ x o at. subst (λ (n : ℕ). CellFits n o) (sym globals-many) (op-cells script.classes script.globals decl.vars o (is-op x o at) (all-there IsServedOp ops x o (all-there (All IsServedOp) decl.phases p ops thread.ops here) at));
+  globals = globals-served script valid served;
   forth = forth ops (phase-nested decl.phases p ops declared_so.nested here);
 }
   where
     among : {X : Type 0} (P : X → Type 0) (xs : List X) (i : ℕ) (x : X) → AllByRecursion P xs → slice_get xs i ≡ Some x → P x
     among P xs i x all at = all-there P xs i x (All-from_recursion P xs all) at
 
+    globals-many : length script.shape.globals ≡ length script.globals
+    globals-many = globals-are-many script valid
+
     thread : IsServedThread decl
     thread = all-there IsServedThread script.threads i decl served.threads there
 
     declared_so : IsThread script.classes script.globals decl
     declared_so = among (IsThread script.classes script.globals) script.threads i decl valid.threads there
+
+    is-op : (x : ℕ) (o : Op) → slice_get ops x ≡ Some o → IsOp script.classes script.globals decl.vars o
+    is-op x o at = among (IsOp script.classes script.globals decl.vars) ops x o (among (AllByRecursion (IsOp script.classes script.globals decl.vars)) decl.phases p ops declared_so.ops here) at
 
 -- ---- before the first phase
 
@@ -116,6 +160,7 @@ new-stands script some i decl there phases = record {
     index_is = refl;
     begun_is = refl;
   };
+  placed = tt;
   vars_in = record { held = All-replicate (HeldFits script.shape.slots) (vars_of script (i + 1)) None tt; kinds = λ v h e. absurd (none-there (vars_of script (i + 1)) v h e) };
   up_to = (refl, ops_none);
 }
@@ -197,10 +242,56 @@ begun-stands script valid served some s ms stand quiet may i decl u there get = 
 
 -- ---- thread 0
 
-pub first-waits : (script : Script) (t : Thread) → IsFirst script t → takes t None → awaits_phase t ≡ true → (turned t None).asked ≡ moves.Ended
-first-waits script t (inl e) takes waits = rw e refl
-first-waits script t (inr e) takes waits = let f = waits-for-phase t waits in absurd (cc)
+pub first-stands : (script : Script) → StandsFirst script.shape (stepper_of script 0) []
+first-stands script = record { layout_is = refl; shape_is = refl; thread_is = refl; phases_is = refl; program_is = refl; vars_is = refl; up_to = (refl, refl, globals_none) }
 
-pub first-has-none : (script : Script) (t : Thread) (step : Step) (intent : Intent) → IsFirst script t → t.asked ≡ moves.Step step intent → ⊥
-first-has-none script t step intent (inl e) asked = let f : (stepper_of script 0).asked ≡ moves.Step step intent = subst (λ (u : Thread). u.asked ≡ moves.Step step intent) e asked in absurd (cc)
-first-has-none script t step intent (inr e) asked = absurd (cc)
+-- a thread whose phase begins is outside
+pub begun-away : (t : Thread) → takes t None → t.asked ≡ moves.PhaseEnd → (k : Task) (n : ℕ) (now : List Made) → Stands k n t now → accesses (turned t None) ≡ false
+begun-away t takes asked k n now st = go t.doing (idle-here k n t now st (ap step_in asked)) takes
+  where
+    go : (d : Doing) → IsIdle d → takes_at t.shape None d → accesses (turned_at None d (idle t)) ≡ false
+    go Ready i takes = begun-outside t.index (drop t.index (take (phase_end t) t.program)) (idle t) refl
+    go (Making to name plan) i takes = absurd i
+    go (Gaining gain to from plan) i takes = absurd i
+    go (Naming to held plan) i takes = absurd i
+    go (Opening to cell plan) i takes = absurd i
+    go (Closing to cell held plan) i takes = absurd i
+    go (Setting from cell plan) i takes = absurd i
+    go (Clearing plan) i takes = absurd i
+    go (Vacating slot plan) i takes = absurd i
+    go (Dropping held plan) i takes = absurd i
+    go (Dying c) i takes = absurd i
+    go Ended i takes = absurd takes
+
+-- and so the steps say behind the beginning of a phase
+pub begun-inside : (script : Script) (some : 0 < script.shape.slots) (s : Stage) (ms : List Made) → AllStand script some s.begun s.threads ms → AllInside script s.threads ms →
+    ((p : ℕ) (t : Thread) → 1 ≤ p → slice_get s.threads p ≡ Some t → awaits_phase t ≡ true → takes t None) → AllInside script (begun_threads s.threads) ms
+begun-inside script some s ms stand inside may i u within get = go (begun-there s.threads i u (rw add-one at get))
+  where
+    d : (decl : ThreadDecl) × (slice_get script.threads i ≡ Some decl)
+    d = there-is script.threads i within
+
+    go : ((t : Thread) × (slice_get s.threads (suc i) ≡ Some t) × (u ≡ begun_thread t)) → in_access (extent_of script.shape) (own (i + 1) ms) ≡ accesses u
+    go x = which (awaits_phase x.0) refl
+      where
+        t : Thread
+        t = x.0
+
+        there_is : slice_get s.threads (i + 1) ≡ Some t
+        there_is = rw add-one x.1
+
+        st : Stands (task_of script some i d.0) s.begun t (own (i + 1) ms)
+        st = stand i d.0 t d.1 there_is
+
+        which : (b : Bool) → awaits_phase t ≡ b → in_access (extent_of script.shape) (own (i + 1) ms) ≡ accesses u
+        which true e =
+            let is : u ≡ turned t None = x.2 ∙ (rw e refl) in
+            inside i t within there_is ∙ idle-outside (task_of script some i d.0) s.begun t (own (i + 1) ms) st (ap step_in (waits-for-phase t e)) ∙
+            sym (ap (λ (v : Thread). accesses v) is ∙ begun-away t (may (i + 1) t (omega arith) there_is e) (waits-for-phase t e) (task_of script some i d.0) s.begun (own (i + 1) ms) st)
+        which false e =
+            let is : u ≡ t = x.2 ∙ (rw e refl) in
+            inside i t within there_is ∙ sym (ap (λ (v : Thread). accesses v) is)
+
+pub first-begun : (ts : List Thread) (t : Thread) → slice_get ts 0 ≡ Some t → slice_get (begun_threads ts) 0 ≡ Some t
+first-begun [] t e = e
+first-begun (u ∷ ts) t e = e

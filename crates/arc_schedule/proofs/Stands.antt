@@ -1,8 +1,13 @@
 -- What a stepper stands for: the steps made so far are those of its thread's operations up to where it is.
-use Rattle.std.proofs.Common.{◌≡◌, ℕ, ◌+◌, ◌<◌, ◌≤◌, Bool, true, false, cond, ltb, List, ◌∷◌, length, map, set, Option, Some, None, refl, sym, subst}
+use Rattle.std.proofs.Common.{◌≡◌, ℕ, ◌+◌, ◌<◌, ◌≤◌, Bool, true, false, cond, ltb, List, [], ◌∷◌, length, map, set, Option, Some, None, refl, sym, subst}
 use Rattle.std.proofs.lemmas.Option.{same_Some}
 use Rattle.std.specs.Prelude.{slice_get, take, All, ⊤}
 use Rattle.arc_model.specs.declared.event.ObjectName.{ObjectName}
+use Rattle.arc_model.specs.declared.event.Origin.{Origin}
+use Rattle.arc_model.specs.declared.event.Origin.TheVariants as origins
+use Rattle.arc_model.specs.declared.event.CellName.{CellName}
+use Rattle.arc_model.specs.declared.event.CellName.TheVariants as cells
+use Rattle.arc_model.specs.declared.shape.RefShape.{RefShape}
 use Rattle.arc_model.specs.declared.shape.Kind.{Kind}
 use Rattle.arc_model.specs.Shapes.{HeapShape, class_at}
 use Rattle.arc_model.specs.Spelling.{field_count}
@@ -14,7 +19,6 @@ use Rattle.arc_rule.specs.declared.plan.Next.{Next}
 use Rattle.arc_rule.specs.declared.plan.Next.TheVariants as nexts
 use Rattle.arc_rule.specs.declared.step.Step.{Step}
 use Rattle.arc_rule.specs.declared.step.Step.TheVariants as steps
-use Rattle.arc_rule.specs.declared.step.Changed.{Changed}
 use Rattle.arc_plan.specs.declared.slots.Making.{Making as Search}
 use Rattle.arc_plan.specs.declared.slots.Making.TheVariants as search
 use Rattle.arc_plan.specs.declared.unowned.UnownedDownAnswer.TheVariants as unowneds
@@ -22,34 +26,43 @@ use Rattle.arc_plan.specs.Attempts.{Attempt}
 use Rattle.arc_side.specs.declared.up.UpAnswer.{UpAnswer}
 use Rattle.arc_side.specs.Ups.{Rise}
 use Rattle.arc_side.specs.Downs.{Fall}
+use Rattle.arc_side.specs.Inline.{IsCountedInline}
+use Rattle.arc_cells.specs.declared.begin.BeginAnswer.TheVariants as begins
+use Rattle.arc_cells.specs.Begins.{Beginning}
+use Rattle.arc_cells.specs.Ends.{AccessEnd}
+use Rattle.arc_cells.specs.Swaps.{SwapAttempt}
 use Rattle.arc_plan.specs.Slots.{Creation, OneStep}
-use Rattle.arc_cells.specs.declared.cascade.At.{At as CascadeAt}
-use Rattle.arc_cells.specs.declared.cascade.At.TheVariants as at
-use Rattle.arc_cells.specs.Cascades.{CascadeState}
+use Rattle.arc_cells.specs.declared.bare.At.{At as CascadeAt}
+use Rattle.arc_cells.specs.declared.bare.At.TheVariants as at
+use Rattle.arc_cells.specs.BareCascades.{CascadeState}
 use Rattle.arc_script.specs.declared.script.ThreadDecl.{ThreadDecl}
 use Rattle.arc_script.specs.declared.script.Op.{Op}
 use Rattle.arc_script.specs.declared.script.Op.TheVariants as op
+use Rattle.arc_script.specs.declared.script.OpCell.TheVariants as opcell
+use Rattle.arc_script.specs.Valid.{begins_block}
 use Rattle.arc_script.specs.OneList.{in_one_list, numbered}
 use Rattle.arc_ops.specs.declared.stepper.Held.{Held}
 use Rattle.arc_ops.specs.declared.stepper.Doing.{Doing}
-use Rattle.arc_ops.specs.declared.stepper.Doing.TheVariants.{Ready, Making, Gaining, Naming, Dropping, Dying, Vacating, Ended}
+use Rattle.arc_ops.specs.declared.cell.Cell.{Cell}
+use Rattle.arc_ops.specs.declared.stepper.Doing.TheVariants.{Ready, Making, Gaining, Naming, Opening, Closing, Setting, Clearing, Dropping, Dying, Vacating, Ended}
 use Rattle.arc_ops.specs.declared.stepper.Move.{Move}
 use Rattle.arc_ops.specs.declared.stepper.Move.TheVariants as moves
 use Rattle.arc_ops.specs.declared.gain.Gain.{Gain}
 use Rattle.arc_ops.specs.declared.gain.Gain.TheVariants as gains
-use Rattle.arc_ops.specs.Plans.{op_of, list_of}
-use Rattle.arc_ops.specs.Programs.{GoesForth, KindsFit, ops_in_first, kinds_in, kind_of}
+use Rattle.arc_ops.specs.Plans.{op_of, of_hand, list_of}
+use Rattle.arc_ops.specs.Programs.{GoesForth, KindsFit, CellFits, ops_in_first, kinds_in, kind_of}
 use Rattle.arc_ops.specs.Served.{IsServedOp}
 use Rattle.arc_ops.specs.Thread.{Thread, value}
-use Rattle.arc_ops.specs.Steppers.{IsHeld, HeldFits}
+use Rattle.arc_ops.specs.Steppers.{IsHeld, HeldFits, IsOpeningIn, IsSwappingIn}
 use Rattle.arc_spelled.specs.StepperStands.{AreOfKinds}
 use Rattle.arc_schedule.specs.Made.{Point, Made, made_at}
-use Rattle.arc_schedule.specs.Plans.{Plan, Rises, Reaches, Starts, Gives, new_object, up, down, name_of, finish, vacate}
+use Rattle.arc_schedule.specs.Plans.{Plan, Rises, Reaches, Starts, Gives, new_object, up, down, name_of, finish, vacate, begin_access, end_access, swap}
 use Rattle.arc_schedule.specs.Plans.Reaches.{starts as reaches_start, makes as reaches_next}
 use Rattle.arc_schedule.specs.Plans.Starts.{again}
-use Rattle.arc_schedule.specs.Operations.{State, Holding, Variables, reference_to, next_name, copy_acts, unown_acts, load_acts, loads, stores, FieldsDone, IsCascade, SlotEnds, Drops}
+use Rattle.arc_schedule.specs.Operations.{State, Holding, Variables, reference_to, next_name, copy_acts, unown_acts, load_acts, get_acts, global_kind, word_of, hand_of, loads, stores, FieldsDone, IsCascade, SlotEnds, Drops}
 use Rattle.arc_schedule.specs.Operations as operations
-use Rattle.arc_schedule.specs.Threads.{point_of, OpsDone, PhasesDone, ScopeEnds}
+use Rattle.arc_schedule.specs.Threads.{point_of, end_point, OpsDone, PhasesDone, ScopeEnds, GlobalsCleared}
+use Rattle.arc_schedule.proofs.Newest.{IsHere, Newest, Passed}
 
 -- ---- a plan that was given a word
 
@@ -86,11 +99,11 @@ given {P = P} plan point b now p s found w =
     let R : Step → Type 0 = λ (x : Step). Reaches plan point w.gave.started p (Some found) (made_at point x found (plan.tells p found) ∷ now) in
     record { started = w.gave.started; starts = w.gave.starts; before = p; last = Some found; reaches = subst R (sym same) (subst Q w.gave.turned r); answers = refl; turned = refl }
 
-pub gives : {P A : Type 0} (plan : Plan P A) (point : Point) (b now : List Made) (p : P) (a : A) → plan.changed a ≡ None → Gave plan point b now (nexts.Done a) p → Gives plan point b a now
-gives plan point b now p a e g = record { started = g.started; starts = g.starts; answers = record { at = g.before; last = g.last; reaches = g.reaches; answers = g.answers }; unchanged = e }
+pub gives : {P A : Type 0} (plan : Plan P A) (point : Point) (b now : List Made) (p : P) (a : A) → plan.anew a ≡ false → Gave plan point b now (nexts.Done a) p → Gives plan point b a now
+gives plan point b now p a e g = record { started = g.started; starts = g.starts; answers = record { at = g.before; last = g.last; reaches = g.reaches; answers = g.answers }; ends = e }
 
-pub starts-again : {P A : Type 0} (plan : Plan P A) (point : Point) (b now : List Made) (p : P) (a : A) (c : Changed) → plan.changed a ≡ Some c → Gave plan point b now (nexts.Done a) p → Starts plan point b now
-starts-again plan point b now p a c e g = again g.starts (record { at = g.before; last = g.last; reaches = g.reaches; answers = g.answers }) e
+pub starts-again : {P A : Type 0} (plan : Plan P A) (point : Point) (b now : List Made) (p : P) (a : A) → plan.anew a ≡ true → Gave plan point b now (nexts.Done a) p → Starts plan point b now
+starts-again plan point b now p a e g = again g.starts (record { at = g.before; last = g.last; reaches = g.reaches; answers = g.answers }) e
 
 -- ---- a thread in one of its phases
 
@@ -99,6 +112,7 @@ pub record Task : Type 0 where
   pub thread : ℕ
   pub decl : ThreadDecl
   pub some_slot : 0 < shape.slots
+  pub other : 1 ≤ thread
 
 -- a phase of the thread, whose steps stand behind those of the phases before
 pub record Job (k : Task) : Type 0 where
@@ -113,10 +127,12 @@ pub record Job (k : Task) : Type 0 where
 abbrev pub kinds_here : Task → List Kind
 kinds_here k = kinds_in (Some k.decl)
 
--- the operations of a phase are served, on variables of their kinds, and its blocks go forth within it
-pub record AreServed (kinds : List Kind) (ops : List Op) : Type 0 where
+-- the operations of a phase are served, on variables of their kinds and globals that there are, and its blocks go forth within it
+pub record AreServed (shape : HeapShape) (kinds : List Kind) (ops : List Op) : Type 0 where
   pub served : All IsServedOp ops
-  pub kinds_fit : (i : ℕ) (o : Op) → slice_get ops i ≡ Some o → KindsFit kinds o
+  pub kinds_fit : (i : ℕ) (o : Op) → slice_get ops i ≡ Some o → KindsFit shape.globals kinds o
+  pub cells_fit : (i : ℕ) (o : Op) → slice_get ops i ≡ Some o → CellFits (length shape.globals) o
+  pub globals : All (λ (r : RefShape). IsCountedInline r.kind) shape.globals
   pub forth : (i : ℕ) (o : Op) → slice_get ops i ≡ Some o → GoesForth i (length ops) o
 
 -- how many operations stand before it
@@ -185,7 +201,7 @@ rises_of gains.Load hand next = load_acts hand next
 
 -- the plan of a gain, whose reference comes into the next hand
 abbrev pub gain_plan : Task → Gain → Held → (hands : ℕ) → Plan Rise UpAnswer
-gain_plan k gain held hands = up (extent_of k.shape) k.shape.caps (list_of gain held) held.place (rises_of gain held.hand (hands + 1))
+gain_plan k gain held hands = up (extent_of k.shape) k.shape.caps (list_of gain (of_hand held)) held.place (rises_of gain held.hand (hands + 1))
 
 pub record IsGaining (k : Task) (j : Job k) (i : ℕ) (gain : Gain) (to : ℕ) (held : Held) (plan : Rise) (vars : List (Option Held)) (made hands : ℕ) (asked : Option Step) (now : List Made) : Type 0 where
   pub base : List Made
@@ -197,6 +213,66 @@ pub record IsGaining (k : Task) (j : Job k) (i : ℕ) (gain : Gain) (to : ℕ) (
   pub inside : IsHeld k.shape.slots held
   pub bare : plan.entry ≡ None
 
+-- the plan of a copy of the reference in a global
+abbrev pub get_plan : Task → (global place hands : ℕ) → Plan Rise UpAnswer
+get_plan k g place hands = up (extent_of k.shape) k.shape.caps (global_kind k.shape g) place (get_acts g (hands + 1))
+
+-- the cell is a global of the heap
+pub record IsGlobalOf (shape : HeapShape) (cell : CellName) (kind : Kind) : Type 0 where
+  pub global : ℕ
+  pub there : global < length shape.globals
+  pub name_is : cell ≡ cells.Global global
+  pub kind_is : kind ≡ global_kind shape global
+
+-- a copy of a global's reference during an access
+pub record IsGetting (k : Task) (j : Job k) (i : ℕ) (gain : Gain) (to : ℕ) (cell : CellName) (kind : Kind) (place : ℕ) (plan : Rise) (vars : List (Option Held)) (made hands : ℕ) (asked : Option Step) (now : List Made) : Type 0 where
+  pub is_copy : gain ≡ gains.Copy
+  pub of : IsGlobalOf k.shape cell kind
+  pub base : List Made
+  pub begun : List Made
+  pub done : AreDone k j i (state_of vars made hands) base
+  pub there : slice_get j.ops i ≡ Some (op.Get to (opcell.Global of.global))
+  pub began : Gives (begin_access (extent_of k.shape) of.global) (here k j i) base (begins.Held (place + 2)) begun
+  pub waits : Waits (get_plan k of.global place hands) (here k j i) begun now plan asked
+  pub place_in : place < k.shape.slots
+  pub counted : IsCountedInline (global_kind k.shape of.global)
+  pub bare : plan.entry ≡ None
+  pub newest : IsHere (here k j i) now
+
+abbrev pub IsGainingFrom : (k : Task) → Job k → ℕ → Gain → ℕ → Origin → Kind → ℕ → Rise → List (Option Held) → (made hands : ℕ) → Option Step → List Made → Type 0
+IsGainingFrom k j i gain to (origins.Hand hand) kind place plan vars made hands asked now = IsGaining k j i gain to (record { hand = hand; kind = kind; place = place }) plan vars made hands asked now
+IsGainingFrom k j i gain to (origins.Cell cell) kind place plan vars made hands asked now = IsGetting k j i gain to cell kind place plan vars made hands asked now
+
+-- an access to a global is to begin
+pub record IsOpening (k : Task) (j : Job k) (i to : ℕ) (cell : Cell) (plan : Beginning) (vars : List (Option Held)) (made hands : ℕ) (asked : Option Step) (now : List Made) : Type 0 where
+  pub of : IsGlobalOf k.shape cell.name cell.kind
+  pub base : List Made
+  pub done : AreDone k j i (state_of vars made hands) base
+  pub there : slice_get j.ops i ≡ Some (op.Get to (opcell.Global of.global))
+  pub waits : Waits (begin_access (extent_of k.shape) of.global) (here k j i) base now plan asked
+  pub word : IsOpeningIn k.shape.slots plan.at
+
+-- the access ends, and then what the variable held is dropped
+pub record IsClosing (k : Task) (j : Job k) (i to : ℕ) (cell : CellName) (held : Held) (plan : AccessEnd) (vars : List (Option Held)) (made hands : ℕ) (asked : Option Step) (now : List Made) : Type 0 where
+  pub of : IsGlobalOf k.shape cell held.kind
+  pub base : List Made
+  pub ends : (ended after : List Made) → Gives (end_access (extent_of k.shape) of.global (held.place + 2)) (here k j i) base tt ended → Drops k.shape (here k j i) (operations.value (refs vars) to) ended after →
+      AreDone k j (i + 1) (state_of (set vars to (Some held)) made hands) after
+  pub waits : Waits (end_access (extent_of k.shape) of.global (held.place + 2)) (here k j i) base now plan asked
+  pub inside : IsHeld k.shape.slots held
+  pub kind : held.kind ≡ kind_of (kinds_here k) to
+  pub within : i < length j.ops
+  pub newest : IsHere (here k j i) now
+
+-- a variable's reference, or nil, is to come into a global
+pub record IsSetting (k : Task) (j : Job k) (i from : ℕ) (cell : Cell) (plan : SwapAttempt) (vars : List (Option Held)) (made hands : ℕ) (asked : Option Step) (now : List Made) : Type 0 where
+  pub of : IsGlobalOf k.shape cell.name cell.kind
+  pub base : List Made
+  pub done : AreDone k j i (state_of vars made hands) base
+  pub there : slice_get j.ops i ≡ Some (op.Set (opcell.Global of.global) from)
+  pub waits : Waits (swap (extent_of k.shape) of.global (word_of (ref (value vars from))) (hand_of (ref (value vars from))) (hands + 1)) (here k j i) base now plan asked
+  pub word : IsSwappingIn k.shape.slots plan.at
+
 -- the name of the object is read, and then what the variable held is dropped
 pub record IsNaming (k : Task) (j : Job k) (i to : ℕ) (held : Held) (plan : OneStep) (vars : List (Option Held)) (made hands : ℕ) (asked : Option Step) (now : List Made) : Type 0 where
   pub base : List Made
@@ -207,18 +283,20 @@ pub record IsNaming (k : Task) (j : Job k) (i to : ℕ) (held : Held) (plan : On
   pub kind : held.kind ≡ kind_of (kinds_here k) to
   pub within : i < length j.ops
 
-pub record IsDropping (k : Task) (j : Job k) (i : ℕ) (held : Held) (plan : Fall) (vars : List (Option Held)) (made hands : ℕ) (asked : Option Step) (now : List Made) : Type 0 where
+-- ---- what is done last: a reference is dropped, and then this holds
+
+pub record IsDropping (shape : HeapShape) (point : Point) (Over : List Made → Type 0) (held : Held) (plan : Fall) (asked : Option Step) (now : List Made) : Type 0 where
   pub base : List Made
-  pub ends : (after : List Made) → Drops k.shape (here k j i) (ref (Some held)) base after → IsOver k j i vars made hands after
-  pub waits : Waits (down (extent_of k.shape) held.kind held.place held.hand) (here k j i) base now plan asked
-  pub inside : IsHeld k.shape.slots held
+  pub ends : (after : List Made) → Drops shape point (ref (Some held)) base after → Over after
+  pub waits : Waits (down (extent_of shape) held.kind held.place held.hand) point base now plan asked
+  pub inside : IsHeld shape.slots held
   pub bare : plan.entry ≡ None
 
 -- the slot of an object ends whose last unowned reference went
-pub record IsEnding (k : Task) (j : Job k) (i slot : ℕ) (plan : OneStep) (vars : List (Option Held)) (made hands : ℕ) (asked : Option Step) (now : List Made) : Type 0 where
+pub record IsEnding (shape : HeapShape) (point : Point) (Over : List Made → Type 0) (slot : ℕ) (plan : OneStep) (asked : Option Step) (now : List Made) : Type 0 where
   pub base : List Made
-  pub ends : (after : List Made) → SlotEnds k.shape (here k j i) slot None base after → IsOver k j i vars made hands after
-  pub waits : Waits (vacate (extent_of k.shape) slot) (here k j i) base now plan asked
+  pub ends : (after : List Made) → SlotEnds shape point slot None base after → Over after
+  pub waits : Waits (vacate (extent_of shape) slot) point base now plan asked
 
 -- ---- a deinit
 
@@ -250,13 +328,13 @@ CascadeUpTo shape point slot base now asked (at.Finishing p) = IsFinishing shape
 CascadeUpTo shape point slot base now asked (at.Vacating p) = IsVacating shape point slot base now p asked
 CascadeUpTo shape point slot base now asked _ = ⊥
 
-pub record IsDying (k : Task) (j : Job k) (i : ℕ) (c : CascadeState) (vars : List (Option Held)) (made hands : ℕ) (asked : Option Step) (now : List Made) : Type 0 where
+pub record IsDying (shape : HeapShape) (point : Point) (Over : List Made → Type 0) (c : CascadeState) (asked : Option Step) (now : List Made) : Type 0 where
   pub base : List Made
-  pub layout : c.layout ≡ extent_of k.shape
-  pub shape : c.shape ≡ k.shape
-  pub ends : (after : List Made) → IsCascade k.shape (here k j i) c.slot base after → IsOver k j i vars made hands after
-  pub place : CascadeUpTo k.shape (here k j i) c.slot base now asked c.at
-  pub within : c.slot < k.shape.slots
+  pub layout : c.layout ≡ extent_of shape
+  pub shape_is : c.shape ≡ shape
+  pub ends : (after : List Made) → IsCascade shape point c.slot base after → Over after
+  pub place : CascadeUpTo shape point c.slot base now asked c.at
+  pub within : c.slot < shape.slots
 
 -- ---- the stepper
 
@@ -275,11 +353,15 @@ step_in _ = None
 abbrev pub UpTo : (k : Task) → Job k → ℕ → List (Option Held) → (made hands : ℕ) → Move → List Made → Doing → Type 0
 UpTo k j i vars made hands asked now Ready = (asked ≡ moves.PhaseEnd) × AreDone k j i (state_of vars made hands) now
 UpTo k j i vars made hands asked now (Making to name plan) = IsMaking k j i to name plan vars made hands (step_in asked) now
-UpTo k j i vars made hands asked now (Gaining gain to held plan) = IsGaining k j i gain to held plan vars made hands (step_in asked) now
+UpTo k j i vars made hands asked now (Gaining gain to from plan) = IsGainingFrom k j i gain to from.origin from.kind from.place plan vars made hands (step_in asked) now
 UpTo k j i vars made hands asked now (Naming to held plan) = IsNaming k j i to held plan vars made hands (step_in asked) now
-UpTo k j i vars made hands asked now (Dropping held plan) = IsDropping k j i held plan vars made hands (step_in asked) now
-UpTo k j i vars made hands asked now (Dying c) = IsDying k j i c vars made hands (step_in asked) now
-UpTo k j i vars made hands asked now (Vacating slot plan) = IsEnding k j i slot plan vars made hands (step_in asked) now
+UpTo k j i vars made hands asked now (Opening to cell plan) = IsOpening k j i to cell plan vars made hands (step_in asked) now
+UpTo k j i vars made hands asked now (Closing to cell held plan) = IsClosing k j i to cell held plan vars made hands (step_in asked) now
+UpTo k j i vars made hands asked now (Setting from cell plan) = IsSetting k j i from cell plan vars made hands (step_in asked) now
+UpTo k j i vars made hands asked now (Clearing plan) = ⊥
+UpTo k j i vars made hands asked now (Dropping held plan) = IsDropping k.shape (here k j i) (IsOver k j i vars made hands) held plan (step_in asked) now
+UpTo k j i vars made hands asked now (Dying c) = IsDying k.shape (here k j i) (IsOver k j i vars made hands) c (step_in asked) now
+UpTo k j i vars made hands asked now (Vacating slot plan) = IsEnding k.shape (here k j i) (IsOver k j i vars made hands) slot plan (step_in asked) now
 UpTo k j i vars made hands asked now Ended = (asked ≡ moves.Ended) × IsWhole k now
 
 -- the stepper is the thread's, at operation i of the phase, which is the last of so many that have begun
@@ -296,6 +378,11 @@ pub record Works (k : Task) (j : Job k) (i n : ℕ) (layout : Extent) (shape : H
 abbrev pub WorksAt : (k : Task) → Job k → (i n : ℕ) → Thread → Type 0
 WorksAt k j i n t = Works k j i n t.layout t.shape t.thread t.phases t.program t.phase t.index
 
+-- the operation that is under way has a number, and the scope ends in the last phase
+pub record IsAt (k : Task) (j : Job k) (i : ℕ) : Type 0 where
+  pub numbered : i < length j.ops → (o : Op) × (slice_get j.ops i ≡ Some o) × (begins_block o ≡ false)
+  pub scope : length j.ops ≤ i → j.phase + 1 ≡ length k.decl.phases
+
 -- what the variables hold is served, lies in the heap, and is of their kinds
 pub record AreIn (k : Task) (vars : List (Option Held)) : Type 0 where
   pub held : All (HeldFits k.shape.slots) vars
@@ -307,6 +394,12 @@ IsIn begun phases Ready = phases ≡ begun + 1
 IsIn begun phases Ended = ⊤
 IsIn begun phases _ = phases ≡ begun
 
+-- where the newest step stands: between phases before the next operation, and else with the operation that is under way
+abbrev pub IsPlaced : (k : Task) → Job k → ℕ → (first : Bool) → List Made → Doing → Type 0
+IsPlaced k j i first now Ready = Passed j.phase j.ops i now
+IsPlaced k j i first now Ended = ⊤
+IsPlaced k j i first now _ = IsAt k j i × Newest (here k j i) first now
+
 -- where so many phases have begun
 pub record Stands (k : Task) (begun : ℕ) (t : Thread) (now : List Made) : Type 0 where
   pub job : Job k
@@ -315,4 +408,33 @@ pub record Stands (k : Task) (begun : ℕ) (t : Thread) (now : List Made) : Type
   pub phased : IsIn begun phases t.doing
   pub works : WorksAt k job at phases t
   pub vars_in : AreIn k t.vars
+  pub placed : IsPlaced k job at t.first now t.doing
   pub up_to : UpTo k job at t.vars t.made t.hands t.asked now t.doing
+
+-- ---- thread 0
+
+pub record IsClearing (shape : HeapShape) (cleared hands : ℕ) (plan : SwapAttempt) (asked : Option Step) (now : List Made) : Type 0 where
+  pub base : List Made
+  pub so_far : GlobalsCleared shape cleared hands base
+  pub there : cleared < length shape.globals
+  pub waits : Waits (swap (extent_of shape) cleared 0 None (hands + 1)) end_point base now plan asked
+  pub word : IsSwappingIn shape.slots plan.at
+
+abbrev pub FirstUpTo : HeapShape → (cleared hands : ℕ) → Move → List Made → Doing → Type 0
+FirstUpTo shape cleared hands asked now Ready = (asked ≡ moves.PhaseEnd) × (now ≡ []) × GlobalsCleared shape cleared hands now
+FirstUpTo shape cleared hands asked now (Clearing plan) = IsClearing shape cleared hands plan (step_in asked) now
+FirstUpTo shape cleared hands asked now (Dropping held plan) = IsDropping shape end_point (GlobalsCleared shape cleared hands) held plan (step_in asked) now
+FirstUpTo shape cleared hands asked now (Dying c) = IsDying shape end_point (GlobalsCleared shape cleared hands) c (step_in asked) now
+FirstUpTo shape cleared hands asked now (Vacating slot plan) = IsEnding shape end_point (GlobalsCleared shape cleared hands) slot plan (step_in asked) now
+FirstUpTo shape cleared hands asked now Ended = (asked ≡ moves.Ended) × (length shape.globals ≤ cleared) × GlobalsCleared shape cleared hands now
+FirstUpTo shape cleared hands asked now _ = ⊥
+
+-- it has no phase and no variable
+pub record StandsFirst (shape : HeapShape) (t : Thread) (now : List Made) : Type 0 where
+  pub layout_is : t.layout ≡ extent_of shape
+  pub shape_is : t.shape ≡ shape
+  pub thread_is : t.thread ≡ 0
+  pub phases_is : t.phases ≡ []
+  pub program_is : t.program ≡ []
+  pub vars_is : t.vars ≡ []
+  pub up_to : FirstUpTo shape t.cleared t.hands t.asked now t.doing

@@ -1,5 +1,5 @@
 -- The event that a stepper tells is that of the plan under way and of the word that its step found.
-use Rattle.std.proofs.Common.{◌≡◌, ℕ, ◌+◌, Bool, true, false, cond, eqb, ltb, List, [], ◌∷◌, take, drop, length, Option, Some, None, refl}
+use Rattle.std.proofs.Common.{◌≡◌, ℕ, ◌+◌, ◌-◌, Bool, true, false, cond, eqb, ltb, List, [], ◌∷◌, take, drop, length, Option, Some, None, refl, ap, ◌∙◌}
 use Rattle.std.specs.Prelude.{position, bit_and}
 use Rattle.arc_model.specs.declared.answer.Answer.TheVariants as answers
 use Rattle.arc_model.specs.declared.event.ObjectName.{ObjectName}
@@ -7,6 +7,9 @@ use Rattle.arc_model.specs.declared.event.Got.TheVariants as gots
 use Rattle.arc_model.specs.declared.shape.Kind.{Kind}
 use Rattle.arc_model.specs.declared.shape.Kind.TheVariants.{Strong, Unowned, Weak}
 use Rattle.arc_model.specs.declared.event.Act.TheVariants as acts
+use Rattle.arc_model.specs.declared.event.Origin.TheVariants as origins
+use Rattle.arc_model.specs.declared.event.CellName.{CellName}
+use Rattle.arc_model.specs.declared.event.CellName.TheVariants as cells
 use Rattle.arc_rule.specs.declared.plan.Next.{Next}
 use Rattle.arc_rule.specs.declared.plan.Next.TheVariants as nexts
 use Rattle.arc_plan.specs.declared.slots.Making.{Making as Search}
@@ -23,23 +26,37 @@ use Rattle.arc_plan.specs.declared.unowned.UnownedDownAnswer.TheVariants as unow
 use Rattle.arc_plan.specs.Attempts.{Attempt}
 use Rattle.arc_plan.specs.Slots.{Creation, OneStep, free_slot, looked, looked_answer, making_turned, making_answer, looking, counting}
 use Rattle.arc_rule.specs.Bits.{words_of, bit_of}
-use Rattle.arc_cells.specs.declared.cascade.At.TheVariants as at
-use Rattle.arc_cells.specs.Cascades.{CascadeState, finish_turned, finish_says, vacated, vacate_says}
+use Rattle.arc_cells.specs.declared.bare.At.TheVariants as at
+use Rattle.arc_cells.specs.BareCascades.{CascadeState, finish_turned, finish_says, vacated, vacate_says}
 use Rattle.arc_script.specs.declared.script.Op.{Op}
 use Rattle.arc_script.specs.declared.script.Op.TheVariants as op
+use Rattle.arc_script.specs.declared.script.OpCell.TheVariants as opcell
+use Rattle.arc_cells.specs.declared.begin.BeginAnswer.{BeginAnswer}
+use Rattle.arc_cells.specs.declared.begin.BeginAnswer.TheVariants as begins
+use Rattle.arc_cells.specs.declared.swap.SwapAnswer.{SwapAnswer}
+use Rattle.arc_cells.specs.declared.swap.SwapAnswer.TheVariants as swaps
+use Rattle.arc_cells.specs.Begins.{Beginning}
+use Rattle.arc_cells.specs.Ends.{AccessEnd}
+use Rattle.arc_cells.specs.Swaps.{SwapAttempt}
 use Rattle.arc_ops.specs.declared.stepper.Held.{Held}
 use Rattle.arc_ops.specs.declared.stepper.Doing.TheVariants.{Ready, Ended}
 use Rattle.arc_ops.specs.declared.stepper.Move.TheVariants as moves
 use Rattle.arc_ops.specs.declared.gain.Gain.{Gain}
 use Rattle.arc_ops.specs.declared.gain.Gain.TheVariants as gains
 use Rattle.arc_ops.specs.Thread.{Thread, value, is_held, put, set_var}
+use Rattle.arc_ops.specs.declared.cell.Cell.{Cell}
+use Rattle.arc_ops.specs.declared.gain.Source.{Source}
+use Rattle.arc_ops.specs.Cells.{held_in, hand_in, swapped, clear_begun, next_global}
+use Rattle.arc_ops.specs.Gets.{opened_on, closed_on}
+use Rattle.arc_ops.specs.Sets.{set_on, cleared_on}
 use Rattle.arc_ops.specs.Gains.{gained, came_by, gained_on, named_on}
 use Rattle.arc_ops.specs.Takes.{IsGainAnswer}
-use Rattle.arc_ops.specs.Begins.{skipped, moved, begun_nil, begun_gain, begun_move, begun_drop, phase_end, phase_over, block_goes_on, at_place, begun_op, begun_at, scope_drop, scope_at, scope_begun, next_op}
+use Rattle.arc_ops.specs.Begins.{skipped, moved, begun_nil, begun_gain, begun_move, begun_drop, phase_end, phase_over, block_goes_on, at_place, begun_op, begun_at, has_globals, scope_drop, scope_at, scope_begun, next_op}
 use Rattle.arc_ops.specs.Drops.{last_gone, dropped_on, dying_on, vacated_on, replaced_old, replaced}
 use Rattle.arc_ops.specs.Makes.{strong_to, made_on}
-use Rattle.arc_schedule.specs.Plans.{told_by, making_told, up_told, down_told, finish_told, vacate_told}
-use Rattle.arc_schedule.proofs.Stands.{rises_of, MadeUpTo}
+use Rattle.arc_schedule.specs.Plans.{told_by, making_told, up_told, down_told, finish_told, vacate_told, begin_told, swap_told, hand_for}
+use Rattle.arc_schedule.specs.Operations.{get_acts, hand_of}
+use Rattle.arc_schedule.proofs.Stands.{ref, rises_of, MadeUpTo}
 
 abbrev pub idle : Thread → Thread
 idle t = record t { doing = Ended; first = false; event = None }
@@ -53,8 +70,12 @@ scope-event t = go (position is_held t.vars)
     at v None = refl
     at v (Some h) = refl
 
+    over : (b : Bool) → (cond b (clear_begun t) (record t { doing = Ended; asked = moves.Ended })).event ≡ t.event
+    over true = refl
+    over false = refl
+
     go : (o : Option ℕ) → (scope_at o t).event ≡ t.event
-    go None = refl
+    go None = over (has_globals t)
     go (Some v) = at v (value t.vars v)
 
 phase-event : (t : Thread) → (phase_over t).event ≡ t.event
@@ -89,8 +110,10 @@ op-event (op.Drop v) t rest e = go (value t.vars v)
     go (Some h) = refl
     go None = e (skipped answers.Nil t)
 op-event (op.Weak to of) t rest e = e (skipped answers.Nil t)
-op-event (op.Get to cell) t rest e = e (skipped answers.Nil t)
-op-event (op.Set cell from) t rest e = e (skipped answers.Nil t)
+op-event (op.Get to (opcell.Global g)) t rest e = refl
+op-event (op.Get to (opcell.Field owner field)) t rest e = e (skipped answers.Nil t)
+op-event (op.Set (opcell.Global g) from) t rest e = refl
+op-event (op.Set (opcell.Field owner field) from) t rest e = e (skipped answers.Nil t)
 op-event (op.IfNil v past) t rest e = e (at_place (block_goes_on t.vars t.index (op.IfNil v past)) t)
 op-event (op.IfSome v past) t rest e = e (at_place (block_goes_on t.vars t.index (op.IfSome v past)) t)
 
@@ -139,17 +162,82 @@ makes-tells t w to name plan (search.Counting x) slots before held count = refl
 makes-tells t w to name plan (search.Naming x) slots before held count = replaced-event to (Some (strong_to t.hands x)) (put (answers.New name) (idle t))
 makes-tells t w to name plan search.Ended slots before held count = absurd count
 
-pub gains-tells : (t : Thread) (gain : Gain) (to : ℕ) (held : Held) (next : Rise) (n : Next UpAnswer) → IsGainAnswer gain n → (gained_on gain to held next n (idle t)).event ≡ told_by (up_told (rises_of gain held.hand (t.hands + 1))) n
-gains-tells t gain to held next (nexts.Step s) fits = refl
-gains-tells t gains.Copy to held next (nexts.Done ups.Up) fits = replaced-event to (Some (gained gains.Copy held t)) (put answers.Ok (came_by gains.Copy held (idle t)))
-gains-tells t gains.Unown to held next (nexts.Done ups.Up) fits = replaced-event to (Some (gained gains.Unown held t)) (put answers.Ok (came_by gains.Unown held (idle t)))
-gains-tells t gains.Load to held next (nexts.Done ups.Up) fits = refl
-gains-tells t gains.Copy to held next (nexts.Done ups.Dead) fits = absurd fits
-gains-tells t gains.Unown to held next (nexts.Done ups.Dead) fits = absurd fits
-gains-tells t gains.Load to held next (nexts.Done ups.Dead) fits = replaced-event to None (put answers.Dead (record (idle t) { event = Some (acts.Load held.hand gots.Dead) }))
-gains-tells t gain to held next (nexts.Done ups.AtCap) fits = absurd fits
-gains-tells t gain to held next (nexts.Done ups.CountFull) fits = absurd fits
-gains-tells t gain to held next (nexts.Done (ups.Again c)) fits = refl
+-- a reference in the hands
+abbrev pub in_hand : (hand : ℕ) → Kind → (place : ℕ) → Source
+in_hand hand kind place = record { origin = origins.Hand hand; kind = kind; place = place }
+
+pub gains-tells : (t : Thread) (gain : Gain) (to hand : ℕ) (kind : Kind) (place : ℕ) (next : Rise) (n : Next UpAnswer) → IsGainAnswer gain n →
+    (gained_on gain to (in_hand hand kind place) next n (idle t)).event ≡ told_by (up_told (rises_of gain hand (t.hands + 1))) n
+gains-tells t gain to hand kind place next (nexts.Step s) fits = refl
+gains-tells t gains.Copy to hand kind place next (nexts.Done ups.Up) fits = replaced-event to (Some (gained gains.Copy (in_hand hand kind place) t)) (put answers.Ok (came_by gains.Copy (in_hand hand kind place) (idle t)))
+gains-tells t gains.Unown to hand kind place next (nexts.Done ups.Up) fits = replaced-event to (Some (gained gains.Unown (in_hand hand kind place) t)) (put answers.Ok (came_by gains.Unown (in_hand hand kind place) (idle t)))
+gains-tells t gains.Load to hand kind place next (nexts.Done ups.Up) fits = refl
+gains-tells t gains.Copy to hand kind place next (nexts.Done ups.Dead) fits = absurd fits
+gains-tells t gains.Unown to hand kind place next (nexts.Done ups.Dead) fits = absurd fits
+gains-tells t gains.Load to hand kind place next (nexts.Done ups.Dead) fits = replaced-event to None (put answers.Dead (record (idle t) { event = Some (acts.Load hand gots.Dead) }))
+gains-tells t gain to hand kind place next (nexts.Done ups.AtCap) fits = absurd fits
+gains-tells t gain to hand kind place next (nexts.Done ups.CountFull) fits = absurd fits
+gains-tells t gain to hand kind place next (nexts.Done (ups.Again c)) fits = refl
+
+-- the reference in a cell
+abbrev pub in_cell : CellName → Kind → (place : ℕ) → Source
+in_cell cell kind place = record { origin = origins.Cell cell; kind = kind; place = place }
+
+pub gets-tells : (t : Thread) (to g : ℕ) (cell : CellName) (kind : Kind) (place : ℕ) (next : Rise) (n : Next UpAnswer) → cell ≡ cells.Global g → IsGainAnswer gains.Copy n →
+    (gained_on gains.Copy to (in_cell cell kind place) next n (idle t)).event ≡ told_by (up_told (get_acts g (t.hands + 1))) n
+gets-tells t to g cell kind place next (nexts.Step s) is fits = refl
+gets-tells t to g cell kind place next (nexts.Done ups.Up) is fits = ap (λ (c : CellName). Some (acts.Copy (origins.Cell c) (t.hands + 1))) is
+gets-tells t to g cell kind place next (nexts.Done ups.Dead) is fits = absurd fits
+gets-tells t to g cell kind place next (nexts.Done ups.AtCap) is fits = absurd fits
+gets-tells t to g cell kind place next (nexts.Done ups.CountFull) is fits = absurd fits
+gets-tells t to g cell kind place next (nexts.Done (ups.Again c)) is fits = refl
+
+pub opens-tells : (t : Thread) (to g : ℕ) (cell : Cell) (next : Beginning) (n : Next BeginAnswer) → cell.name ≡ cells.Global g → (opened_on to cell next n (idle t)).event ≡ told_by (begin_told g) n
+opens-tells t to g cell next (nexts.Step s) is = refl
+opens-tells t to g cell next (nexts.Done (begins.Held w)) is = refl
+opens-tells t to g cell next (nexts.Done begins.Nil) is = replaced-event to None (put answers.Nil (record (idle t) { event = Some (acts.Look cell.name) })) ∙ ap (λ (c : CellName). Some (acts.Look c)) is
+opens-tells t to g cell next (nexts.Done begins.Busy) is = refl
+opens-tells t to g cell next (nexts.Done (begins.Again c)) is = refl
+
+pub closes-tells : (t : Thread) (to : ℕ) (cell : CellName) (held : Held) (next : AccessEnd) (n : Next (Unit {0})) → (closed_on to cell held next n (idle t)).event ≡ None
+closes-tells t to cell held next (nexts.Step s) = refl
+closes-tells t to cell held next (nexts.Done a) = replaced-event to (Some held) (put answers.Ok (idle t))
+
+-- the exchange tells what was put and what was there
+old-event : (there : Option Held) (t : Thread) → (replaced_old there t).event ≡ t.event
+old-event None t = next-event t
+old-event (Some h) t = refl
+
+took-event : (cell : CellName) (put : Option ℕ) (kind : Kind) (w : ℕ) (t : Thread) → (swapped cell put (held_in kind (t.hands + 1) w) t).event ≡ Some (acts.Swap cell put (hand_for (t.hands + 1) w))
+took-event cell put kind w t = go (eqb w 0)
+  where
+    go : (b : Bool) → (swapped cell put (cond b None (Some (record { hand = t.hands + 1; kind = kind; place = w - 2 }))) t).event ≡ Some (acts.Swap cell put (cond b None (Some (t.hands + 1))))
+    go true = refl
+    go false = refl
+
+pub hand-is : (o : Option Held) → hand_in o ≡ hand_of (ref o)
+hand-is None = refl
+hand-is (Some h) = refl
+
+pub sets-tells : (t : Thread) (from g : ℕ) (cell : Cell) (next : SwapAttempt) (n : Next SwapAnswer) → cell.name ≡ cells.Global g →
+    (set_on from cell next n (idle t)).event ≡ told_by (swap_told g (hand_of (ref (value t.vars from))) (t.hands + 1)) n
+sets-tells t from g cell next (nexts.Step s) is = refl
+sets-tells t from g cell next (nexts.Done (swaps.Took w)) is =
+    old-event (held_in cell.kind (t.hands + 1) w) (put answers.Ok (set_var from None (swapped cell.name (hand_in (value t.vars from)) (held_in cell.kind (t.hands + 1) w) (idle t)))) ∙
+    took-event cell.name (hand_in (value t.vars from)) cell.kind w (idle t) ∙
+    ap (λ (c : CellName). Some (acts.Swap c (hand_in (value t.vars from)) (hand_for (t.hands + 1) w))) is ∙
+    ap (λ (h : Option ℕ). Some (acts.Swap (cells.Global g) h (hand_for (t.hands + 1) w))) (hand-is (value t.vars from))
+sets-tells t from g cell next (nexts.Done swaps.Busy) is = refl
+sets-tells t from g cell next (nexts.Done (swaps.Again c)) is = refl
+
+pub clears-tells : (t : Thread) (next : SwapAttempt) (n : Next SwapAnswer) → (cleared_on next n (idle t)).event ≡ told_by (swap_told t.cleared None (t.hands + 1)) n
+clears-tells t next (nexts.Step s) = refl
+clears-tells t next (nexts.Done (swaps.Took w)) =
+    let kind : Kind = (next_global t).kind in
+    old-event (held_in kind (t.hands + 1) w) (swapped (next_global t).name None (held_in kind (t.hands + 1) w) (record (idle t) { cleared = t.cleared + 1 })) ∙
+    took-event (next_global t).name None kind w (record (idle t) { cleared = t.cleared + 1 })
+clears-tells t next (nexts.Done swaps.Busy) = refl
+clears-tells t next (nexts.Done (swaps.Again c)) = refl
 
 pub names-tells : (t : Thread) (to : ℕ) (held : Held) (next : OneStep) (n : Next ObjectName) → (named_on to held next n (idle t)).event ≡ None
 names-tells t to held next (nexts.Step s) = refl

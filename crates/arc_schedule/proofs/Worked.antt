@@ -1,7 +1,9 @@
 -- Two threads of one phase, in the order of their schedule; an operation whose event no step tells alone; blocks that are run and passed over;
--- and a load of an unowned reference, to an object that lives and to one whose deinit has begun.
+-- a load of an unowned reference, to an object that lives and to one whose deinit has begun; and a get, a set and an end section.
 use Rattle.std.proofs.Common.{◌≡◌, ℕ, zero, suc, Bool, true, false, [], ◌∷◌, Some, None, refl, sym, subst, arith}
 use Rattle.arc_model.specs.declared.event.Act.TheVariants as acts
+use Rattle.arc_model.specs.declared.event.Origin.TheVariants as origins
+use Rattle.arc_model.specs.declared.event.CellName.TheVariants as cells
 use Rattle.arc_bits.specs.Words.{unpacked}
 use Rattle.arc_model.specs.Shapes.{class_at}
 use Rattle.arc_rule.specs.Isa.{isa_word_of}
@@ -15,11 +17,14 @@ use Rattle.arc_rule.specs.declared.step.Step.TheVariants.{Load, Exchange, Store,
 use Rattle.arc_schedule.specs.Orders.{is_in}
 use Rattle.arc_schedule.specs.Orders.InOrder.{makes, runs_out, ends}
 use Rattle.arc_schedule.specs.Plans.Reaches.{starts as reaches_start, makes as reaches_next}
-use Rattle.arc_schedule.specs.Plans.Starts.{first as starts_first}
-use Rattle.arc_schedule.specs.Operations.Does.{makes as does_make, load_gives, load_finds_dead}
-use Rattle.arc_schedule.specs.Operations.Drops.{nothing as drops_nothing}
+use Rattle.arc_schedule.specs.Plans.Starts.{first as starts_first, again as starts_again}
+use Rattle.arc_schedule.specs.Operations.Does.{makes as does_make, load_gives, load_finds_dead, gets as does_get, sets as does_set}
+use Rattle.arc_schedule.specs.Operations.Drops.{nothing as drops_nothing, more as drops_more}
+use Rattle.arc_cells.specs.declared.swap.SwapAnswer.TheVariants.{Busy}
+use Rattle.arc_schedule.specs.Threads.{end_point}
+use Rattle.arc_schedule.specs.Threads.GlobalsCleared.{none as globals_none, one as globals_one}
 use Rattle.arc_schedule.specs.Threads.OpsDone.{none as ops_none, one as ops_one, block as ops_block}
-use Rattle.arc_schedule.specs.Worked.{by, look, one_slot, nothing_yet, first_of, count_word, raised, PlacesComeFirst, AccessesEndFirst, OperationsTell, BlocksAreRun, LoadsGive, LoadsFindDead}
+use Rattle.arc_schedule.specs.Worked.{by, look, one_slot, nothing_yet, first_of, count_word, raised, counts_more, PlacesComeFirst, AccessesEndFirst, OperationsTell, BlocksAreRun, LoadsGive, LoadsFindDead, GetsCopy, SetsSwap, EndsClear}
 
 pub places_come_first : PlacesComeFirst
 places_come_first =
@@ -38,7 +43,7 @@ operations_tell class =
       started = [];
       starts = starts_first;
       answers = record { at = _; last = Some 0; reaches = reaches_next {found = 0} (reaches_next {found = 0} (reaches_next {found = 0} (reaches_next {found = 0} reaches_start refl) refl) refl) refl; answers = refl };
-      unchanged = refl;
+      ends = refl;
     }))
     drops_nothing refl
   where
@@ -63,13 +68,13 @@ loads_give =
       started = [];
       starts = starts_first;
       answers = record { at = _; last = Some (count_word 0 2 false); reaches = reaches_next {found = count_word 0 2 false} (reaches_next {found = count_word 0 2 false} reaches_start refl) refl; answers = refl };
-      unchanged = refl;
+      ends = refl;
     })
     (record {
       started = raised;
       starts = starts_first;
       answers = record { at = _; last = Some (isa_word_of (next_name (first_of 1) nothing_yet 0)); reaches = reaches_next {found = isa_word_of (next_name (first_of 1) nothing_yet 0)} reaches_start refl; answers = refl };
-      unchanged = refl;
+      ends = refl;
     })
     drops_nothing refl
 
@@ -81,6 +86,60 @@ loads_find_dead =
       started = [];
       starts = starts_first;
       answers = record { at = _; last = Some (count_word 0 1 true); reaches = reaches_next {found = count_word 0 1 true} reaches_start refl; answers = refl };
-      unchanged = refl;
+      ends = refl;
     })
     drops_nothing refl
+
+pub gets_copy : GetsCopy
+unfolding unpacked
+gets_copy =
+    does_get {slot = 0} {begun = made_at (first_of 1) (Exchange 1 2 1) 2 None ∷ made_at (first_of 1) (Load 1) 2 None ∷ []}
+    {mid = counts_more (first_of 1) (Some (acts.Copy (origins.Cell (cells.Global 0)) 1)) (made_at (first_of 1) (Exchange 1 2 1) 2 None ∷ made_at (first_of 1) (Load 1) 2 None ∷ [])}
+    (omega arith) (omega arith) tt
+    (record {
+      started = [];
+      starts = starts_first;
+      answers = record { at = _; last = Some 2; reaches = reaches_next {found = 2} (reaches_next {found = 2} reaches_start refl) refl; answers = refl };
+      ends = refl;
+    })
+    (record {
+      started = made_at (first_of 1) (Exchange 1 2 1) 2 None ∷ made_at (first_of 1) (Load 1) 2 None ∷ [];
+      starts = starts_first;
+      answers = record { at = _; last = Some (count_word 0 2 false); reaches = reaches_next {found = count_word 0 2 false} (reaches_next {found = count_word 0 2 false} reaches_start refl) refl; answers = refl };
+      ends = refl;
+    })
+    (record {
+      started = counts_more (first_of 1) (Some (acts.Copy (origins.Cell (cells.Global 0)) 1)) (made_at (first_of 1) (Exchange 1 2 1) 2 None ∷ made_at (first_of 1) (Load 1) 2 None ∷ []);
+      starts = starts_first;
+      answers = record { at = _; last = Some 1; reaches = reaches_next {found = 1} reaches_start refl; answers = refl };
+      ends = refl;
+    })
+    drops_nothing refl
+
+pub sets_swap : SetsSwap
+sets_swap =
+    does_set {word = 0} (omega arith)
+    (record {
+      started = made_at (first_of 1) (Load 1) 1 None ∷ [];
+      starts = starts_again {a = Busy} starts_first (record { at = _; last = Some 1; reaches = reaches_next {found = 1} reaches_start refl; answers = refl }) refl;
+      answers = record { at = _; last = Some 0; reaches = reaches_next {found = 0} (reaches_next {found = 0} reaches_start refl) refl; answers = refl };
+      ends = refl;
+    })
+    drops_nothing refl
+
+pub ends_clear : EndsClear
+unfolding unpacked
+ends_clear =
+    globals_one {word = 2} {mid = made_at end_point (Exchange 1 2 0) 2 (Some (acts.Swap (cells.Global 0) None (Some 1))) ∷ made_at end_point (Load 1) 2 None ∷ []} globals_none (omega arith)
+    (record {
+      started = [];
+      starts = starts_first;
+      answers = record { at = _; last = Some 2; reaches = reaches_next {found = 2} (reaches_next {found = 2} reaches_start refl) refl; answers = refl };
+      ends = refl;
+    })
+    (drops_more {entry = None} (omega arith) tt (record {
+      started = made_at end_point (Exchange 1 2 0) 2 (Some (acts.Swap (cells.Global 0) None (Some 1))) ∷ made_at end_point (Load 1) 2 None ∷ [];
+      starts = starts_first;
+      answers = record { at = _; last = Some (count_word 1 2 false); reaches = reaches_next {found = count_word 1 2 false} (reaches_next {found = count_word 1 2 false} reaches_start refl) refl; answers = refl };
+      ends = refl;
+    }))

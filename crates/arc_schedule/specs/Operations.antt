@@ -1,10 +1,12 @@
 -- Which steps an operation makes, and what the thread holds behind it. So far objects are made, strong and unowned references copied, formed,
--- loaded, moved and dropped, and objects deinited whose fields are nil; what isn't served yet has no case. The beginning of a block makes no step.
-use Rattle.std.specs.Prelude.{ℕ, ◌≡◌, ◌<◌, ◌+◌, List, ◌∷◌, slice_index_or, slice_set, if◌then◌else◌, is_some, Option, Some, None}
+-- loaded, moved and dropped, also by globals, and objects deinited whose fields are nil; what isn't served yet has no case. The beginning of a block
+-- makes no step.
+use Rattle.std.specs.Prelude.{ℕ, ◌≡◌, ◌<◌, ◌+◌, ◌-◌, ◌==◌, length, List, ◌∷◌, slice_index_or, slice_set, if◌then◌else◌, is_some, Option, Some, None}
 use Rattle.arc_model.specs.declared.event.Act.TheVariants as acts
 use Rattle.arc_model.specs.declared.event.Got.TheVariants as got
 use Rattle.arc_model.specs.declared.event.ObjectName.{ObjectName}
 use Rattle.arc_model.specs.declared.event.Origin.TheVariants as origins
+use Rattle.arc_model.specs.declared.event.CellName.TheVariants as cells
 use Rattle.arc_model.specs.declared.shape.Kind.{Kind}
 use Rattle.arc_model.specs.declared.shape.Kind.TheVariants.{Strong, Unowned}
 use Rattle.arc_model.specs.Shapes.{HeapShape, class_at}
@@ -19,10 +21,13 @@ use Rattle.arc_plan.specs.declared.unowned.UnownedDownAnswer.TheVariants as unow
 use Rattle.arc_side.specs.declared.up.UpAnswer.TheVariants as ups
 use Rattle.arc_side.specs.declared.down.DownAnswer.TheVariants as downs
 use Rattle.arc_side.specs.Inline.{IsCountedInline}
+use Rattle.arc_cells.specs.declared.begin.BeginAnswer.TheVariants as begins
+use Rattle.arc_cells.specs.declared.swap.SwapAnswer.TheVariants as swaps
 use Rattle.arc_script.specs.declared.script.Op.{Op}
 use Rattle.arc_script.specs.declared.script.Op.TheVariants as op
+use Rattle.arc_script.specs.declared.script.OpCell.TheVariants as opcell
 use Rattle.arc_schedule.specs.Made.{Point, Made, made_at}
-use Rattle.arc_schedule.specs.Plans.{Rises, Gives, new_object, up, down, name_of, finish, vacate}
+use Rattle.arc_schedule.specs.Plans.{Rises, Gives, new_object, up, down, name_of, finish, vacate, begin_access, end_access, swap}
 
 -- a reference in a thread's hands: its number among those that came into them, its kind, and the slot, for a weak one the entry, that
 -- it leads to
@@ -112,6 +117,33 @@ unown_acts hand next = record { got = Some (acts.UnownedOf hand next); dead = No
 abbrev pub load_acts : (hand next : ℕ) → Rises
 load_acts hand next = record { got = Some (acts.Load hand (got.Hand next)); dead = Some (acts.Load hand got.Dead) }
 
+-- of a copy of the reference in a global
+abbrev pub get_acts : (global next : ℕ) → Rises
+get_acts g next = record { got = Some (acts.Copy (origins.Cell (cells.Global g)) next); dead = None }
+
+-- ---- the word of a global is 0 where it is nil, and else 2 more than the slot that its reference leads to
+
+abbrev pub global_kind : HeapShape → (global : ℕ) → Kind
+global_kind shape g = (slice_index_or shape.globals g (record { kind = Strong; class = 0 })).kind
+
+abbrev pub word_of : Option Holding → ℕ
+word_of None = 0
+word_of (Some held) = held.place + 2
+
+abbrev pub hand_of : Option Holding → Option ℕ
+hand_of None = None
+hand_of (Some held) = Some held.hand
+
+-- the reference that the word stands for, in this hand
+abbrev pub taken : (hand : ℕ) → Kind → (word : ℕ) → Option Holding
+taken hand kind word = if word == 0 then None else reference_to hand kind (word - 2)
+
+-- how many references came into the hands with it
+abbrev pub hands_with : (hands word : ℕ) → ℕ
+hands_with hands word = if word == 0 then hands else hands + 1
+
+-- ---- operations
+
 -- the state with a new reference in a variable
 abbrev pub with_new : State → (to : ℕ) → Kind → (slot : ℕ) → State
 with_new state to kind slot = record state { vars = put state.vars to (reference_to (state.hands + 1) kind slot); hands = state.hands + 1 }
@@ -148,6 +180,21 @@ pub data Does (shape : HeapShape) (point : Point) : Op → (state : State) (b : 
       new ≡ record state { vars = put (put state.vars to (Some held)) from None } → Does shape point (op.Move to from) state b new after
   moves_nil : {to from : ℕ} {state new : State} {b after : List Made} → value state.vars from ≡ None → Drops shape point (value state.vars to) b after →
       new ≡ with_nil state to → Does shape point (op.Move to from) state b new after
+  -- a global that is nil is looked at
+  looks : {to g : ℕ} {state new : State} {b mid after : List Made} → g < length shape.globals →
+      Gives (begin_access (extent_of shape) g) point b begins.Nil mid → Drops shape point (value state.vars to) mid after → new ≡ with_nil state to →
+      Does shape point (op.Get to (opcell.Global g)) state b new after
+  -- its reference is copied during an access
+  gets : {to g slot : ℕ} {state new : State} {b begun mid ended after : List Made} → g < length shape.globals → slot < shape.slots → IsCountedInline (global_kind shape g) →
+      Gives (begin_access (extent_of shape) g) point b (begins.Held (slot + 2)) begun →
+      Gives (up (extent_of shape) shape.caps (global_kind shape g) slot (get_acts g (state.hands + 1))) point begun ups.Up mid →
+      Gives (end_access (extent_of shape) g (slot + 2)) point mid tt ended → Drops shape point (value state.vars to) ended after →
+      new ≡ with_new state to (global_kind shape g) slot → Does shape point (op.Get to (opcell.Global g)) state b new after
+  -- the variable's reference, or nil, goes into the global, and what was there is dropped
+  sets : {from g word : ℕ} {state new : State} {b mid after : List Made} → g < length shape.globals →
+      Gives (swap (extent_of shape) g (word_of (value state.vars from)) (hand_of (value state.vars from)) (state.hands + 1)) point b (swaps.Took word) mid →
+      Drops shape point (taken (state.hands + 1) (global_kind shape g) word) mid after →
+      new ≡ record state { vars = put state.vars from None; hands = hands_with state.hands word } → Does shape point (op.Set (opcell.Global g) from) state b new after
   drops : {v : ℕ} {state new : State} {b after : List Made} → Drops shape point (value state.vars v) b after → new ≡ with_nil state v →
       Does shape point (op.Drop v) state b new after
 

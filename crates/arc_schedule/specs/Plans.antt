@@ -1,13 +1,15 @@
 -- Which steps a plan makes, and which events they have. Each relation goes from the steps made before to those made after, the newest first.
-use Rattle.std.specs.Prelude.{ℕ, ◌≡◌, Bool, true, false, List, ◌∷◌, Option, Some, None}
+use Rattle.std.specs.Prelude.{ℕ, ◌≡◌, ◌==◌, if◌then◌else◌, is_some, Bool, true, false, List, ◌∷◌, Option, Some, None}
 use Rattle.arc_model.specs.declared.event.Act.{Act}
 use Rattle.arc_model.specs.declared.event.Act.TheVariants as acts
+use Rattle.arc_model.specs.declared.event.CellName.TheVariants as cells
 use Rattle.arc_model.specs.declared.event.ObjectName.{ObjectName}
 use Rattle.arc_model.specs.declared.shape.Kind.{Kind}
 use Rattle.arc_model.specs.Shapes.{CapNumbers}
 use Rattle.arc_rule.specs.Extents.{Extent}
+use Rattle.arc_rule.specs.Places.{number}
+use Rattle.arc_rule.specs.declared.layout.Place.TheVariants as places
 use Rattle.arc_rule.specs.declared.step.Step.{Step}
-use Rattle.arc_rule.specs.declared.step.Changed.{Changed}
 use Rattle.arc_rule.specs.declared.plan.Next.{Next}
 use Rattle.arc_rule.specs.declared.plan.Next.TheVariants as nexts
 use Rattle.arc_rule.specs.declared.attempt.At.TheVariants as attempt
@@ -18,7 +20,7 @@ use Rattle.arc_plan.specs.declared.slots.NewObjectAnswer.{NewObjectAnswer}
 use Rattle.arc_plan.specs.declared.unowned.UnownedDownAnswer.{UnownedDownAnswer}
 use Rattle.arc_plan.specs.declared.unowned.UnownedDownAnswer.TheVariants as unowneds
 use Rattle.arc_plan.specs.Attempts.{Attempt}
-use Rattle.arc_plan.specs.Slots.{Creation, OneStep, creation_turned, creation_answer, creation_change, one_turned, vacate_answer, name_of_answer, no_change}
+use Rattle.arc_plan.specs.Slots.{Creation, OneStep, creation_turned, creation_answer, creation_change, one_turned, vacate_answer, name_of_answer}
 use Rattle.arc_plan.specs.Unowned.{unowned_down_turned, unowned_down_answer, unowned_down_change}
 use Rattle.arc_side.specs.declared.up.UpAnswer.{UpAnswer}
 use Rattle.arc_side.specs.declared.up.UpAnswer.TheVariants as ups
@@ -26,15 +28,22 @@ use Rattle.arc_side.specs.declared.down.DownAnswer.{DownAnswer}
 use Rattle.arc_side.specs.declared.down.DownAnswer.TheVariants as downs
 use Rattle.arc_side.specs.Ups.{Rise, up_turned, up_answer, up_change}
 use Rattle.arc_side.specs.Downs.{Fall, down_turned, down_answer, down_change}
+use Rattle.arc_cells.specs.declared.begin.BeginAnswer.{BeginAnswer}
+use Rattle.arc_cells.specs.declared.begin.BeginAnswer.TheVariants as begins
+use Rattle.arc_cells.specs.declared.swap.SwapAnswer.{SwapAnswer}
+use Rattle.arc_cells.specs.declared.swap.SwapAnswer.TheVariants as swaps
+use Rattle.arc_cells.specs.Begins.{Beginning, begin_turned, begin_answer}
+use Rattle.arc_cells.specs.Ends.{AccessEnd, end_turned, end_answer}
+use Rattle.arc_cells.specs.Swaps.{SwapAttempt, swap_turned, swap_answer}
 use Rattle.arc_schedule.specs.Made.{Point, Made, made_at}
 
--- A plan from its start: what it asks for or answers once it is given what its step before gave back, which answers say that a
--- word has changed, and which event the step has that it waits for, by the word that this one gives back.
+-- A plan from its start: what it asks for or answers once it is given what its step before gave back, after which answers it is begun
+-- anew, and which event the step has that it waits for, by the word that this one gives back.
 pub record Plan (P A : Type 0) : Type 0 where
   pub start : P
   pub turned : P → Option ℕ → P
   pub answer : P → Option ℕ → Next A
-  pub changed : A → Option Changed
+  pub anew : A → Bool
   pub tells : P → ℕ → Option Act
 
 -- The plan, from its start, has made the steps behind b, and is given what the last of them gave back.
@@ -51,17 +60,17 @@ pub record Answers {P A : Type 0} (plan : Plan P A) (point : Point) (b : List Ma
   pub reaches : Reaches plan point b at last after
   pub answers : plan.answer at last ≡ nexts.Done a
 
--- it is started, and again as often as it answers that a word has changed
+-- it is started, and again as often as it gives an answer after which it is begun anew
 pub data Starts {P A : Type 0} (plan : Plan P A) (point : Point) (b : List Made) : List Made → Type 0 where
   first : Starts plan point b b
-  again : {a : A} {c : Changed} {ns after : List Made} → Starts plan point b ns → Answers plan point ns a after → plan.changed a ≡ Some c → Starts plan point b after
+  again : {a : A} {ns after : List Made} → Starts plan point b ns → Answers plan point ns a after → plan.anew a ≡ true → Starts plan point b after
 
 -- it comes to an answer in the end
 pub record Gives {P A : Type 0} (plan : Plan P A) (point : Point) (b : List Made) (a : A) (after : List Made) : Type 0 where
   pub started : List Made
   pub starts : Starts plan point b started
   pub answers : Answers plan point started a after
-  pub unchanged : plan.changed a ≡ None
+  pub ends : plan.anew a ≡ false
 
 -- ---- the plans
 
@@ -82,7 +91,7 @@ new_object l immortal name hand = record {
   start = record { layout = l; name = name; immortal = immortal; at = makings.Start };
   turned = creation_turned;
   answer = creation_answer;
-  changed = creation_change;
+  anew = λ a. is_some (creation_change a);
   tells = λ p found. making_told hand name.class p.at (creation_answer p (Some found));
 }
 
@@ -102,7 +111,7 @@ up l caps list slot acts = record {
   start = record { layout = l; slot = slot; list = list; caps = caps; entry = None; at = attempt.Start };
   turned = up_turned;
   answer = up_answer;
-  changed = up_change;
+  anew = λ a. is_some (up_change a);
   tells = λ p found. told_by (up_told acts) (up_answer p (Some found));
 }
 
@@ -117,7 +126,7 @@ down l list slot hand = record {
   start = record { layout = l; slot = slot; list = list; entry = None; at = attempt.Start };
   turned = down_turned;
   answer = down_answer;
-  changed = down_change;
+  anew = λ a. is_some (down_change a);
   tells = λ p found. told_by (down_told hand) (down_answer p (Some found));
 }
 
@@ -127,7 +136,7 @@ name_of l slot = record {
   start = record { layout = l; slot = slot; at = onces.Start };
   turned = one_turned;
   answer = name_of_answer;
-  changed = no_change;
+  anew = λ a. false;
   tells = λ p found. None;
 }
 
@@ -142,7 +151,7 @@ finish l slot = record {
   start = record { layout = l; slot = slot; at = attempt.Start };
   turned = unowned_down_turned;
   answer = unowned_down_answer;
-  changed = unowned_down_change;
+  anew = λ a. is_some (unowned_down_change a);
   tells = λ p found. told_by (finish_told slot) (unowned_down_answer p (Some found));
 }
 
@@ -155,6 +164,63 @@ vacate l slot = record {
   start = record { layout = l; slot = slot; at = onces.Start };
   turned = one_turned;
   answer = vacate_answer;
-  changed = no_change;
+  anew = λ a. false;
   tells = λ p found. told_by (vacate_told slot) (vacate_answer p (Some found));
+}
+
+-- ---- the plans of globals
+
+-- the load that finds nil has the event
+abbrev pub begin_told : (global : ℕ) → BeginAnswer → Option Act
+begin_told g begins.Nil = Some (acts.Look (cells.Global g))
+begin_told g _ = None
+
+-- another access is under way, or the word has changed
+abbrev pub begin_anew : BeginAnswer → Bool
+begin_anew begins.Busy = true
+begin_anew (begins.Again changed) = true
+begin_anew _ = false
+
+-- an access to the global begins, where it isn't nil
+abbrev pub begin_access : Extent → (global : ℕ) → Plan Beginning BeginAnswer
+begin_access l g = record {
+  start = record { layout = l; place = number l (places.Global g); at = attempt.Start };
+  turned = begin_turned;
+  answer = begin_answer;
+  anew = begin_anew;
+  tells = λ p found. told_by (begin_told g) (begin_answer p (Some found));
+}
+
+-- and ends: the global has this word again
+abbrev pub end_access : Extent → (global word : ℕ) → Plan AccessEnd (Unit {0})
+end_access l g word = record {
+  start = record { layout = l; place = number l (places.Global g); value = word; at = onces.Start };
+  turned = end_turned;
+  answer = end_answer;
+  anew = λ a. false;
+  tells = λ p found. None;
+}
+
+-- the hand that a reference comes into which the word stands for; 0 stands for none
+abbrev pub hand_for : (hand word : ℕ) → Option ℕ
+hand_for hand word = if word == 0 then None else Some hand
+
+abbrev pub swap_told : (global : ℕ) (put : Option ℕ) (hand : ℕ) → SwapAnswer → Option Act
+swap_told g put hand (swaps.Took word) = Some (acts.Swap (cells.Global g) put (hand_for hand word))
+swap_told g put hand _ = None
+
+-- an access is under way, or the word has changed
+abbrev pub swap_anew : SwapAnswer → Bool
+swap_anew swaps.Busy = true
+swap_anew (swaps.Again changed) = true
+swap_anew (swaps.Took word) = false
+
+-- the word comes into the global, and what was there into the hand
+abbrev pub swap : Extent → (global new : ℕ) → (put : Option ℕ) → (hand : ℕ) → Plan SwapAttempt SwapAnswer
+swap l g new put hand = record {
+  start = record { layout = l; place = number l (places.Global g); new = new; at = attempt.Start };
+  turned = swap_turned;
+  answer = swap_answer;
+  anew = swap_anew;
+  tells = λ p found. told_by (swap_told g put hand) (swap_answer p (Some found));
 }

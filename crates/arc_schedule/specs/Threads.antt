@@ -1,4 +1,4 @@
--- Which steps a thread makes: those of its operations, phase by phase, and those of the end of its scope.
+-- Which steps a thread makes: those of its operations, phase by phase, and those of the end of its scope; and those of the end section.
 use Rattle.std.specs.Prelude.{ℕ, ◌≡◌, ◌<◌, ◌+◌, ◌-◌, true, List, [], length, take, slice_get, replicate, Some, None}
 use Rattle.arc_model.specs.Shapes.{HeapShape}
 use Rattle.arc_script.specs.declared.script.Op.{Op}
@@ -7,7 +7,10 @@ use Rattle.arc_script.specs.declared.script.Script.{Script}
 use Rattle.arc_script.specs.OneList.{numbered}
 use Rattle.arc_script.specs.Valid.{begins_block}
 use Rattle.arc_schedule.specs.Made.{Point, Made}
-use Rattle.arc_schedule.specs.Operations.{Variables, State, value, Drops, Does, goes_on}
+use Rattle.arc_rule.specs.Places.{extent_of}
+use Rattle.arc_cells.specs.declared.swap.SwapAnswer.TheVariants as swaps
+use Rattle.arc_schedule.specs.Plans.{Gives, swap}
+use Rattle.arc_schedule.specs.Operations.{Variables, State, value, Drops, Does, goes_on, global_kind, taken, hands_with}
 
 abbrev pub point_of : (thread phase operation : ℕ) → Point
 point_of thread phase operation = record { thread = thread; phase = phase; operation = operation }
@@ -41,9 +44,18 @@ pub record IsThread (shape : HeapShape) (thread : ℕ) (decl : ThreadDecl) (own 
   pub phases : PhasesDone shape thread decl (length decl.phases) behind worked
   pub scope : ScopeEnds shape (point_of thread (length decl.phases - 1) 0) behind.vars worked (length behind.vars) own
 
--- the first globals are cleared by thread 0; so far there are none
-pub data GlobalsCleared (shape : HeapShape) : (done : ℕ) → List Made → Type 0 where
-  none : GlobalsCleared shape 0 []
+-- ---- the end section, behind all other threads
 
-abbrev pub IsEndSection : Script → List Made → Type 0
-IsEndSection script own = GlobalsCleared script.shape (length script.globals) own
+abbrev pub end_point : Point
+end_point = point_of 0 0 0
+
+-- Thread 0 clears the first globals, in the order of declaration, and drops what each had; so many references came into its hands.
+pub data GlobalsCleared (shape : HeapShape) : (done hands : ℕ) → List Made → Type 0 where
+  none : GlobalsCleared shape 0 0 []
+  one : {g hands word : ℕ} {ns mid after : List Made} → GlobalsCleared shape g hands ns → g < length shape.globals →
+      Gives (swap (extent_of shape) g 0 None (hands + 1)) end_point ns (swaps.Took word) mid → Drops shape end_point (taken (hands + 1) (global_kind shape g) word) mid after →
+      GlobalsCleared shape (g + 1) (hands_with hands word) after
+
+pub record IsEndSection (script : Script) (own : List Made) : Type 0 where
+  pub hands : ℕ
+  pub cleared : GlobalsCleared script.shape (length script.globals) hands own

@@ -1,7 +1,11 @@
 -- Two threads of one phase, in the order of their schedule; an operation whose event no step tells alone; blocks that are run and passed over;
--- and a load of an unowned reference, to an object that lives and to one whose deinit has begun.
-use Rattle.std.specs.Prelude.{ℕ, Bool, true, false, List, [], ◌∷◌, Some, None}
+-- a load of an unowned reference, to an object that lives and to one whose deinit has begun; and a get, a set and an end section.
+use Rattle.std.specs.Prelude.{ℕ, Bool, true, false, List, [], ◌∷◌, Option, Some, None}
+use Rattle.arc_model.specs.declared.event.Act.{Act}
 use Rattle.arc_model.specs.declared.event.Act.TheVariants as acts
+use Rattle.arc_model.specs.declared.event.CellName.TheVariants as cells
+use Rattle.arc_model.specs.declared.event.Origin.TheVariants as origins
+use Rattle.arc_model.specs.declared.shape.Kind.TheVariants.{Strong}
 use Rattle.arc_model.specs.declared.event.Got.TheVariants as got
 use Rattle.arc_bits.specs.Words.{packed}
 use Rattle.arc_bits.specs.declared.packing.Word.TheVariants.{Counts}
@@ -11,9 +15,10 @@ use Rattle.arc_rule.specs.declared.step.Step.{Step}
 use Rattle.arc_rule.specs.declared.step.Step.TheVariants.{Load, Exchange, Store, Or}
 use Rattle.arc_rule.specs.Isa.{isa_word_of}
 use Rattle.arc_script.specs.declared.script.Op.TheVariants as op
+use Rattle.arc_script.specs.declared.script.OpCell.TheVariants as opcell
 use Rattle.arc_schedule.specs.Made.{Point, Made, made_at}
 use Rattle.arc_schedule.specs.Operations.{State, strong_to, unowned_to, next_name, Does}
-use Rattle.arc_schedule.specs.Threads.{point_of, OpsDone}
+use Rattle.arc_schedule.specs.Threads.{point_of, end_point, OpsDone, GlobalsCleared}
 use Rattle.arc_schedule.specs.Orders.{InOrder}
 
 -- one global, one slot, one entry: the global's word is at place 1, the slot's count at place 2
@@ -92,3 +97,34 @@ LoadsGive = Does one_slot (first_of 1) (op.Load 0 1) with_unowned [] with_both (
 -- Its deinit has begun. The load of the count is the only step, and has the event; the first variable is nil.
 abbrev pub LoadsFindDead : Type 0
 LoadsFindDead = Does one_slot (first_of 1) (op.Load 0 1) with_unowned [] with_unowned (made_at (first_of 1) (Load 1) (count_word 0 1 true) (Some (acts.Load 1 got.Dead)) ∷ [])
+
+-- ---- globals
+
+-- one slot and one global: the global's word is at place 1, the slot's count at place 2
+abbrev pub with_global : HeapShape
+with_global = record one_slot { globals = record { kind = Strong; class = 0 } ∷ [] }
+
+-- the strong references of the object in the slot count one more, or one fewer
+abbrev pub counts_more : Point → Option Act → List Made → List Made
+counts_more point event b =
+    made_at point (Exchange 2 (count_word 0 2 false) (count_word 1 2 false)) (count_word 0 2 false) event ∷ made_at point (Load 2) (count_word 0 2 false) None ∷ b
+
+abbrev pub counts_fewer : Point → Option Act → List Made → List Made
+counts_fewer point event b =
+    made_at point (Exchange 2 (count_word 1 2 false) (count_word 0 2 false)) (count_word 1 2 false) event ∷ made_at point (Load 2) (count_word 1 2 false) None ∷ b
+
+-- The global has a reference to the object in the slot. It is copied while the global's word is 1, and then the word is there again.
+abbrev pub GetsCopy : Type 0
+GetsCopy = Does with_global (first_of 1) (op.Get 0 (opcell.Global 0)) nothing_yet [] (record { vars = strong_to 1 0 ∷ []; made = 0; hands = 1 })
+    (made_at (first_of 1) (Store 1 2) 1 None ∷ counts_more (first_of 1) (Some (acts.Copy (origins.Cell (cells.Global 0)) 1)) (
+    made_at (first_of 1) (Exchange 1 2 1) 2 None ∷ made_at (first_of 1) (Load 1) 2 None ∷ []))
+
+-- Another thread is inside an access at first. Then the global is nil, and has the variable's reference by one exchange, which has the event.
+abbrev pub SetsSwap : Type 0
+SetsSwap = Does with_global (first_of 1) (op.Set (opcell.Global 0) 0) with_object [] (record { vars = None ∷ []; made = 1; hands = 1 })
+    (made_at (first_of 1) (Exchange 1 0 2) 0 (Some (acts.Swap (cells.Global 0) (Some 1) None)) ∷ made_at (first_of 1) (Load 1) 0 None ∷ made_at (first_of 1) (Load 1) 1 None ∷ [])
+
+-- The end section clears the global: what was there is in the first hand of thread 0, and dropped.
+abbrev pub EndsClear : Type 0
+EndsClear = GlobalsCleared with_global 1 1
+    (counts_fewer end_point (Some (acts.Drop 1 false)) (made_at end_point (Exchange 1 2 0) 2 (Some (acts.Swap (cells.Global 0) None (Some 1))) ∷ made_at end_point (Load 1) 2 None ∷ []))

@@ -2,7 +2,7 @@
 #![tactic(auto)]
 
 ghost use Rattle.arc_schedule.specs.Law.{ReplaysAreScheduleRuns};
-ghost use Rattle.arc_schedule.specs.Worked.{PlacesComeFirst, AccessesEndFirst, OperationsTell, BlocksAreRun, LoadsGive, LoadsFindDead};
+ghost use Rattle.arc_schedule.specs.Worked.{PlacesComeFirst, AccessesEndFirst, OperationsTell, BlocksAreRun, LoadsGive, LoadsFindDead, GetsCopy, SetsSwap, EndsClear};
 
 /// The steps of a replay that came to its end are a schedule run of its script: the words go from all 0 by what each step means, each
 /// thread's steps are those of its operations, phase by phase, and their order is that of the phases and of the schedule. They are as many
@@ -15,7 +15,8 @@ pub fn replays_are_schedule_runs()
 /// Two worked orders of two threads: the schedule's places come first, and where they run out a thread inside an access ends its operation
 /// before the threads go on in the order of their numbers. A worked operation, whose event is no function of the step and the word. Worked
 /// blocks, one that is run and one that is passed over. And worked loads of an unowned reference: the object lives, so its name is read
-/// behind the exchange that has the event; and its deinit has begun, which the first step tells.
+/// behind the exchange that has the event; and its deinit has begun, which the first step tells. At last a worked get, whose copy stands
+/// between the begin of an access and its end, a worked set, which another access stands in the way of, and a worked end section.
 pub fn schedules_are_followed()
     ensures places { PlacesComeFirst }
     ensures accesses { AccessesEndFirst }
@@ -23,4 +24,7 @@ pub fn schedules_are_followed()
     ensures blocks { BlocksAreRun }
     ensures loads { LoadsGive }
     ensures loads_dead { LoadsFindDead }
+    ensures gets { GetsCopy }
+    ensures sets { SetsSwap }
+    ensures end_section { EndsClear }
 {}

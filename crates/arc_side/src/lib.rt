@@ -1,5 +1,5 @@
 //! Plans of references that an entry counts, or an inline word or an entry: a reference more, a reference fewer; and the plans by which
-//! an entry is claimed, published and given back.
+//! an entry is claimed, published and given back, and a slot ends.
 #![tactic(auto)]
 
 mod claim;
@@ -9,7 +9,9 @@ mod entry_down;
 mod entry_up;
 mod give_back;
 mod inline;
+mod laws;
 mod publish;
+mod slot_end;
 #[cfg(test)]
 mod tests;
 mod up;
@@ -21,7 +23,9 @@ pub use down::{Down, DownAnswer};
 pub use entry_down::{EntryDown, EntryDownAnswer};
 pub use entry_up::{EntryUp, EntryUpAnswer};
 pub use give_back::GiveBack;
+pub use laws::downs_tell;
 pub use publish::{Publish, PublishAnswer};
+pub use slot_end::{SlotEnd, SlotEndNext, gives_back};
 pub use up::{Up, UpAnswer};
 pub use weak_load::{Reads, WeakLoad, WeakLoadAnswer};
 pub use weak_of::{WeakOf, WeakOfAnswer};

@@ -5,10 +5,11 @@ ghost use Rattle.arc_side.specs.declared.publish.Publishing.TheVariants.{Start};
 
 use crate::{
     Claim, ClaimAnswer, Down, DownAnswer, EntryDown, EntryDownAnswer, EntryUp, EntryUpAnswer,
-    GiveBack, Publish, PublishAnswer, Up, UpAnswer, WeakLoad, WeakLoadAnswer, WeakOf, WeakOfAnswer,
+    GiveBack, Publish, PublishAnswer, SlotEnd, SlotEndNext, Up, UpAnswer, WeakLoad, WeakLoadAnswer,
+    WeakOf, WeakOfAnswer,
 };
-use arc_model::{Caps, Kind, Shape};
-use arc_rule::{Changed, Layout, Next, Plan, Step};
+use arc_model::{Act, Caps, Kind, Shape};
+use arc_rule::{Changed, Intent, Layout, Next, Plan, Step};
 use std::alloc::Global;
 
 /// Two slots and one entry: the entry's words are the places 23 to 26.
@@ -302,4 +303,41 @@ fn entry_is_not_needed(rt: HostRuntime) {
         has_room.next(Some(0x8_0000_0002)),
         Next::Done(PublishAnswer::NotNeeded)
     );
+}
+
+#[test]
+fn slot_ends(rt: HostRuntime) {
+    let layout = small_layout(rt.alloc()).expect(&rt, "a layout");
+    let vacate = Step::And {
+        place: 27,
+        bits: u64::MAX - 2,
+    };
+    let mut bare = SlotEnd::start(&layout, 1, None);
+    assert_eq!(rt; bare.next(None), SlotEndNext::Step(vacate, Intent::Vacate));
+    assert_eq!(rt; bare.next(Some(3)), SlotEndNext::Done);
+    assert_eq!(rt; bare.event(), Some(Act::Vacate { slot: 1 }));
+    let mut end = SlotEnd::start(&layout, 1, Some(0));
+    assert_eq!(rt; end.next(None), SlotEndNext::Step(vacate, Intent::Vacate));
+    assert_eq!(rt;
+        end.next(Some(3)),
+        SlotEndNext::Step(Step::Load { place: 26 }, Intent::Gone)
+    );
+    assert_eq!(rt;
+        end.next(Some(1)),
+        SlotEndNext::Step(exchange(26, 1, 0), Intent::Gone)
+    );
+    let clear = Step::And {
+        place: 28,
+        bits: u64::MAX - 1,
+    };
+    assert_eq!(rt; end.next(Some(1)), SlotEndNext::Step(clear, Intent::Back));
+    assert_eq!(rt;
+        end.event(),
+        Some(Act::Gone {
+            entry: 0,
+            last: true
+        })
+    );
+    assert_eq!(rt; end.next(Some(1)), SlotEndNext::Done);
+    assert_eq!(rt; end.event(), Some(Act::Back { entry: 0 }));
 }

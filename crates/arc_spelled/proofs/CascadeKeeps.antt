@@ -35,17 +35,19 @@ use Rattle.arc_plan.specs.Attempts.{Attempt, IsCountWord}
 use Rattle.arc_rule.specs.Attempts.{exchanging, chosen, takes_at as attempt_takes, turned_at as attempt_turned, answer_at as attempt_answer}
 use Rattle.arc_plan.specs.Unowned.{UnownedDownWord, unowned_down_row, unowned_down_end}
 use Rattle.arc_plan.specs.Slots.{OneStep, once_takes, once_turned, once_answer, vacating}
-use Rattle.arc_cells.specs.declared.cascade.At.{At}
-use Rattle.arc_cells.specs.declared.cascade.At.TheVariants.{Start, Entering, Naming, Named, Leaving, Finishing, Vacating, Ended}
+use Rattle.arc_cells.specs.declared.bare.At.{At}
+use Rattle.arc_cells.specs.declared.bare.At.TheVariants.{Start, Entering, Naming, Named, Leaving, Finishing, Vacating, Ended}
 use Rattle.arc_cells.specs.declared.cascade.CascadeNext.{CascadeNext}
 use Rattle.arc_cells.specs.declared.cascade.CascadeNext.TheVariants as says
-use Rattle.arc_cells.specs.Cascades.{HasNoFields, CascadeState, finish_turned, finish_says, vacated, vacate_says, turned_at, cascade_turned, answer_at, cascade_answer, IsInline, IsInlineAt, NamesClass, takes_at, cascade_takes}
+use Rattle.arc_cells.specs.BareCascades.{CascadeState, finish_turned, finish_says, vacated, vacate_says, turned_at, cascade_turned, answer_at, cascade_answer, IsInline, IsInlineAt, takes_at, cascade_takes}
+use Rattle.arc_cells.specs.Cascades.{HasNoFields, NamesClass}
 use Rattle.arc_programs.specs.Programs.{made_of}
 use Rattle.arc_programs.specs.ProgramsLines.{lines_of, number_of}
 use Rattle.arc_spelled.specs.Shown.{Shows}
 use Rattle.arc_spelled.specs.Shown.ReadsName.{nothing as read_nothing, name as read_name}
 use Rattle.arc_spelled.specs.Shown.IsNamedFor.{deinit}
 use Rattle.arc_spelled.specs.Shown.TakesLast.{finish}
+use Rattle.arc_spelled.specs.Shown.FindsReference.{nothing as refers_nothing}
 use Rattle.arc_spelled.specs.Shown.FindsNoEntry.{nothing as found_nothing, no_entry}
 use Rattle.arc_spelled.specs.CascadeStands.{asked_by, with_deinit, AllDone, IsFinished, AwaitsExchange, CascadeUpTo, CascadeStandsFor, IsSameObject, CascadesBegin, CascadesGoOn}
 
@@ -59,7 +61,7 @@ pub record IsQuiet (now found : List Note) : Type 0 where
 -- a cascade that has come to its place, with what it says
 pub record CascadeComes (c new : CascadeState) (said : CascadeNext) (asked : Option (Step × Intent)) (last : Option ℕ) (base now : List Note) : Type 0 where
   pub found : List Note
-  pub shows : Shows c.layout asked last new.event now found
+  pub shows : Shows c.layout asked last new.event None now found
   pub stands : CascadeUpTo new (asked_by said) base (with_deinit said found) new.at
   pub same : IsSameObject c new
   pub done : said ≡ says.Done → IsCascade c.shape c.slot base found
@@ -71,7 +73,7 @@ asks_on : (c new : CascadeState) (step : Step) (intent : Intent) (asked : Option
     new.event ≡ None → IsSameObject c new → CascadeUpTo new (Some (step, intent)) base now new.at → CascadeComes c new (says.Step step intent) asked last base now
 asks_on c new step intent asked last base now quiet same u = record {
   found = now;
-  shows = rw quiet (record { read = now; reads = read_nothing; finds = found_nothing });
+  shows = rw quiet (record { read = now; reads = read_nothing; referred = now; refers = refers_nothing; finds = found_nothing });
   stands = u;
   same = same;
   done = λ e. absurd (cc);
@@ -96,7 +98,7 @@ naming : (c : CascadeState) (asked : Option (Step × Intent)) (last : Option ℕ
 naming c asked None base now u fits = absurd fits
 naming c asked (Some w) base now u fits = record {
   found = Name c.slot (isa_name_of w) ∷ now;
-  shows = record { read = Name c.slot (isa_name_of w) ∷ now; reads = read_name u.1 deinit refl; finds = found_nothing };
+  shows = record { read = Name c.slot (isa_name_of w) ∷ now; reads = read_name u.1 deinit refl; referred = Name c.slot (isa_name_of w) ∷ now; refers = refers_nothing; finds = found_nothing };
   stands = rw u.0 named;
   same = record { layout = refl; shape = refl; slot = refl };
   done = λ e. absurd (cc);
@@ -118,7 +120,7 @@ attempts c asked last base now p step layout slot awaits all =
 leaves_more : (c : CascadeState) (asked : Option (Step × Intent)) (last : Option ℕ) (base now : List Note) (p : Attempt) → AllDone c.shape c.slot base now → Finishes c asked last base now p (nexts.Done downs.More)
 leaves_more c asked last base now p all = record {
   found = Did (Finish c.slot false) ∷ now;
-  shows = record { read = now; reads = read_nothing; finds = found_nothing };
+  shows = record { read = now; reads = read_nothing; referred = now; refers = refers_nothing; finds = found_nothing };
   stands = finish_more all.done refl;
   same = record { layout = refl; shape = refl; slot = refl };
   done = λ e. finish_more all.done refl;
@@ -131,7 +133,7 @@ leaves_none : (c : CascadeState) (asked : Option (Step × Intent)) (w new : ℕ)
     asked ≡ Some (Exchange (number c.layout (Count c.slot)) w new, intents.Deinit c.slot) → unpacked w ≡ Some (Counts counts) → AllDone c.shape c.slot base now → Finishes c asked (Some w) base now p (nexts.Done downs.Last)
 leaves_none c asked w new counts base now p asks holds all = record {
   found = Entry c.slot None ∷ Did (Finish c.slot true) ∷ now;
-  shows = record { read = now; reads = read_nothing; finds = no_entry refl asks finish refl holds };
+  shows = record { read = now; reads = read_nothing; referred = now; refers = refers_nothing; finds = no_entry refl asks finish refl holds };
   stands = record { before = now; all_done = all; now_is = refl };
   same = record { layout = refl; shape = refl; slot = refl };
   done = λ e. absurd (cc);
@@ -191,7 +193,7 @@ vacates : (c : CascadeState) (asked : Option (Step × Intent)) (last : Option �
 vacates c asked last base now p u onces.Start takes = asks_on c _ _ _ asked last base now refl (record { layout = refl; shape = refl; slot = refl }) u
 vacates c asked last base now p u onces.Asked takes = record {
   found = Did (Vacate c.slot) ∷ now;
-  shows = record { read = now; reads = read_nothing; finds = found_nothing };
+  shows = record { read = now; reads = read_nothing; referred = now; refers = refers_nothing; finds = found_nothing };
   stands = whole;
   same = record { layout = refl; shape = refl; slot = refl };
   done = λ e. whole;

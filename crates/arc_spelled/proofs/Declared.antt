@@ -13,10 +13,12 @@ use Rattle.arc_script.specs.declared.script.VarDecl.{VarDecl}
 use Rattle.arc_script.specs.declared.script.ThreadDecl.{ThreadDecl}
 use Rattle.arc_script.specs.declared.script.Script.{Script}
 use Rattle.arc_script.specs.declared.script.Op.TheVariants as op
-use Rattle.arc_script.specs.Valid.{IsScript, IsThread, IsOp, ArePair, kind_at}
+use Rattle.arc_script.specs.declared.script.OpCell.{OpCell}
+use Rattle.arc_script.specs.declared.script.OpCell.TheVariants as opcell
+use Rattle.arc_script.specs.Valid.{IsScript, IsThread, IsOp, ArePair, kind_at, ref_at, var_refs, cell_ref}
 use Rattle.arc_script.specs.OneList.{in_one_list, moved_behind}
 use Rattle.arc_script.proofs.OneList.{all_in_one}
-use Rattle.arc_ops.specs.Programs.{declared_of, phases_in, program_of, kinds_in, kinds_of, kind_of, KindsFit}
+use Rattle.arc_ops.specs.Programs.{declared_of, phases_in, program_of, vars_of, kinds_in, kinds_of, kind_of, classes_in, classes_of, class_of, KindOfCell, KindsFit, ClassOfCell, ClassesFit}
 use Rattle.arc_ops.specs.Served.{IsServed, IsServedThread, IsServedVar, IsServedOp}
 use Rattle.std.proofs.ByRecursion.{All-weaker}
 
@@ -68,15 +70,24 @@ kinds-served s p served =
 
 -- ---- which its operations fit
 
--- the kind that a declaration gives a variable
+-- the kind and the class that a declaration gives a variable
 kind-declared : (vars : List VarDecl) (v : ℕ) → kind_of (map (λ (d : VarDecl). d.kind) vars) v ≡ kind_at vars v
 kind-declared [] v = refl
 kind-declared (d ∷ vars) zero = refl
 kind-declared (d ∷ vars) (suc v) = kind-declared vars v
 
+class-declared : (vars : List VarDecl) (v : ℕ) → class_of (map (λ (d : VarDecl). d.class) vars) v ≡ (ref_at (var_refs vars) v).class
+class-declared [] v = refl
+class-declared (d ∷ vars) zero = refl
+class-declared (d ∷ vars) (suc v) = class-declared vars v
+
 pair-kinds : (vars : List VarDecl) (to of : ℕ) (kind_to kind_from : Kind) → ArePair vars to of kind_to kind_from →
     (kind_of (map (λ (d : VarDecl). d.kind) vars) to ≡ kind_to) × (kind_of (map (λ (d : VarDecl). d.kind) vars) of ≡ kind_from)
 pair-kinds vars to of kind_to kind_from pair = (kind-declared vars to ∙ pair.kind_of_to, kind-declared vars of ∙ pair.kind_of_of)
+
+pair-classes : (vars : List VarDecl) (to of : ℕ) (kind_to kind_from : Kind) → ArePair vars to of kind_to kind_from →
+    class_of (map (λ (d : VarDecl). d.class) vars) to ≡ class_of (map (λ (d : VarDecl). d.class) vars) of
+pair-classes vars to of kind_to kind_from pair = class-declared vars to ∙ pair.one_class ∙ sym (class-declared vars of)
 
 -- a variable of a script that is served, of another kind than a strong one, is an unowned one
 other-kind : (vars : List VarDecl) (v : ℕ) → AllByRecursion IsServedVar vars → (kind_at vars v ≡ Strong → ⊥) → kind_at vars v ≡ Unowned
@@ -89,7 +100,16 @@ other-kind (d ∷ vars) zero served differ = go d.kind served.0 differ
     go Weak counted differ = absurd counted
 other-kind (d ∷ vars) (suc v) served differ = other-kind vars v served.1 differ
 
-pub op-kinds : (classes : List ClassDecl) (globals vars : List VarDecl) → AllByRecursion IsServedVar vars → (o : Op) → IsOp classes globals vars o → KindsFit (map (λ (d : VarDecl). d.kind) vars) o
+-- a variable is declared as the cell that an operation names is
+kind-of-cell : (classes : List ClassDecl) (globals vars : List VarDecl) (v : ℕ) (c : OpCell) → ref_at (var_refs vars) v ≡ cell_ref classes globals vars c → KindOfCell (var_refs globals) (map (λ (d : VarDecl). d.kind) vars) v c
+kind-of-cell classes globals vars v (opcell.Global g) e = kind-declared vars v ∙ ap (λ (r : RefShape). r.kind) e
+kind-of-cell classes globals vars v (opcell.Field owner field) e = tt
+
+class-of-cell : (classes : List ClassDecl) (globals vars : List VarDecl) (v : ℕ) (c : OpCell) → ref_at (var_refs vars) v ≡ cell_ref classes globals vars c → ClassOfCell (var_refs globals) (map (λ (d : VarDecl). d.class) vars) v c
+class-of-cell classes globals vars v (opcell.Global g) e = class-declared vars v ∙ ap (λ (r : RefShape). r.class) e
+class-of-cell classes globals vars v (opcell.Field owner field) e = tt
+
+pub op-kinds : (classes : List ClassDecl) (globals vars : List VarDecl) → AllByRecursion IsServedVar vars → (o : Op) → IsOp classes globals vars o → KindsFit (var_refs globals) (map (λ (d : VarDecl). d.kind) vars) o
 op-kinds classes globals vars served (op.New to class) h = kind-declared vars to ∙ ap (λ (r : RefShape). r.kind) h.2
 op-kinds classes globals vars served (op.Copy to from) h = let k = pair-kinds vars to from (kind_at vars from) (kind_at vars from) h.0 in k.0 ∙ sym k.1
 op-kinds classes globals vars served (op.Move to from) h = let k = pair-kinds vars to from (kind_at vars from) (kind_at vars from) h.0 in k.0 ∙ sym k.1
@@ -97,21 +117,60 @@ op-kinds classes globals vars served (op.Drop v) h = tt
 op-kinds classes globals vars served (op.Unown to of) h = pair-kinds vars to of Unowned Strong h
 op-kinds classes globals vars served (op.Weak to of) h = tt
 op-kinds classes globals vars served (op.Load to of) h = let k = pair-kinds vars to of Strong (kind_at vars of) h.0 in (k.0, k.1 ∙ other-kind vars of served h.1)
-op-kinds classes globals vars served (op.Get to cell) h = tt
-op-kinds classes globals vars served (op.Set cell from) h = tt
+op-kinds classes globals vars served (op.Get to cell) h = kind-of-cell classes globals vars to cell h.2
+op-kinds classes globals vars served (op.Set cell from) h = kind-of-cell classes globals vars from cell h.2
 op-kinds classes globals vars served (op.IfNil var to) h = tt
 op-kinds classes globals vars served (op.IfSome var to) h = tt
 
--- the kinds of the variables that are declared
+op-classes : (classes : List ClassDecl) (globals vars : List VarDecl) (o : Op) → IsOp classes globals vars o → ClassesFit (var_refs globals) (map (λ (d : VarDecl). d.class) vars) o
+op-classes classes globals vars (op.New to class) h = class-declared vars to ∙ ap (λ (r : RefShape). r.class) h.2
+op-classes classes globals vars (op.Copy to from) h = pair-classes vars to from (kind_at vars from) (kind_at vars from) h.0
+op-classes classes globals vars (op.Move to from) h = pair-classes vars to from (kind_at vars from) (kind_at vars from) h.0
+op-classes classes globals vars (op.Drop v) h = tt
+op-classes classes globals vars (op.Unown to of) h = pair-classes vars to of Unowned Strong h
+op-classes classes globals vars (op.Weak to of) h = tt
+op-classes classes globals vars (op.Load to of) h = pair-classes vars to of Strong (kind_at vars of) h.0
+op-classes classes globals vars (op.Get to cell) h = class-of-cell classes globals vars to cell h.2
+op-classes classes globals vars (op.Set cell from) h = class-of-cell classes globals vars from cell h.2
+op-classes classes globals vars (op.IfNil var to) h = tt
+op-classes classes globals vars (op.IfSome var to) h = tt
+
+-- the kinds and the classes of the variables that are declared
 abbrev kinds-in : ThreadDecl → List Kind
 kinds-in d = map (λ (v : VarDecl). v.kind) d.vars
 
-pub program-kinds : (s : Script) (p : ℕ) → IsScript s → IsServed s → All (KindsFit (kinds_of s p)) (program_of s p)
-program-kinds s p valid served =
-    All-from_recursion (KindsFit (kinds_of s p)) (program_of s p)
-    (of-declared (IsThread s.classes s.globals) IsServedThread (λ o. AllByRecursion (KindsFit (kinds_in o)) (in_one_list 0 (phases_in o))) tt of-thread s p valid.threads (recursion_from_All IsServedThread s.threads served.threads))
+abbrev classes-in : ThreadDecl → List ℕ
+classes-in d = map (λ (v : VarDecl). v.class) d.vars
+
+pub program-kinds : (s : Script) (p : ℕ) → IsScript s → IsServed s → All (KindsFit s.shape.globals (kinds_of s p)) (program_of s p)
+program-kinds s p valid served = rw valid.heading.of_globals
+    (All-from_recursion (KindsFit (var_refs s.globals) (kinds_of s p)) (program_of s p)
+    (of-declared (IsThread s.classes s.globals) IsServedThread (λ o. AllByRecursion (KindsFit (var_refs s.globals) (kinds_in o)) (in_one_list 0 (phases_in o))) tt of-thread s p valid.threads (recursion_from_All IsServedThread s.threads served.threads)))
   where
-    of-thread : (d : ThreadDecl) → IsThread s.classes s.globals d → IsServedThread d → AllByRecursion (KindsFit (kinds-in d)) (in_one_list 0 d.phases)
-    of-thread d h served = all_in_one (KindsFit (kinds-in d)) (moved-stays (KindsFit (kinds-in d)) (λ v to end x. tt) (λ v to end x. tt)) 0 d.phases
-        (All-weaker (AllByRecursion (IsOp s.classes s.globals d.vars)) (AllByRecursion (KindsFit (kinds-in d)))
-        (All-weaker (IsOp s.classes s.globals d.vars) (KindsFit (kinds-in d)) (op-kinds s.classes s.globals d.vars (recursion_from_All IsServedVar d.vars served.vars))) d.phases h.ops)
+    of-thread : (d : ThreadDecl) → IsThread s.classes s.globals d → IsServedThread d → AllByRecursion (KindsFit (var_refs s.globals) (kinds-in d)) (in_one_list 0 d.phases)
+    of-thread d h served = all_in_one (KindsFit (var_refs s.globals) (kinds-in d)) (moved-stays (KindsFit (var_refs s.globals) (kinds-in d)) (λ v to end x. tt) (λ v to end x. tt)) 0 d.phases
+        (All-weaker (AllByRecursion (IsOp s.classes s.globals d.vars)) (AllByRecursion (KindsFit (var_refs s.globals) (kinds-in d)))
+        (All-weaker (IsOp s.classes s.globals d.vars) (KindsFit (var_refs s.globals) (kinds-in d)) (op-kinds s.classes s.globals d.vars (recursion_from_All IsServedVar d.vars served.vars))) d.phases h.ops)
+
+pub program-classes : (s : Script) (p : ℕ) → IsScript s → All (ClassesFit s.shape.globals (classes_of s p)) (program_of s p)
+program-classes s p valid = rw valid.heading.of_globals
+    (All-from_recursion (ClassesFit (var_refs s.globals) (classes_of s p)) (program_of s p)
+    (of-declared (IsThread s.classes s.globals) (IsThread s.classes s.globals) (λ o. AllByRecursion (ClassesFit (var_refs s.globals) (classes_in o)) (in_one_list 0 (phases_in o))) tt of-thread s p valid.threads valid.threads))
+  where
+    of-thread : (d : ThreadDecl) → IsThread s.classes s.globals d → IsThread s.classes s.globals d → AllByRecursion (ClassesFit (var_refs s.globals) (classes-in d)) (in_one_list 0 d.phases)
+    of-thread d h again = all_in_one (ClassesFit (var_refs s.globals) (classes-in d)) (moved-stays (ClassesFit (var_refs s.globals) (classes-in d)) (λ v to end x. tt) (λ v to end x. tt)) 0 d.phases
+        (All-weaker (AllByRecursion (IsOp s.classes s.globals d.vars)) (AllByRecursion (ClassesFit (var_refs s.globals) (classes-in d)))
+        (All-weaker (IsOp s.classes s.globals d.vars) (ClassesFit (var_refs s.globals) (classes-in d)) (op-classes s.classes s.globals d.vars)) d.phases h.ops)
+
+-- ---- globals
+
+pub globals-served : (s : Script) → IsScript s → IsServed s → All (λ (r : RefShape). IsCountedInline r.kind) s.shape.globals
+globals-served s valid served = rw valid.heading.of_globals (All-map (λ (r : RefShape). IsCountedInline r.kind) ref_of s.globals served.globals)
+  where
+    ref_of : VarDecl → RefShape
+    ref_of v = record { kind = v.kind; class = v.class }
+
+-- thread 0 has neither operations nor variables
+pub clears-alone : (s : Script) (p : ℕ) → p ≡ 0 → (program_of s p ≡ []) × (vars_of s p ≡ 0)
+clears-alone s zero e = (refl, refl)
+clears-alone s (suc p) e = absurd (cc)

@@ -39,7 +39,7 @@ use Rattle.arc_plan.specs.Strong.{strong_down_row, strong_down_end}
 use Rattle.arc_plan.specs.Unowned.{unowned_down_row, unowned_down_end}
 use Rattle.arc_plan.specs.Slots.{OneStep, once_takes, once_turned, once_answer, vacating}
 use Rattle.arc_rule.specs.declared.step.Intent.TheVariants as intents
-use Rattle.arc_cells.specs.Cascades.{IsInline}
+use Rattle.arc_cells.specs.BareCascades.{IsInline}
 use Rattle.arc_ops.specs.declared.stepper.Held.{Held}
 use Rattle.arc_ops.specs.declared.stepper.Doing.TheVariants.{Ended}
 use Rattle.arc_ops.specs.Thread.{Thread}
@@ -49,6 +49,7 @@ use Rattle.arc_ops.specs.Drops.{dropped_on, last_gone, vacated_on}
 use Rattle.arc_ops.specs.Takes.{IsInlineAt, takes}
 use Rattle.arc_spelled.specs.Shown.ReadsName.{nothing as read_nothing}
 use Rattle.arc_spelled.specs.Shown.TakesLast.{drop as drop_takes}
+use Rattle.arc_spelled.specs.Shown.FindsReference.{nothing as refers_nothing}
 use Rattle.arc_spelled.specs.Shown.FindsNoEntry.{no_entry}
 use Rattle.arc_spelled.specs.Shown.Says.{nothing}
 use Rattle.arc_spelled.specs.CascadeStands.{AwaitsExchange}
@@ -57,12 +58,12 @@ use Rattle.arc_spelled.proofs.StepperSteps.{drop-asks, goes-on}
 use Rattle.arc_spelled.proofs.Turning.{IsAtWork, given, Turns, turned-by, plainly}
 
 -- what was under way is over, behind an event that brings no reference
-over-by : (w : Work) → IsServedWork w → (t : Thread) (last : Option ℕ) (now : List Note) → IsAtWork w t now → (e : Act) → IsCounted w t.hands t.made t.kept (Did e ∷ now) → IsOver w t.index t.vars (Did e ∷ now) →
+over-by : (w : Work) → IsServedWork w → (t : Thread) (last : Option ℕ) (now : List Note) → IsAtWork w t now → (e : Act) → IsCounted w t.hands t.made t.kept (Did e ∷ now) → IsOver w t.index t.vars t.cleared (Did e ∷ now) →
     Turns w t (next_op (record t { doing = Ended; first = false; event = Some e })) last now
 over-by w served t last now work e counts over = plainly w t _ last now (Some e)
     (goes-on w served (record t { doing = Ended; first = false; event = Some e }) (Did e ∷ now) work.works counts work.number work.phase over)
 
-drop-goes-on : (w : Work) (t : Thread) (last : Option ℕ) (now : List Note) → IsAtWork w t now → (held : Held) (plan : Fall) (step : Step) → IsDropping w t.index held plan (Some (step, intents.Drop held.hand)) t.vars now →
+drop-goes-on : (w : Work) (t : Thread) (last : Option ℕ) (now : List Note) → IsAtWork w t now → (held : Held) (plan : Fall) (step : Step) → IsDropping w t.index held plan (Some (step, intents.Drop held.hand)) t.vars t.cleared now →
     Turns w t (dropped_on held plan (nexts.Step step) (given t)) last now
 drop-goes-on w t last now work held plan step u = plainly w t _ last now None (record {
   after = now;
@@ -71,14 +72,14 @@ drop-goes-on w t last now work held plan step u = plainly w t _ last now None (r
   stands = record { works = work.works; in_phase = work.phase; counts = work.counts; number = work.number; asks = tt; up_to = u };
 })
 
-drops-more : (w : Work) → IsServedWork w → (t : Thread) (last : Option ℕ) (now : List Note) → IsAtWork w t now → (held : Held) (plan : Fall) (entry : Option ℕ) → DropEnds w t.index held t.vars now →
+drops-more : (w : Work) → IsServedWork w → (t : Thread) (last : Option ℕ) (now : List Note) → IsAtWork w t now → (held : Held) (plan : Fall) (entry : Option ℕ) → DropEnds w t.index held t.vars t.cleared now →
     Turns w t (dropped_on held plan (nexts.Done (downs.More entry)) (given t)) last now
 drops-more w served t last now work held plan entry u = over-by w served t last now work (acts.Drop held.hand false)
     (record { hands_are = work.counts.hands_are; made_is = work.counts.made_is; lines_are = work.counts.lines_are }) (u (Did (acts.Drop held.hand false) ∷ now) more)
 
 -- the exchange was made of counts, and the last reference of its kind went
 drops-last : (w : Work) (t : Thread) (word new : ℕ) (c : Inline) (now : List Note) → IsAtWork w t now → (held : Held) → step_in t.asked ≡ Some (Exchange (number_in (extent_of w.shape) (Count held.place)) word new, intents.Drop held.hand) →
-    unpacked word ≡ Some (Counts c) → (kind : Kind) → IsCountedInline kind → ((after : List Note) → IsDrop w.shape kind held.place held.hand now after → IsOver w t.index t.vars after) →
+    unpacked word ≡ Some (Counts c) → (kind : Kind) → IsCountedInline kind → ((after : List Note) → IsDrop w.shape kind held.place held.hand now after → IsOver w t.index t.vars t.cleared after) →
     Turns w t (last_gone kind held.place (record t { doing = Ended; first = false; event = Some (acts.Drop held.hand true) })) (Some word) now
 drops-last w t word new c now work held asks holds kinds.Strong counted ends = plainly w t _ (Some word) now (Some (acts.Drop held.hand true)) (record {
   after = Did (acts.Drop held.hand true) ∷ now;
@@ -101,7 +102,7 @@ drops-last w t word new c now work held asks holds kinds.Strong counted ends = p
 })
 drops-last w t word new c now work held asks holds kinds.Unowned counted ends =
     let behind : List Note = Entry held.place None ∷ Did (acts.Drop held.hand true) ∷ now in
-    turned-by w t _ (Some word) now (Some (acts.Drop held.hand true)) behind (record { read = now; reads = read_nothing; finds = no_entry refl asks drop_takes refl holds }) (record {
+    turned-by w t _ (Some word) now (Some (acts.Drop held.hand true)) behind (record { read = now; reads = read_nothing; referred = now; refers = refers_nothing; finds = no_entry refl asks drop_takes refl holds }) (record {
       after = behind;
       says = nothing;
       event = refl;
@@ -117,7 +118,7 @@ drops-last w t word new c now work held asks holds kinds.Unowned counted ends =
 drops-last w t word new c now work held asks holds kinds.Weak counted ends = absurd counted
 
 -- a step of the attempt on the count of the object
-attempts : (w : Work) (t : Thread) (last : Option ℕ) (now : List Note) → IsAtWork w t now → (held : Held) (plan : Fall) (asked : Option (Step × Intent)) → IsDropping w t.index held plan asked t.vars now → (a : At) (step : Step) →
+attempts : (w : Work) (t : Thread) (last : Option ℕ) (now : List Note) → IsAtWork w t now → (held : Held) (plan : Fall) (asked : Option (Step × Intent)) → IsDropping w t.index held plan asked t.vars t.cleared now → (a : At) (step : Step) →
     AwaitsExchange (extent_of w.shape) held.place (intents.Drop held.hand) (Some (step, intents.Drop held.hand)) a → Turns w t (dropped_on held (down_moved plan a) (nexts.Step step) (given t)) last now
 attempts w t last now work held plan asked u a step awaits =
     drop-goes-on w t last now work held (down_moved plan a) step (record { counted = u.counted; releasing = record { layout_is = u.releasing.layout_is; slot_is = u.releasing.slot_is; awaits = awaits }; ends = u.ends })
@@ -125,7 +126,7 @@ attempts w t last now work held plan asked u a step awaits =
 abbrev exchange-on : Extent → (slot hand word new : ℕ) → Option (Step × Intent)
 exchange-on layout slot hand word new = Some (Exchange (number_in layout (Count slot)) word new, intents.Drop hand)
 
-exchange-asked : (w : Work) (t : Thread) (now : List Note) (held : Held) (plan : Fall) (asked : Option (Step × Intent)) → IsDropping w t.index held plan asked t.vars now → (word new : ℕ) →
+exchange-asked : (w : Work) (t : Thread) (now : List Note) (held : Held) (plan : Fall) (asked : Option (Step × Intent)) → IsDropping w t.index held plan asked t.vars t.cleared now → (word new : ℕ) →
     exchange-on plan.layout plan.slot held.hand word new ≡ exchange-on (extent_of w.shape) held.place held.hand word new
 exchange-asked w t now held plan asked u word new =
     ap (λ (l : Extent). exchange-on l plan.slot held.hand word new) u.releasing.layout_is ∙ ap (λ (s : ℕ). exchange-on (extent_of w.shape) s held.hand word new) u.releasing.slot_is
@@ -160,7 +161,7 @@ inline-row plan kinds.Unowned word fits in_line = unowned-row plan.layout.entrie
 inline-row plan kinds.Weak word fits in_line = absurd fits
 
 -- the inline word was loaded
-loaded : (w : Work) → IsServedWork w → (t : Thread) (last : Option ℕ) (now : List Note) → IsAtWork w t now → (held : Held) (plan : Fall) (asked : Option (Step × Intent)) → IsDropping w t.index held plan asked t.vars now → (word : ℕ) {choice : Choice DownAnswer} →
+loaded : (w : Work) → IsServedWork w → (t : Thread) (last : Option ℕ) (now : List Note) → IsAtWork w t now → (held : Held) (plan : Fall) (asked : Option (Step × Intent)) → IsDropping w t.index held plan asked t.vars t.cleared now → (word : ℕ) {choice : Choice DownAnswer} →
     FallsBy choice → Turns w t (dropped_on held (down_moved plan (exchanging word choice)) (chosen (number_in plan.layout (Count plan.slot)) word choice) (given t)) last now
 loaded w served t last now work held plan asked u word stays = drops-more w served t last now work held plan None u.ends
 loaded w served t last now work held plan asked u word (written {new = new}) = attempts w t last now work held plan asked u _ _ (exchange-asked w t now held plan asked u word new)
@@ -198,7 +199,7 @@ inline-end kinds.Unowned seen = unowned-end (unpacked seen)
 inline-end kinds.Weak seen = more_left
 
 -- the exchange found the word that was loaded
-exchanged : (w : Work) → IsServedWork w → (t : Thread) (word new : ℕ) (now : List Note) → IsAtWork w t now → (held : Held) (plan : Fall) → IsCountedInline held.kind → DropEnds w t.index held t.vars now →
+exchanged : (w : Work) → IsServedWork w → (t : Thread) (word new : ℕ) (now : List Note) → IsAtWork w t now → (held : Held) (plan : Fall) → IsCountedInline held.kind → DropEnds w t.index held t.vars t.cleared now →
     step_in t.asked ≡ Some (Exchange (number_in (extent_of w.shape) (Count held.place)) word new, intents.Drop held.hand) → {answer : DownAnswer} {o : Option Word} → unpacked word ≡ o → EndsBy answer o →
     Turns w t (dropped_on held plan (nexts.Done answer) (given t)) (Some word) now
 exchanged w served t word new now work held plan counted ends asks e (more_left {entry = entry}) = drops-more w served t (Some word) now work held plan entry ends
@@ -211,7 +212,7 @@ dropped-at held plan entry list a last t =
     (answer_by down_place (down_in plan (entry_met entry a last))
     (attempt_answer (λ v. down_choice_at entry list v) (λ seen. down_end_at entry list seen) downs.Again (number_in plan.layout (counted_at list plan.slot entry)) a (unwrap_or last 0))) t
 
-pub drops : (w : Work) → IsServedWork w → (t : Thread) (last : Option ℕ) (now : List Note) → IsAtWork w t now → (held : Held) (plan : Fall) → IsDropping w t.index held plan (step_in t.asked) t.vars now → (entry : Option ℕ) (list : Kind) (a : At) →
+pub drops : (w : Work) → IsServedWork w → (t : Thread) (last : Option ℕ) (now : List Note) → IsAtWork w t now → (held : Held) (plan : Fall) → IsDropping w t.index held plan (step_in t.asked) t.vars t.cleared now → (entry : Option ℕ) (list : Kind) (a : At) →
     AwaitsExchange (extent_of w.shape) held.place (intents.Drop held.hand) (step_in t.asked) a → attempt_takes (λ v. DownWordAt plan entry list v) a last → IsInlineAt IsInline entry a (unwrap_or last 0) →
     Turns w t (dropped-at held plan entry list a last (given t)) last now
 drops w served t last now work held plan u (Some e) list a awaits takes in_line = absurd in_line
@@ -238,7 +239,7 @@ drops w served t last now work held plan u None list attempt.Ended awaits takes 
 
 -- ---- a slot is given up
 
-pub vacates : (w : Work) → IsServedWork w → (t : Thread) (last : Option ℕ) (now : List Note) → IsAtWork w t now → (slot : ℕ) (plan : OneStep) (a : Once) → IsVacating w t.index slot t.vars now → once_takes (λ v. Unit {0}) a last →
+pub vacates : (w : Work) → IsServedWork w → (t : Thread) (last : Option ℕ) (now : List Note) → IsAtWork w t now → (slot : ℕ) (plan : OneStep) (a : Once) → IsVacating w t.index slot t.vars t.cleared now → once_takes (λ v. Unit {0}) a last →
     Turns w t (vacated_on slot (record plan { at = once_turned a }) (once_answer (vacating plan) tt a) (given t)) last now
 vacates w served t last now work slot plan once.Start u takes = plainly w t _ last now None (record {
   after = now;

@@ -6,10 +6,13 @@ use Rattle.std.proofs.lemmas.List.Elements.{All-get_or, recursion_from_All}
 use Rattle.std.proofs.lemmas.Option.{slice_get_within, get_or_from_slice_get}
 use Rattle.arc_model.specs.declared.shape.Kind.{Kind}
 use Rattle.arc_side.specs.Inline.{IsCountedInline}
+use Rattle.arc_model.specs.declared.shape.RefShape.{RefShape}
 use Rattle.arc_script.specs.declared.script.Op.{Op}
+use Rattle.arc_script.specs.Valid.{ref_at}
 use Rattle.arc_ops.specs.declared.stepper.Held.{Held}
 use Rattle.arc_ops.specs.declared.gain.Gain.{Gain}
 use Rattle.arc_ops.specs.declared.gain.Gain.TheVariants as gains
+use Rattle.arc_ops.specs.declared.gain.Source.{Source}
 use Rattle.arc_ops.specs.Programs.{kind_of, KindsFit}
 use Rattle.arc_ops.specs.Thread.{value}
 use Rattle.arc_ops.specs.Plans.{list_of, op_of}
@@ -58,7 +61,13 @@ pub counted-in : (w : Work) → IsServedWork w → (vars : List (Option Held)) (
 counted-in w served vars v h all e = rw (all v h e) (counted-kind w.kinds v (recursion_from_All IsCountedInline w.kinds served.kinds))
 
 -- a reference that is gained is of the kind of its variable
-pub gained-kind : (kinds : List Kind) (gain : Gain) (to of : ℕ) (from : Held) → KindsFit kinds (op_of gain to of) → from.kind ≡ kind_of kinds of → list_of gain from ≡ kind_of kinds to
-gained-kind kinds gains.Copy to of from fits e = e ∙ sym fits
-gained-kind kinds gains.Unown to of from fits e = sym fits.0
-gained-kind kinds gains.Load to of from fits e = sym fits.0
+pub gained-kind : (globals : List RefShape) (kinds : List Kind) (gain : Gain) (to of : ℕ) (from : Source) → KindsFit globals kinds (op_of gain to of) → from.kind ≡ kind_of kinds of → list_of gain from ≡ kind_of kinds to
+gained-kind globals kinds gains.Copy to of from fits e = e ∙ sym fits
+gained-kind globals kinds gains.Unown to of from fits e = sym fits.0
+gained-kind globals kinds gains.Load to of from fits e = sym fits.0
+
+-- each global is counted in an inline word
+pub counted-global : (globals : List RefShape) (g : ℕ) → AllByRecursion (λ (r : RefShape). IsCountedInline r.kind) globals → IsCountedInline (ref_at globals g).kind
+counted-global [] g all = tt
+counted-global (r ∷ globals) zero all = all.0
+counted-global (r ∷ globals) (suc g) all = counted-global globals g all.1

@@ -5,6 +5,9 @@ pub mod Turning
 pub mod Makes
 pub mod Gains
 pub mod Drops
+pub mod Gets
+pub mod Sets
+pub mod MoreKnown
 pub mod StepperKeeps
 pub mod Declared
 pub mod SteppersSpell

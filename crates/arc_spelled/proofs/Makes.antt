@@ -65,8 +65,8 @@ makes w served t last now work to name plan (search.Looking word) u = looks (fre
     b : IsBegun w t.index (op.New to name.class) t.vars now
     b = u.begun
 
-    full : IsOver w t.index t.vars (Line answers.Full ∷ Did acts.Full ∷ now)
-    full = over-done w t.index t.vars (Line answers.Full ∷ Did acts.Full ∷ now) (slice_get_within w.program t.index (op.New to name.class) b.there)
+    full : IsOver w t.index t.vars t.cleared (Line answers.Full ∷ Did acts.Full ∷ now)
+    full = over-done w t.index t.vars t.cleared (Line answers.Full ∷ Did acts.Full ∷ now) (slice_get_within w.program t.index (op.New to name.class) b.there)
         (rw b.now_is (answers_last (record { done = b.done; there = b.there }) (new_full w.thread to name.class w.came (variables t.vars) (Operation (ordinal w.program t.index) ∷ b.base))))
 
     further : (more : Bool) → Turns w t
@@ -128,7 +128,7 @@ makes w served t last now work to name plan (search.Naming s) u = plainly w t _ 
     now_is = let n = m.now_is in let o = b.now_is in let h = work.counts.hands_are in let k = ap hands_of m.now_is in cc
 
     fits : FitsKind w.kinds to (Some (strong_to t.hands s))
-    fits = fits-some w.kinds to (strong_to t.hands s) (sym (holds-at (KindsFit w.kinds) w.program t.index (op.New to name.class) served.kinds_fit b.there))
+    fits = fits-some w.kinds to (strong_to t.hands s) (sym (holds-at (KindsFit w.shape.globals w.kinds) w.program t.index (op.New to name.class) served.kinds_fit b.there))
 
     answered : IsAnswered w.thread w.came (op.New to name.class) (variables t.vars) (Operation (ordinal w.program t.index) ∷ b.base)
         (programs.put (variables t.vars) to (Some (held_of (strong_to t.hands s)))) (answers.New name) (programs.value (variables t.vars) to) now

@@ -1,6 +1,6 @@
 -- The steps of a stepper over its notes: an operation begins, a reference is dropped, the scope ends.
-use Rattle.std.proofs.Common.{◌≡◌, ◌≢◌, ℕ, zero, suc, ◌+◌, ◌<◌, ◌≤◌, Bool, true, false, not, cond, ltb, List, [], ◌∷◌, ◌++◌, length, take, drop, set, get_or, Option, Some, None, ◌⊎◌, inl, inr, refl, sym, ap, subst, ◌∙◌, arith, add-one}
-use Rattle.std.proofs.lemmas.Bool.{ltb-true, ltb-false, lt-ltb, cases_lt}
+use Rattle.std.proofs.Common.{◌≡◌, ◌≢◌, ℕ, zero, suc, ◌+◌, ◌<◌, ◌≤◌, Bool, true, false, not, cond, ◌&&◌, eqb, ltb, List, [], ◌∷◌, ◌++◌, length, take, drop, set, get_or, Option, Some, None, ◌⊎◌, inl, inr, refl, sym, ap, subst, ◌∙◌, arith, add-one}
+use Rattle.std.proofs.lemmas.Bool.{eqb-true, ltb-true, ltb-false, lt-ltb, cases_lt}
 use Rattle.std.proofs.Math.ListN.{get_or-map}
 use Rattle.std.proofs.lemmas.List.{map-set, set-get_or, length-set, length-append, length-map, length-take, length-take-le, take_all, take-append-le, reverse-append, get_or-set_same, get_or-set_other, drop_all}
 use Rattle.std.proofs.lemmas.List.Quantifiers.{position-Some}
@@ -13,19 +13,22 @@ use Rattle.arc_model.specs.declared.answer.Answer.TheVariants as answers
 use Rattle.arc_model.specs.declared.event.Act.{Act}
 use Rattle.arc_model.specs.Spelling.{Note, acts_of, IsDrop}
 use Rattle.arc_model.specs.Spelling.Note.{Line, Operation}
+use Rattle.arc_model.specs.Shapes.{HeapShape}
 use Rattle.arc_rule.specs.Extents.{Extent}
 use Rattle.arc_rule.specs.declared.step.Step.{Step}
 use Rattle.arc_rule.specs.declared.step.Intent.{Intent}
 use Rattle.arc_script.specs.declared.answer.Line.{Line as Told}
 use Rattle.arc_script.specs.declared.script.Op.{Op}
 use Rattle.arc_script.specs.declared.script.Op.TheVariants as op
+use Rattle.arc_script.specs.declared.script.OpCell.TheVariants as opcell
 use Rattle.arc_side.specs.Inline.{IsCountedInline}
 use Rattle.arc_script.specs.Valid.{begins_block}
 use Rattle.arc_script.proofs.OneList.{length_in_one}
-use Rattle.arc_programs.specs.Variables.{Variables, put as put_var}
+use Rattle.arc_programs.specs.Variables.{Variables, all_nil, put as put_var}
 use Rattle.arc_programs.specs.Variables as programs
-use Rattle.arc_programs.specs.Programs.{IsFromNil, IsAnswered, ScopeEnds, goes_on as programs_go_on}
-use Rattle.arc_programs.specs.Programs.OpsDone.{block}
+use Rattle.arc_programs.specs.Programs.{Hands, IsFromNil, IsAnswered, OpsDone, ScopeEnds, IsProgram, GlobalsCleared, goes_on as programs_go_on}
+use Rattle.arc_programs.specs.Programs.GlobalsCleared.{begins as end_begins, nil as global_nil, cleared as global_cleared}
+use Rattle.arc_programs.specs.Programs.OpsDone.{none as none_done, one as one_done, block}
 use Rattle.arc_programs.specs.Programs.IsFromNil.{copy as copy_from_nil, unown as unown_from_nil, load as load_from_nil, move as move_from_nil}
 use Rattle.arc_programs.specs.Programs.IsAnswered.{from_nil as takes_nil, moved as moves_held}
 use Rattle.arc_programs.specs.Programs.ScopeEnds.{begins as scope_starts, dropped as var_dropped}
@@ -43,14 +46,17 @@ use Rattle.arc_ops.proofs.Counts.{first_few, first_all}
 use Rattle.arc_ops.specs.Served.{IsServedOp}
 use Rattle.arc_ops.specs.Thread.{Thread, value, is_held, put, set_var}
 use Rattle.arc_ops.specs.Plans.{drop_begun, op_of}
-use Rattle.arc_ops.specs.Begins.{skipped, begun_nil, begun_gain, moved, begun_move, begun_drop, begun_op, block_goes_on, phase_over, begun_at, begun, scope_drop, scope_at, scope_begun, next_op}
+use Rattle.arc_ops.specs.Cells.{global_of, clear_begun}
+use Rattle.arc_ops.specs.Begins.{skipped, begun_nil, begun_gain, moved, begun_move, begun_drop, begun_op, block_goes_on, phase_over, begun_at, begun, scope_drop, has_globals, scope_at, scope_begun, next_op}
 use Rattle.arc_ops.specs.Drops.{replaced_old, replaced}
 use Rattle.arc_ops.specs.Thread as thread
-use Rattle.arc_spelled.specs.Shown.{ReadsName, FindsNoEntry, Says, Adds, with_act, with_event}
+use Rattle.arc_spelled.specs.Came.{CameOut}
+use Rattle.arc_spelled.specs.Shown.{ReadsName, FindsReference, FindsNoEntry, Says, Adds, with_act, with_event}
 use Rattle.arc_spelled.specs.Shown.ReadsName.{nothing as read_nothing, name as read_name}
+use Rattle.arc_spelled.specs.Shown.FindsReference.{nothing as refers_nothing, refers}
 use Rattle.arc_spelled.specs.Shown.FindsNoEntry.{nothing as found_nothing, no_entry}
 use Rattle.arc_spelled.specs.Shown.Says.{nothing, line, operation}
-use Rattle.arc_spelled.specs.StepperStands.{Work, IsServedWork, held_of, held_in, variables, AreOfKinds, AreDone, IsInScope, IsOverIf, IsOver, DropEnds, WorksOn, first_lines, IsCounted, number_at, IsOfPhaseIf, IsOfPhase, StandsFor}
+use Rattle.arc_spelled.specs.StepperStands.{Work, IsServedWork, held_of, held_in, variables, AreOfKinds, AreDone, IsInScope, HasCleared, IsAtEnd, IsOverIf, IsOver, HasEnded, DropEnds, WorksOn, first_lines, IsCounted, number_at, IsOfPhaseIf, IsOfPhase, StandsFor}
 use Rattle.arc_spelled.proofs.KindsKept.{holds-at, FitsKind, fits-some, kinds-set, kinds-nil, counted-in}
 
 -- ---- variables
@@ -163,10 +169,14 @@ acts-found : {layout : Extent} {asked : Option (Step × Intent)} {last : Option 
 acts-found found_nothing = refl
 acts-found (no_entry a l n w c) = refl
 
+acts-referred : {e : Option Act} {out : Option CameOut} {b ns : List Note} → FindsReference e out b ns → acts_of ns ≡ acts_of b
+acts-referred refers_nothing = refl
+acts-referred (refers o e) = refl
+
 -- the event that is told is the newest of the events
-pub acts-added : {layout : Extent} {asked : Option (Step × Intent)} {last : Option ℕ} {b ns : List Note} (e : Option Act) → Adds layout asked last e b ns → acts_of ns ≡ with_event e (acts_of b)
+pub acts-added : {layout : Extent} {asked : Option (Step × Intent)} {last : Option ℕ} {out : Option CameOut} {b ns : List Note} (e : Option Act) → Adds layout asked last e out b ns → acts_of ns ≡ with_event e (acts_of b)
 acts-added e a =
-    acts-said a.says ∙ acts-found a.shows.finds ∙ acts-with e a.shows.read ∙ ap (λ (acts : List Act). with_event e acts) (acts-read a.shows.reads)
+    acts-said a.says ∙ acts-found a.shows.finds ∙ acts-with e a.shows.referred ∙ ap (λ (acts : List Act). with_event e acts) (acts-referred a.shows.refers ∙ acts-read a.shows.reads)
 
 -- a stepper that has come to its place, behind lines and beginnings of operations
 pub record Comes (w : Work) (t : Thread) (e : Option Act) (now : List Note) : Type 0 where
@@ -183,8 +193,8 @@ comes-after w t e b now s c = record { after = c.after; says = says-on s c.says;
 pub number-within : (w : Work) (i : ℕ) → i < length w.program → number_at w i ≡ ordinal w.program i
 number-within w i within = rw (lt-ltb i (length w.program) within) refl
 
-pub over-done : (w : Work) (i : ℕ) (vars : List (Option Held)) (now : List Note) → i < length w.program → AreDone w (i + 1) vars now → IsOver w i vars now
-over-done w i vars now within d = rw (lt-ltb i (length w.program) within) d
+pub over-done : (w : Work) (i : ℕ) (vars : List (Option Held)) (cleared : ℕ) (now : List Note) → i < length w.program → AreDone w (i + 1) vars now → IsOver w i vars cleared now
+over-done w i vars cleared now within d = rw (lt-ltb i (length w.program) within) d
 
 served-at : (w : Work) (i : ℕ) (o : Op) → IsServedWork w → slice_get w.program i ≡ Some o → IsServedOp o
 served-at w i o served there = holds-at IsServedOp w.program i o served.ops there
@@ -205,7 +215,7 @@ nothing-left (y ∷ xs) (suc i) e = let h = nothing-left xs i e in omega arith
 
 -- a drop begins
 pub drop-asks : (w : Work) (t : Thread) (held : Held) (now : List Note) → WorksOn w t.layout t.shape t.thread t.phases t.program t.vars → IsCounted w t.hands t.made t.kept now → number_of now ≡ number_at w t.index →
-    IsOfPhase w t.phase t.index → IsCountedInline held.kind → DropEnds w t.index held t.vars now → StandsFor w (drop_begun held t) now
+    IsOfPhase w t.phase t.index → IsCountedInline held.kind → DropEnds w t.index held t.vars t.cleared now → StandsFor w (drop_begun held t) now
 drop-asks w t held now works counts number phase counted ends = record {
   works = works;
   in_phase = phase;
@@ -217,15 +227,36 @@ drop-asks w t held now works counts number phase counted ends = record {
 
 -- ---- the end of the scope
 
+-- nothing is left to do
+ended : (w : Work) (t : Thread) (now : List Note) → WorksOn w t.layout t.shape t.thread t.phases t.program t.vars → IsCounted w t.hands t.made t.kept now → HasEnded (eqb w.thread 0) w now →
+    Comes w (record t { doing = Ended; asked = moves.Ended }) t.event now
+ended w t now works counts u = record {
+  after = now;
+  says = nothing;
+  event = refl;
+  stands = record { works = works; in_phase = tt; counts = counts; number = tt; asks = refl; up_to = u };
+}
+
+no-variable : (vars : List (Option Held)) → length vars ≡ 0 → position is_held vars ≡ None
+no-variable [] e = refl
+no-variable (v ∷ vars) e = absurd (omega arith)
+
+-- no more globals are cleared than there are
+few-cleared : {shape : HeapShape} {came : Hands} {n : ℕ} {now : List Note} → GlobalsCleared shape came n now → n ≤ length shape.globals
+few-cleared end_begins = omega arith
+few-cleared (global_nil c within e) = omega (arith, e)
+few-cleared (global_cleared c within e k there x) = omega (arith, e)
+
+-- of a thread that has one
 scopes : (w : Work) → IsServedWork w → (t : Thread) (now : List Note) → WorksOn w t.layout t.shape t.thread t.phases t.program t.vars → IsCounted w t.hands t.made t.kept now → ltb t.index (length w.program) ≡ false → number_of now ≡ 0 →
-    length w.phases ≤ t.phase + 1 → IsInScope w t.vars now → Comes w (scope_begun t) t.event now
-scopes w served t now works counts past number last s = go (position is_held t.vars) refl
+    length w.phases ≤ t.phase + 1 → eqb w.thread 0 ≡ false → IsInScope w t.vars now → Comes w (scope_begun t) t.event now
+scopes w served t now works counts past number last scoped s = go (position is_held t.vars) refl
   where
     number_is : number_of now ≡ number_at w t.index
     number_is = rw past number
 
     held : (v : ℕ) (h : Held) → value t.vars v ≡ Some h → v < length t.vars → ((u : ℕ) → u < v → is_held (value t.vars u) ≡ false) → Comes w (drop_begun h (set_var v None t)) t.event now
-    held v h e within before = record { after = now; says = nothing; event = refl; stands = drop-asks w (set_var v None t) h now (works-over w t works (kinds-nil w.kinds t.vars v works.kinds)) counts number_is (rw past last) (counted-in w served t.vars v h works.kinds e) (λ after x. rw past (over after x)) }
+    held v h e within before = record { after = now; says = nothing; event = refl; stands = drop-asks w (set_var v None t) h now (works-over w t works (kinds-nil w.kinds t.vars v works.kinds)) counts number_is (rw past last) (counted-in w served t.vars v h works.kinds e) (λ after x. rw (past, scoped) (over after x)) }
       where
         above : s.below ≤ v
         above = at (cases_lt v s.below)
@@ -261,28 +292,22 @@ scopes w served t now works counts past number last s = go (position is_held t.v
               nils = nils;
             }
 
-    go : (o : Option ℕ) → position is_held t.vars ≡ o → Comes w (scope_at o t) t.event now
-    go None e =
+    program : position is_held t.vars ≡ None → IsProgram w.shape w.thread w.came w.program w.count now
+    program e =
         let all : length (variables t.vars) ≡ length t.vars = length-map t.vars held_in in
         record {
-          after = now;
-          says = nothing;
-          event = refl;
-          stands = record {
-            works = works;
-            in_phase = tt;
-            counts = counts;
-            number = tt;
-            asks = refl;
-            up_to = record {
-              vars = s.first;
-              worked = s.worked;
-              ops = s.ops;
-              left = variables t.vars;
-              scope = rw s.same_count (scope_goes_on s.ends (length t.vars) s.within (omega arith) (λ u from below. value-held t.vars u None (none-held t.vars e u below)));
-            };
-          };
+          vars = s.first;
+          worked = s.worked;
+          ops = s.ops;
+          left = variables t.vars;
+          scope = rw s.same_count (scope_goes_on s.ends (length t.vars) s.within (omega arith) (λ u from below. value-held t.vars u None (none-held t.vars e u below)));
         }
+
+    no_globals : has_globals t ≡ false
+    no_globals = ap (λ (n : ℕ). eqb n 0 && ltb t.cleared t.layout.globals) works.thread_is ∙ ap (λ (b : Bool). b && ltb t.cleared t.layout.globals) scoped
+
+    go : (o : Option ℕ) → position is_held t.vars ≡ o → Comes w (scope_at o t) t.event now
+    go None e = rw no_globals (ended w t now works counts (rw scoped (program e)))
     go (Some v) e = at (value t.vars v) refl found.1
       where
         found : (v < length t.vars) × (is_held (get_or t.vars v None) ≡ true) × ((k : ℕ) → k < v → is_held (get_or t.vars k None) ≡ false)
@@ -291,6 +316,43 @@ scopes w served t now works counts past number last s = go (position is_held t.v
         at : (o : Option Held) → value t.vars v ≡ o → is_held o ≡ true → Comes w (scope_drop v o t) t.event now
         at None f g = absurd (cc)
         at (Some h) f g = held v h f found.0 found.2
+
+-- thread 0 clears its next global, or has cleared all
+clears : (w : Work) (t : Thread) (now : List Note) → WorksOn w t.layout t.shape t.thread t.phases t.program t.vars → IsCounted w t.hands t.made t.kept now → ltb t.index (length w.program) ≡ false → number_of now ≡ 0 →
+    length w.phases ≤ t.phase + 1 → eqb w.thread 0 ≡ true → HasCleared w t.vars t.cleared now → Comes w (scope_begun t) t.event now
+clears w t now works counts past number last ends c = rw (no-variable t.vars c.no_vars, first_zero) (go (ltb t.cleared (length w.shape.globals)) refl)
+  where
+    first_zero : has_globals t ≡ ltb t.cleared (length w.shape.globals)
+    first_zero = ap (λ (n : ℕ). eqb n 0 && ltb t.cleared t.layout.globals) works.thread_is ∙ ap (λ (b : Bool). b && ltb t.cleared t.layout.globals) ends ∙ ap (λ (l : Extent). ltb t.cleared l.globals) works.layout_is
+
+    go : (more : Bool) → ltb t.cleared (length w.shape.globals) ≡ more → Comes w (cond more (clear_begun t) (record t { doing = Ended; asked = moves.Ended })) t.event now
+    go true e = record {
+      after = now;
+      says = nothing;
+      event = refl;
+      stands = record {
+        works = works;
+        in_phase = rw past last;
+        counts = counts;
+        number = rw past number;
+        asks = tt;
+        up_to = record { thread_is = eqb-true w.thread 0 ends; within = ltb-true t.cleared (length w.shape.globals) e; so_far = c };
+      };
+    }
+    go false e =
+        let most = ltb-false t.cleared (length w.shape.globals) e in
+        let few = few-cleared c.globals in
+        let all : t.cleared ≡ length w.shape.globals = omega arith in
+        ended w t now works counts (rw ends (rw (sym all) c.globals))
+
+-- the scope ends, or thread 0 clears the globals
+ends-on : (w : Work) → IsServedWork w → (t : Thread) (now : List Note) → WorksOn w t.layout t.shape t.thread t.phases t.program t.vars → IsCounted w t.hands t.made t.kept now → ltb t.index (length w.program) ≡ false → number_of now ≡ 0 →
+    length w.phases ≤ t.phase + 1 → IsAtEnd (eqb w.thread 0) w t.vars t.cleared now → Comes w (scope_begun t) t.event now
+ends-on w served t now works counts past number last s = go (eqb w.thread 0) refl s
+  where
+    go : (first : Bool) → eqb w.thread 0 ≡ first → IsAtEnd first w t.vars t.cleared now → Comes w (scope_begun t) t.event now
+    go true e s = clears w t now works counts past number last e s
+    go false e s = scopes w served t now works counts past number last e s
 
 -- ---- the operations of a phase
 
@@ -315,10 +377,30 @@ is-here w t o rest r =
     let below = slice_get_within w.program t.index o here.0 in
     record { there = here.0; within = below; in_phase = rw (lt-ltb t.index (length w.program) below) here.1; before_end = let h = here.1 in omega arith; behind = g.1 }
 
+none-there : (program : List Op) (i : ℕ) (o : Op) → program ≡ [] → slice_get program i ≡ Some o → ⊥
+none-there [] i o e there = absurd (cc)
+none-there (x ∷ program) i o e there = absurd (cc)
+
+-- nothing is done of no operation over no variable
+nothing-done : (w : Work) (i : ℕ) (vars : List (Option Held)) (now : List Note) → w.program ≡ [] → w.count ≡ 0 → AreDone w i vars now → (now ≡ []) × (length (variables vars) ≡ 0)
+nothing-done w i vars now empty bare d = go empty bare d
+  where
+    go : {program : List Op} {count n : ℕ} {vs : Variables} {ns : List Note} → program ≡ [] → count ≡ 0 → OpsDone w.shape w.thread w.came program count n vs ns → (ns ≡ []) × (length vs ≡ 0)
+    go empty bare (none_done e) = (refl, ap (λ (vs : Variables). length vs) e ∙ ap (λ (n : ℕ). length (all_nil n)) bare)
+    go {program = program} empty bare (one_done {i = i} {o = o} d there e x) = absurd (none-there program i o empty there)
+    go {program = program} empty bare (block {i = i} {o = o} d there b n f) = absurd (none-there program i o empty there)
+
+no-operation : (w : Work) → IsServedWork w → (i : ℕ) (o : Op) → slice_get w.program i ≡ Some o → w.thread ≡ 0 → ⊥
+no-operation w served i o there first = none-there w.program i o (served.clearing first).0 there
+
+-- before its operations a thread has cleared no global, where it is thread 0
+abbrev pub Uncleared : Work → ℕ → Type 0
+Uncleared w cleared = w.thread ≡ 0 → cleared ≡ 0
+
 -- the operations of the phase are done: it waits for the next phase, or the scope ends
 ends-phase : (w : Work) → IsServedWork w → (at : ℕ) (t : Thread) (now : List Note) → WorksOn w t.layout t.shape t.thread t.phases t.program t.vars → IsCounted w t.hands t.made t.kept now →
-    [] ≡ drop at (take (ops_in_first (t.phase + 1) w.phases) w.program) → at ≤ t.index → t.index ≤ ops_in_first (t.phase + 1) w.phases → AreDone w t.index t.vars now → Comes w (phase_over t) t.event now
-ends-phase w served at t now works counts r past_it before d = subst P (sym works.phases_is) (go (ltb (t.phase + 1) (length w.phases)) refl)
+    [] ≡ drop at (take (ops_in_first (t.phase + 1) w.phases) w.program) → at ≤ t.index → t.index ≤ ops_in_first (t.phase + 1) w.phases → AreDone w t.index t.vars now → Uncleared w t.cleared → Comes w (phase_over t) t.event now
+ends-phase w served at t now works counts r past_it before d none = subst P (sym works.phases_is) (go (ltb (t.phase + 1) (length w.phases)) refl)
   where
     P : List (List Op) → Type 0
     P phases = Comes w (cond (ltb (t.phase + 1) (length phases)) (record t { doing = Ready; asked = moves.PhaseEnd; phase = t.phase + 1 }) (scope_begun t)) t.event now
@@ -336,16 +418,7 @@ ends-phase w served at t now works counts r past_it before d = subst P (sym work
 
     ending : length w.phases ≤ t.phase + 1 → Comes w (scope_begun t) t.event now
     ending last = comes-after w (scope_begun t) t.event now (Operation 0 ∷ now) (operation nothing)
-        (scopes w served t (Operation 0 ∷ now) works (counted-operation w t.hands t.made t.kept 0 now counts) (past (ltb t.index (length w.program)) refl) refl last (record {
-          first = variables t.vars;
-          worked = now;
-          ops = rw (← over) d;
-          same_count = length-map t.vars held_in;
-          below = 0;
-          within = omega arith;
-          ends = scope_starts;
-          nils = λ v below. absurd (omega arith);
-        }))
+        (ends-on w served t (Operation 0 ∷ now) works (counted-operation w t.hands t.made t.kept 0 now counts) (past (ltb t.index (length w.program)) refl) refl last (end_from (eqb w.thread 0) refl))
       where
         over : t.index ≡ length w.program
         over = at_end ∙ first_all (t.phase + 1) w.phases last ∙ sym total
@@ -354,12 +427,29 @@ ends-phase w served at t now works counts r past_it before d = subst P (sym work
         past true e = let below = ltb-true t.index (length w.program) e in let same = over in absurd (omega arith)
         past false e = e
 
+        end_from : (first : Bool) → eqb w.thread 0 ≡ first → IsAtEnd first w t.vars t.cleared (Operation 0 ∷ now)
+        end_from true e =
+            let first = eqb-true w.thread 0 e in
+            let bare = served.clearing first in
+            let bare_then = nothing-done w t.index t.vars now bare.0 bare.1 d in
+            record { no_vars = sym (length-map t.vars held_in) ∙ bare_then.1; globals = rw (none first, bare_then.0) end_begins }
+        end_from false e = record {
+          first = variables t.vars;
+          worked = now;
+          ops = rw (← over) d;
+          same_count = length-map t.vars held_in;
+          below = 0;
+          within = omega arith;
+          ends = scope_starts;
+          nils = λ v below. absurd (omega arith);
+        }
+
     go : (b : Bool) → ltb (t.phase + 1) (length w.phases) ≡ b → Comes w (cond b (record t { doing = Ready; asked = moves.PhaseEnd; phase = t.phase + 1 }) (scope_begun t)) t.event now
     go true e = record {
       after = now;
       says = nothing;
       event = refl;
-      stands = record { works = works; in_phase = at_end; counts = counts; number = tt; asks = refl; up_to = d };
+      stands = record { works = works; in_phase = at_end; counts = counts; number = tt; asks = refl; up_to = record { done = d; uncleared = none } };
     }
     go false e = ending (ltb-false (t.phase + 1) (length w.phases) e)
 
@@ -395,7 +485,7 @@ from-nil w served t now o rest to go works here x nil skip = at (value t.vars to
       stands = drop-asks w (set_var to None (put answers.Nil (record t { first = true }))) old (Line answers.Nil ∷ Operation (ordinal w.program t.index) ∷ now) (works-over w t works (kinds-nil w.kinds t.vars to works.kinds))
           (counted-line w t.hands t.made t.kept (thread.number_of t) answers.Nil (Operation (ordinal w.program t.index) ∷ now) (number-here w t (Operation (ordinal w.program t.index) ∷ now) works x.number) x.opened)
           x.number here.in_phase (counted-in w served t.vars to old works.kinds e)
-          (λ after y. over-done w t.index (set t.vars to None) after here.within (rw (put-held t.vars to None) (drops_last x.next (answered (Some old) e) y)));
+          (λ after y. over-done w t.index (set t.vars to None) t.cleared after here.within (rw (put-held t.vars to None) (drops_last x.next (answered (Some old) e) y)));
     }
     at None e =
         let same : put_var (variables t.vars) to None ≡ variables t.vars = put-nil (variables t.vars) to (value-held t.vars to None e) in
@@ -440,7 +530,7 @@ moving w served t now to from rest go works here x skip move = at (value t.vars 
   where
     kinds : (h : Held) → value t.vars from ≡ Some h → AreOfKinds w.kinds (set (set t.vars to (Some h)) from None)
     kinds h e =
-        let fits : h.kind ≡ kind_of w.kinds to = works.kinds from h e ∙ sym (holds-at (KindsFit w.kinds) w.program t.index (op.Move to from) served.kinds_fit here.there) in
+        let fits : h.kind ≡ kind_of w.kinds to = works.kinds from h e ∙ sym (holds-at (KindsFit w.shape.globals w.kinds) w.program t.index (op.Move to from) served.kinds_fit here.there) in
         kinds-nil w.kinds (set t.vars to (Some h)) from (kinds-set w.kinds t.vars to (Some h) (fits-some w.kinds to h fits) works.kinds)
 
     replaced_vars : (h : Held) → variables (set (set t.vars to (Some h)) from None) ≡ put_var (put_var (variables t.vars) to (Some (held_of h))) from None
@@ -459,7 +549,7 @@ moving w served t now to from rest go works here x skip move = at (value t.vars 
       stands = drop-asks w (moved to from h (put answers.Ok (record t { first = true }))) old (Line answers.Ok ∷ Operation (ordinal w.program t.index) ∷ now) (works-over w t works (kinds h e))
           (counted-line w t.hands t.made t.kept (thread.number_of t) answers.Ok (Operation (ordinal w.program t.index) ∷ now) (number-here w t (Operation (ordinal w.program t.index) ∷ now) works x.number) x.opened)
           x.number here.in_phase (counted-in w served t.vars to old works.kinds f)
-          (λ after y. over-done w t.index (set (set t.vars to (Some h)) from None) after here.within (rw (replaced_vars h) (drops_last x.next (answered h (Some old) e f) y)));
+          (λ after y. over-done w t.index (set (set t.vars to (Some h)) from None) t.cleared after here.within (rw (replaced_vars h) (drops_last x.next (answered h (Some old) e f) y)));
     }
     to_place h None e f =
         comes-after w (go (moved to from h (skipped answers.Ok t))) t.event now (Line answers.Ok ∷ Operation (ordinal w.program t.index) ∷ now) (line (operation nothing))
@@ -483,7 +573,7 @@ dropping w served t now v rest go works here x skip = at (value t.vars v) refl
       stands = drop-asks w (set_var v None (put answers.Ok (record t { first = true }))) old (Line answers.Ok ∷ Operation (ordinal w.program t.index) ∷ now) (works-over w t works (kinds-nil w.kinds t.vars v works.kinds))
           (counted-line w t.hands t.made t.kept (thread.number_of t) answers.Ok (Operation (ordinal w.program t.index) ∷ now) (number-here w t (Operation (ordinal w.program t.index) ∷ now) works x.number) x.opened)
           x.number here.in_phase (counted-in w served t.vars v old works.kinds e)
-          (λ after y. over-done w t.index (set t.vars v None) after here.within
+          (λ after y. over-done w t.index (set t.vars v None) t.cleared after here.within
           (rw (put-held t.vars v None) (drops_last x.next (drop_of w.thread v w.came (held_of old) (variables t.vars) (Operation (ordinal w.program t.index) ∷ now) (value-held t.vars v (Some old) e)) y)));
     }
     at None e = comes-after w (go (skipped answers.Nil t)) t.event now (Line answers.Nil ∷ Operation (ordinal w.program t.index) ∷ now) (line (operation nothing))
@@ -557,8 +647,42 @@ comes-to w served at (op.IfNil v to) rest t now works counts place here d on =
 comes-to w served at (op.IfSome v to) rest t now works counts place here d on =
     comes-to-block w served at (op.IfSome v to) rest t now works counts place here d on refl (cond (is_held (value t.vars v)) (t.index + 1) to) refl (ap (λ (b : Bool). cond b (t.index + 1) to) (sym (same-held t.vars v)))
 comes-to w served at (op.Weak to of) rest t now works counts place here d on = absurd (served-at w t.index (op.Weak to of) served here.there)
-comes-to w served at (op.Get to cell) rest t now works counts place here d on = absurd (served-at w t.index (op.Get to cell) served here.there)
-comes-to w served at (op.Set cell from) rest t now works counts place here d on = absurd (served-at w t.index (op.Set cell from) served here.there)
+comes-to w served at (op.Get to (opcell.Global g)) rest t now works counts place here d on = record {
+  after = Operation (ordinal w.program t.index) ∷ now;
+  says = operation nothing;
+  event = refl;
+  stands = record {
+    works = works;
+    in_phase = here.in_phase;
+    counts = counted-operation w t.hands t.made t.kept (ordinal w.program t.index) now counts;
+    number = sym (number-within w t.index here.within);
+    asks = tt;
+    up_to = record {
+      global = g;
+      begun = record { base = now; done = d; there = here.there; now_is = refl };
+      cell_is = ap (λ (shape : HeapShape). global_of shape g) works.shape_is;
+    };
+  };
+}
+comes-to w served at (op.Set (opcell.Global g) from) rest t now works counts place here d on = record {
+  after = Operation (ordinal w.program t.index) ∷ now;
+  says = operation nothing;
+  event = refl;
+  stands = record {
+    works = works;
+    in_phase = here.in_phase;
+    counts = counted-operation w t.hands t.made t.kept (ordinal w.program t.index) now counts;
+    number = sym (number-within w t.index here.within);
+    asks = tt;
+    up_to = record {
+      global = g;
+      begun = record { base = now; done = d; there = here.there; now_is = refl };
+      cell_is = ap (λ (shape : HeapShape). global_of shape g) works.shape_is;
+    };
+  };
+}
+comes-to w served at (op.Get to (opcell.Field owner field)) rest t now works counts place here d on = absurd (served-at w t.index (op.Get to (opcell.Field owner field)) served here.there)
+comes-to w served at (op.Set (opcell.Field owner field) from) rest t now works counts place here d on = absurd (served-at w t.index (op.Set (opcell.Field owner field) from) served here.there)
 
 -- the thread has gone past the operation, or it begins
 passes-or-comes : (w : Work) → IsServedWork w → (at : ℕ) (o : Op) (rest : List Op) (t : Thread) (now : List Note) → WorksOn w t.layout t.shape t.thread t.phases t.program t.vars → IsCounted w t.hands t.made t.kept now →
@@ -573,22 +697,26 @@ passes-or-comes w served at o rest t now works counts r past before d on = go (l
         let P : ℕ → Type 0 = λ (i : ℕ). o ∷ rest ≡ drop i (take (ops_in_first (t.phase + 1) w.phases) w.program) in
         comes-to w served at o rest t now works counts place (is-here w t o rest (subst P place r)) d on
 
+-- thread 0 has no operation
+some-left : (w : Work) → IsServedWork w → (at : ℕ) (o : Op) (rest : List Op) (t : Thread) → o ∷ rest ≡ drop at (take (ops_in_first (t.phase + 1) w.phases) w.program) → w.thread ≡ 0 → ⊥
+some-left w served at o rest t r first = let h = (get-take (ops_in_first (t.phase + 1) w.phases) w.program at o (get-drop (take (ops_in_first (t.phase + 1) w.phases) w.program) rest at o r).0).0 in no-operation w served at o h first
+
 -- the first operation of the rest of the phase that asks for a step begins, or the phase is over
 pub begins : (w : Work) → IsServedWork w → (at : ℕ) (rest : List Op) (t : Thread) (now : List Note) → WorksOn w t.layout t.shape t.thread t.phases t.program t.vars → IsCounted w t.hands t.made t.kept now →
-    rest ≡ drop at (take (ops_in_first (t.phase + 1) w.phases) w.program) → at ≤ t.index → t.index ≤ ops_in_first (t.phase + 1) w.phases → AreDone w t.index t.vars now → Comes w (begun_at at rest t) t.event now
-begins w served at [] t now works counts r past before d = ends-phase w served at t now works counts r past before d
-begins w served at (o ∷ rest) t now works counts r past before d =
+    rest ≡ drop at (take (ops_in_first (t.phase + 1) w.phases) w.program) → at ≤ t.index → t.index ≤ ops_in_first (t.phase + 1) w.phases → AreDone w t.index t.vars now → Uncleared w t.cleared → Comes w (begun_at at rest t) t.event now
+begins w served at [] t now works counts r past before d none = ends-phase w served at t now works counts r past before d none
+begins w served at (o ∷ rest) t now works counts r past before d none =
     passes-or-comes w served at o rest t now works counts r past before d
     (λ u ns works_u counts_u phase past_u before_u d_u.
     begins w served (at + 1) rest u ns works_u counts_u
     (let P : ℕ → Type 0 = λ (k : ℕ). rest ≡ drop (at + 1) (take (ops_in_first (k + 1) w.phases) w.program) in subst P (sym phase) (get-drop (take (ops_in_first (t.phase + 1) w.phases) w.program) rest at o r).1)
     past_u
     (let P : ℕ → Type 0 = λ (k : ℕ). u.index ≤ ops_in_first (k + 1) w.phases in subst P (sym phase) before_u)
-    d_u)
+    d_u (λ first. absurd (some-left w served at o rest t r first)))
 
 -- what was under way is over
 pub goes-on : (w : Work) → IsServedWork w → (t : Thread) (now : List Note) → WorksOn w t.layout t.shape t.thread t.phases t.program t.vars → IsCounted w t.hands t.made t.kept now →
-    number_of now ≡ number_at w t.index → IsOfPhase w t.phase t.index → IsOver w t.index t.vars now → Comes w (next_op t) t.event now
+    number_of now ≡ number_at w t.index → IsOfPhase w t.phase t.index → IsOver w t.index t.vars t.cleared now → Comes w (next_op t) t.event now
 goes-on w served t now works counts number phase over =
     let P : List Op → Type 0 = λ (p : List Op). Comes w (begun (record t { doing = Ended; index = cond (ltb t.index (length p)) (t.index + 1) t.index })) t.event now in
     subst P (sym works.program_is) (go (ltb t.index (length w.program)) refl over number phase)
@@ -597,10 +725,11 @@ goes-on w served t now works counts number phase over =
     rest_is : (i : ℕ) → drop i (take (ops_in_first (t.phase + 1) t.phases) t.program) ≡ drop i (take (ops_in_first (t.phase + 1) w.phases) w.program)
     rest_is i = ap (λ ps. drop i (take (ops_in_first (t.phase + 1) ps) t.program)) works.phases_is ∙ ap (λ (p : List Op). drop i (take (ops_in_first (t.phase + 1) w.phases) p)) works.program_is
 
-    go : (b : Bool) → ltb t.index (length w.program) ≡ b → IsOverIf b w t.index t.vars now → number_of now ≡ cond b (ordinal w.program t.index) 0 → IsOfPhaseIf b w t.phase t.index →
+    go : (b : Bool) → ltb t.index (length w.program) ≡ b → IsOverIf b w t.index t.vars t.cleared now → number_of now ≡ cond b (ordinal w.program t.index) 0 → IsOfPhaseIf b w t.phase t.index →
         Comes w (begun (record t { doing = Ended; index = cond b (t.index + 1) t.index })) t.event now
     go true e over number phase =
         begins w served (t.index + 1) (drop (t.index + 1) (take (ops_in_first (t.phase + 1) t.phases) t.program)) (record t { doing = Ended; index = t.index + 1 }) now works counts (rest_is (t.index + 1)) (omega arith) (omega arith) over
+        (λ first. absurd (let bare = ap (λ (p : List Op). length p) (served.clearing first).0 in let below = ltb-true t.index (length w.program) e in omega arith))
     go false e over number phase = subst Q (sym none) (subst R (sym works.phases_is) (last (ltb (t.phase + 1) (length w.phases)) refl))
       where
         past : length w.program ≤ t.index
@@ -622,7 +751,7 @@ goes-on w served t now works counts number phase over =
         last : (b : Bool) → ltb (t.phase + 1) (length w.phases) ≡ b →
             Comes w (cond b (record t { doing = Ready; asked = moves.PhaseEnd; phase = t.phase + 1 }) (scope_begun (record t { doing = Ended; index = t.index }))) t.event now
         last true f = let more = ltb-true (t.phase + 1) (length w.phases) f in absurd (omega arith)
-        last false f = scopes w served (record t { doing = Ended; index = t.index }) now works counts e number phase over
+        last false f = ends-on w served (record t { doing = Ended; index = t.index }) now works counts e number phase over
 
 -- the destination has its new value, and what it held is dropped last
 pub replaces : (w : Work) → IsServedWork w → (t : Thread) (to : ℕ) (new : Option Held) (o : Op) (answer : Answer) (base ns : List Note) → WorksOn w t.layout t.shape t.thread t.phases t.program t.vars →
@@ -643,11 +772,11 @@ replaces w served t to new o answer base ns works counts number phase done there
     go : (old : Option Held) → value t.vars to ≡ old → Comes w (replaced_old old (set_var to new t)) t.event (Line answer ∷ ns)
     go None e =
         let d : AreDone w (t.index + 1) (set t.vars to new) (Line answer ∷ ns) = rw (put-held t.vars to new) (answers_last next (rw (value-held t.vars to None e) at answered)) in
-        goes-on w served (set_var to new t) (Line answer ∷ ns) works_then counts number phase (over-done w t.index (set t.vars to new) (Line answer ∷ ns) within d)
+        goes-on w served (set_var to new t) (Line answer ∷ ns) works_then counts number phase (over-done w t.index (set t.vars to new) t.cleared (Line answer ∷ ns) within d)
     go (Some old) e = record {
       after = Line answer ∷ ns;
       says = nothing;
       event = refl;
       stands = drop-asks w (set_var to new t) old (Line answer ∷ ns) works_then counts number phase (counted-in w served t.vars to old works.kinds e)
-          (λ after x. over-done w t.index (set t.vars to new) after within (rw (put-held t.vars to new) (drops_last next (rw (value-held t.vars to (Some old) e) at answered) x)));
+          (λ after x. over-done w t.index (set t.vars to new) t.cleared after within (rw (put-held t.vars to new) (drops_last next (rw (value-held t.vars to (Some old) e) at answered) x)));
     }

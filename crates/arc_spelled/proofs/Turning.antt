@@ -2,12 +2,17 @@
 use Rattle.std.proofs.Common.{◌≡◌, ℕ, false, List, Option, None}
 use Rattle.arc_model.specs.declared.event.Act.{Act}
 use Rattle.arc_model.specs.Spelling.{Note}
+use Rattle.arc_rule.specs.Extents.{Extent}
 use Rattle.arc_rule.specs.Places.{extent_of}
+use Rattle.arc_rule.specs.declared.step.Step.{Step}
+use Rattle.arc_rule.specs.declared.step.Intent.{Intent}
 use Rattle.arc_programs.specs.ProgramsLines.{number_of}
 use Rattle.arc_ops.specs.declared.stepper.Doing.TheVariants.{Ended}
 use Rattle.arc_ops.specs.Thread.{Thread}
-use Rattle.arc_spelled.specs.Shown.{Shows, Adds, with_act}
+use Rattle.arc_spelled.specs.Came.{CameOut, came_out}
+use Rattle.arc_spelled.specs.Shown.{FindsReference, Shows, Adds, with_act}
 use Rattle.arc_spelled.specs.Shown.ReadsName.{nothing as read_nothing}
+use Rattle.arc_spelled.specs.Shown.FindsReference.{nothing as refers_nothing, refers}
 use Rattle.arc_spelled.specs.Shown.FindsNoEntry.{nothing as found_nothing}
 use Rattle.arc_spelled.specs.StepperStands.{Work, step_in, WorksOn, IsCounted, number_at, IsOfPhase, StandsFor}
 use Rattle.arc_spelled.proofs.StepperSteps.{Comes}
@@ -26,12 +31,20 @@ given t = record t { doing = Ended; first = false; event = None }
 -- a stepper that was given a word, and what it stands for then
 pub record Turns (w : Work) (t new : Thread) (last : Option ℕ) (now : List Note) : Type 0 where
   pub after : List Note
-  pub adds : Adds (extent_of w.shape) (step_in t.asked) last new.event now after
+  pub adds : Adds (extent_of w.shape) (step_in t.asked) last new.event (came_out t last) now after
   pub stands : StandsFor w new after
 
-pub turned-by : (w : Work) (t new : Thread) (last : Option ℕ) (now : List Note) (e : Option Act) (found : List Note) → Shows (extent_of w.shape) (step_in t.asked) last e now found → Comes w new e found → Turns w t new last now
+pub turned-by : (w : Work) (t new : Thread) (last : Option ℕ) (now : List Note) (e : Option Act) (found : List Note) → Shows (extent_of w.shape) (step_in t.asked) last e (came_out t last) now found → Comes w new e found → Turns w t new last now
 turned-by w t new last now e found shows c = record { after = c.after; adds = rw c.event (record { found = found; shows = shows; says = c.says }); stands = c.stands }
 
 -- the word shows nothing but the event
 pub plainly : (w : Work) (t new : Thread) (last : Option ℕ) (now : List Note) (e : Option Act) → Comes w new e (with_act e now) → Turns w t new last now
-plainly w t new last now e c = turned-by w t new last now e (with_act e now) (record { read = now; reads = read_nothing; finds = found_nothing }) c
+plainly w t new last now e c = turned-by w t new last now e (with_act e now) (record { read = now; reads = read_nothing; referred = now; refers = refers_nothing; finds = found_nothing }) c
+
+-- a turn that brings nothing out of a cell shows what it shows whatever comes out
+pub any-out : {layout : Extent} {asked : Option (Step × Intent)} {last : Option ℕ} {e : Option Act} {out : Option CameOut} {b found : List Note} → Shows layout asked last e None b found → Shows layout asked last e out b found
+any-out {e = e} {out = out} s = record { read = s.read; reads = s.reads; referred = s.referred; refers = go s.refers; finds = s.finds }
+  where
+    go : {b ns : List Note} → FindsReference e None b ns → FindsReference e out b ns
+    go refers_nothing = refers_nothing
+    go (refers o f) = absurd (cc)

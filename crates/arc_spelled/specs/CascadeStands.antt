@@ -16,11 +16,12 @@ use Rattle.arc_rule.specs.declared.step.Step.TheVariants.{Load, Exchange}
 use Rattle.arc_rule.specs.declared.attempt.At.{At as AttemptAt}
 use Rattle.arc_rule.specs.declared.attempt.At.TheVariants as attempt
 use Rattle.arc_plan.specs.Attempts.{Attempt}
-use Rattle.arc_cells.specs.declared.cascade.At.{At}
-use Rattle.arc_cells.specs.declared.cascade.At.TheVariants.{Start, Entering, Naming, Named, Leaving, Finishing, Vacating, Ended}
+use Rattle.arc_cells.specs.declared.bare.At.{At}
+use Rattle.arc_cells.specs.declared.bare.At.TheVariants.{Start, Entering, Naming, Named, Leaving, Finishing, Vacating, Ended}
 use Rattle.arc_cells.specs.declared.cascade.CascadeNext.{CascadeNext}
 use Rattle.arc_cells.specs.declared.cascade.CascadeNext.TheVariants as says
-use Rattle.arc_cells.specs.Cascades.{HasNoFields, CascadeState, cascade_from, cascade_turned, cascade_answer, cascade_takes}
+use Rattle.arc_cells.specs.BareCascades.{CascadeState, cascade_from, cascade_turned, cascade_answer, cascade_takes}
+use Rattle.arc_cells.specs.Cascades.{HasNoFields}
 use Rattle.arc_spelled.specs.Shown.{Shows}
 
 -- the step that it asks for, and what it is made for
@@ -80,7 +81,7 @@ pub record IsSameObject (c new : CascadeState) : Type 0 where
 -- object that it tells. Where it is done, they spell the deinit.
 pub record CascadeGoesOn (c : CascadeState) (asked : Option (Step × Intent)) (last : Option ℕ) (base now : List Note) : Type 0 where
   pub found : List Note
-  pub shows : Shows c.layout asked last (cascade_turned c last).event now found
+  pub shows : Shows c.layout asked last (cascade_turned c last).event None now found
   pub stands : CascadeStandsFor base (cascade_turned c last) (asked_by (cascade_answer c last)) (with_deinit (cascade_answer c last) found)
   pub same : IsSameObject c (cascade_turned c last)
   pub done : cascade_answer c last ≡ says.Done → IsCascade c.shape c.slot base found

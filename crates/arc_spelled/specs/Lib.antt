@@ -1,3 +1,5 @@
+pub mod Work
+pub mod Came
 pub mod Shown
 pub mod CascadeStands
 pub mod StepperStands

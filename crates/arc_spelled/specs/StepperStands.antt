@@ -1,13 +1,17 @@
 -- What a thread's stepper stands for: the notes that spell the thread's program up to where the stepper is.
-use Rattle.std.specs.Prelude.{ℕ, Bool, true, false, ◌≡◌, ◌+◌, ◌<◌, ◌≤◌, nat_lt, if◌then◌else◌, List, ◌∷◌, length, map, take, slice_get, All, Option, Some, None, ⊤}
+use Rattle.std.specs.Prelude.{ℕ, Bool, true, false, ◌≡◌, ◌+◌, ◌<◌, ◌≤◌, ◌==◌, nat_lt, if◌then◌else◌, List, [], ◌∷◌, length, map, take, slice_get, All, Option, Some, None, ⊤}
 use Rattle.arc_model.specs.declared.event.ObjectName.{ObjectName}
+use Rattle.arc_model.specs.declared.event.CellName.{CellName}
+use Rattle.arc_model.specs.declared.event.Origin.{Origin}
+use Rattle.arc_model.specs.declared.event.Origin.TheVariants as origins
 use Rattle.arc_model.specs.declared.event.Act.TheVariants as acts
 use Rattle.arc_model.specs.declared.event.Got.TheVariants as gots
 use Rattle.arc_model.specs.declared.shape.Kind.{Kind}
 use Rattle.arc_model.specs.declared.shape.Kind.TheVariants.{Strong}
+use Rattle.arc_model.specs.declared.shape.RefShape.{RefShape}
 use Rattle.arc_model.specs.Shapes.{HeapShape}
 use Rattle.arc_model.specs.Spelling.{Note, hands_of, acts_of, IsEnd, IsDrop, IsCascade}
-use Rattle.arc_model.specs.Spelling.Note.{Did, Operation, Entry}
+use Rattle.arc_model.specs.Spelling.Note.{Did, Operation, Entry, Refers}
 use Rattle.arc_rule.specs.Extents.{Extent}
 use Rattle.arc_rule.specs.Places.{number, extent_of}
 use Rattle.arc_rule.specs.declared.layout.Place.TheVariants.{Isa}
@@ -21,50 +25,47 @@ use Rattle.arc_plan.specs.declared.slots.Once.TheVariants.{Asked}
 use Rattle.arc_plan.specs.Slots.{OneStep}
 use Rattle.arc_side.specs.Inline.{IsCountedInline}
 use Rattle.arc_side.specs.Downs.{Fall, inline_fall}
-use Rattle.arc_cells.specs.Cascades.{HasNoFields, CascadeState}
+use Rattle.arc_cells.specs.BareCascades.{CascadeState}
+use Rattle.arc_cells.specs.Cascades.{HasNoFields}
 use Rattle.arc_script.specs.declared.script.Op.{Op}
 use Rattle.arc_script.specs.declared.script.Op.TheVariants as op
+use Rattle.arc_script.specs.declared.script.OpCell.TheVariants as opcell
 use Rattle.arc_script.specs.OneList.{in_one_list}
 use Rattle.arc_programs.specs.Variables.{Held, Variables}
-use Rattle.arc_programs.specs.Programs.{Hands, made_of, OpsDone, ScopeEnds, IsProgram}
+use Rattle.arc_programs.specs.Programs.{made_of, OpsDone, ScopeEnds, IsProgram, GlobalsCleared}
 use Rattle.arc_programs.specs.ProgramsLines.{number_of, told}
+use Rattle.arc_ops.specs.Cells.{global_of}
+use Rattle.arc_ops.specs.declared.cell.Cell.{Cell}
 use Rattle.arc_ops.specs.declared.stepper.Held.{Held as HeldByStepper}
 pub use Rattle.arc_ops.specs.Plans.{op_of}
 use Rattle.arc_ops.specs.declared.gain.Gain.{Gain}
 use Rattle.arc_ops.specs.declared.gain.Gain.TheVariants as gains
 use Rattle.arc_ops.specs.declared.stepper.Doing.{Doing}
-use Rattle.arc_ops.specs.declared.stepper.Doing.TheVariants.{Ready, Making, Gaining, Naming, Dropping, Dying, Vacating, Ended}
+use Rattle.arc_ops.specs.declared.stepper.Doing.TheVariants.{Ready, Making, Gaining, Naming, Opening, Closing, Setting, Clearing, Dropping, Dying, Vacating, Ended}
 use Rattle.arc_ops.specs.declared.stepper.Move.{Move}
 use Rattle.arc_ops.specs.declared.stepper.Move.TheVariants as moves
 use Rattle.arc_ops.specs.Kept.{Kept}
-use Rattle.arc_ops.specs.Programs.{BlocksFit, ordinal, ops_in_first, kind_of, KindsFit}
+use Rattle.arc_ops.specs.Programs.{BlocksFit, ordinal, ops_in_first, kind_of, KindsFit, ClassesFit}
 use Rattle.arc_ops.specs.Served.{IsServedOp}
 use Rattle.arc_ops.specs.Thread.{Thread, value, is_busy}
 use Rattle.arc_ops.specs.Turns.{turned}
+pub use Rattle.arc_spelled.specs.Work.{Work}
+use Rattle.arc_spelled.specs.Came.{came_out}
 use Rattle.arc_spelled.specs.Shown.{Adds, with_event}
 use Rattle.arc_spelled.specs.CascadeStands.{CascadeStandsFor, IsReleasing}
 
--- A thread's operations, phase by phase, over so many variables of these kinds, in a heap of this shape, room for so many lines, and
--- what each of its hands refers to when it comes.
-pub record Work : Type 0 where
-  pub shape : HeapShape
-  pub thread : ℕ
-  pub phases : List (List Op)
-  pub program : List Op
-  pub count : ℕ
-  pub kinds : List Kind
-  pub room : ℕ
-  pub came : Hands
-
--- the program is that of its phases, blocks stay within these, the operations and the kinds of variables are served, and objects have no
--- fields
+-- the program is that of its phases, blocks stay within these, the operations, the kinds of variables and the globals are served, operations
+-- fit kinds and classes, objects have no fields, and thread 0 has neither operations nor variables
 pub record IsServedWork (w : Work) : Type 0 where
   pub whole : w.program ≡ in_one_list 0 w.phases
   pub blocks : BlocksFit w.program w.phases
   pub ops : All IsServedOp w.program
   pub kinds : All IsCountedInline w.kinds
-  pub kinds_fit : All (KindsFit w.kinds) w.program
+  pub kinds_fit : All (KindsFit w.shape.globals w.kinds) w.program
+  pub classes_fit : All (ClassesFit w.shape.globals w.classes) w.program
+  pub globals : All (λ (r : RefShape). IsCountedInline r.kind) w.shape.globals
   pub without_fields : HasNoFields w.shape
+  pub clearing : w.thread ≡ 0 → (w.program ≡ []) × (w.count ≡ 0)
 
 abbrev pub held_of : HeldByStepper → Held
 held_of h = record { hand = h.hand; kind = h.kind; place = h.place }
@@ -95,13 +96,33 @@ pub record IsInScope (w : Work) (vars : List (Option HeldByStepper)) (now : List
   pub ends : ScopeEnds w.shape first below (variables vars) worked now
   pub nils : (v : ℕ) → v < below → value vars v ≡ None
 
--- The operation at this place is over, or where there is none, a drop at the end of the scope.
-abbrev pub IsOverIf : Bool → Work → ℕ → List (Option HeldByStepper) → List Note → Type 0
-IsOverIf true w i vars now = AreDone w (i + 1) vars now
-IsOverIf false w i vars now = IsInScope w vars now
+-- thread 0, which has no variable, has cleared the first globals
+pub record HasCleared (w : Work) (vars : List (Option HeldByStepper)) (cleared : ℕ) (now : List Note) : Type 0 where
+  pub no_vars : length vars ≡ 0
+  pub globals : GlobalsCleared w.shape w.came cleared now
 
-abbrev pub IsOver : Work → ℕ → List (Option HeldByStepper) → List Note → Type 0
-IsOver w i vars now = IsOverIf (nat_lt i (length w.program)) w i vars now
+-- behind its operations a thread is in the end of its scope, and thread 0 in the end section
+abbrev pub IsAtEnd : (clears : Bool) → Work → List (Option HeldByStepper) → (cleared : ℕ) → List Note → Type 0
+IsAtEnd true w vars cleared now = HasCleared w vars cleared now
+IsAtEnd false w vars cleared now = IsInScope w vars now
+
+-- The operation at this place is over, or where there is none, a drop at the end.
+abbrev pub IsOverIf : Bool → Work → ℕ → List (Option HeldByStepper) → (cleared : ℕ) → List Note → Type 0
+IsOverIf true w i vars cleared now = AreDone w (i + 1) vars now
+IsOverIf false w i vars cleared now = IsAtEnd (w.thread == 0) w vars cleared now
+
+abbrev pub IsOver : Work → ℕ → List (Option HeldByStepper) → (cleared : ℕ) → List Note → Type 0
+IsOver w i vars cleared now = IsOverIf (nat_lt i (length w.program)) w i vars cleared now
+
+-- before its operations a thread has cleared no global; but for thread 0 none ever has
+pub record IsReady (w : Work) (i : ℕ) (vars : List (Option HeldByStepper)) (cleared : ℕ) (now : List Note) : Type 0 where
+  pub done : AreDone w i vars now
+  pub uncleared : w.thread ≡ 0 → cleared ≡ 0
+
+-- the thread has ended, and thread 0 has cleared all globals
+abbrev pub HasEnded : (clears : Bool) → Work → List Note → Type 0
+HasEnded true w now = GlobalsCleared w.shape w.came (length w.shape.globals) now
+HasEnded false w now = IsProgram w.shape w.thread w.came w.program w.count now
 
 -- the operation at this place began just now
 pub record IsBegun (w : Work) (i : ℕ) (o : Op) (vars : List (Option HeldByStepper)) (now : List Note) : Type 0 where
@@ -134,6 +155,37 @@ pub record IsGaining (w : Work) (i : ℕ) (gain : Gain) (to : ℕ) (from : HeldB
   pub begun : IsBegun w i (op_of gain to of) vars now
   pub source : value vars of ≡ Some from
 
+-- a global is to be read: the operation began just now
+pub record IsGetting (w : Work) (i to : ℕ) (cell : Cell) (vars : List (Option HeldByStepper)) (now : List Note) : Type 0 where
+  pub global : ℕ
+  pub begun : IsBegun w i (op.Get to (opcell.Global global)) vars now
+  pub cell_is : cell ≡ global_of w.shape global
+
+-- the reference is gained from one in a variable, or copied from one in a cell
+abbrev pub GainsUpTo : Work → ℕ → Gain → ℕ → (origin : Origin) → (kind : Kind) → (place : ℕ) → List (Option HeldByStepper) → List Note → Type 0
+GainsUpTo w i gain to (origins.Hand hand) kind place vars now = IsGaining w i gain to (record { hand = hand; kind = kind; place = place }) vars now
+GainsUpTo w i gain to (origins.Cell cell) kind place vars now = (gain ≡ gains.Copy) × IsGetting w i to (record { name = cell; kind = kind }) vars now
+
+-- the cell's reference was copied, and came into the thread's next hand
+pub record IsGot (w : Work) (i to : ℕ) (cell : CellName) (held : HeldByStepper) (vars : List (Option HeldByStepper)) (now : List Note) : Type 0 where
+  pub before : List Note
+  pub getting : IsGetting w i to (record { name = cell; kind = held.kind }) vars before
+  pub hand_is : held.hand ≡ hands_of before + 1
+  pub came : w.came held.hand ≡ Some (record { kind = held.kind; place = held.place })
+  pub now_is : now ≡ Did (acts.Copy (origins.Cell cell) held.hand) ∷ Refers cell held.kind held.place ∷ before
+
+-- a variable's value is to be put into a global: the operation began just now
+pub record IsPutting (w : Work) (i from : ℕ) (cell : Cell) (vars : List (Option HeldByStepper)) (now : List Note) : Type 0 where
+  pub global : ℕ
+  pub begun : IsBegun w i (op.Set (opcell.Global global) from) vars now
+  pub cell_is : cell ≡ global_of w.shape global
+
+-- thread 0 is to clear its next global
+pub record IsClearing (w : Work) (vars : List (Option HeldByStepper)) (cleared : ℕ) (now : List Note) : Type 0 where
+  pub thread_is : w.thread ≡ 0
+  pub within : cleared < length w.shape.globals
+  pub so_far : HasCleared w vars cleared now
+
 -- a reference was loaded, and for its line the name of its object is read
 pub record IsLoaded (w : Work) (i to : ℕ) (held : HeldByStepper) (plan : OneStep) (asked : Option (Step × Intent)) (vars : List (Option HeldByStepper)) (now : List Note) : Type 0 where
   pub from : HeldByStepper
@@ -145,14 +197,14 @@ pub record IsLoaded (w : Work) (i to : ℕ) (held : HeldByStepper) (plan : OneSt
   pub asks : asked ≡ Some (Load (number (extent_of w.shape) (Isa held.place)), intents.Look)
 
 -- whatever completes the drop completes what is under way
-abbrev pub DropEnds : Work → ℕ → HeldByStepper → List (Option HeldByStepper) → List Note → Type 0
-DropEnds w i held vars now = (after : List Note) → IsDrop w.shape held.kind held.place held.hand now after → IsOver w i vars after
+abbrev pub DropEnds : Work → ℕ → HeldByStepper → List (Option HeldByStepper) → (cleared : ℕ) → List Note → Type 0
+DropEnds w i held vars cleared now = (after : List Note) → IsDrop w.shape held.kind held.place held.hand now after → IsOver w i vars cleared after
 
 -- a reference is dropped that is counted in the inline word
-pub record IsDropping (w : Work) (i : ℕ) (held : HeldByStepper) (plan : Fall) (asked : Option (Step × Intent)) (vars : List (Option HeldByStepper)) (now : List Note) : Type 0 where
+pub record IsDropping (w : Work) (i : ℕ) (held : HeldByStepper) (plan : Fall) (asked : Option (Step × Intent)) (vars : List (Option HeldByStepper)) (cleared : ℕ) (now : List Note) : Type 0 where
   pub counted : IsCountedInline held.kind
   pub releasing : IsReleasing (extent_of w.shape) held.place (intents.Drop held.hand) asked (inline_fall plan)
-  pub ends : DropEnds w i held vars now
+  pub ends : DropEnds w i held vars cleared now
 
 -- the step that is asked for, and what it is made for
 abbrev pub step_in : Move → Option (Step × Intent)
@@ -160,29 +212,33 @@ step_in (moves.Step step intent) = Some (step, intent)
 step_in _ = None
 
 -- an object dies, and whatever completes its deinit completes what is under way
-pub record IsDying (w : Work) (i : ℕ) (c : CascadeState) (asked : Move) (vars : List (Option HeldByStepper)) (now : List Note) : Type 0 where
+pub record IsDying (w : Work) (i : ℕ) (c : CascadeState) (asked : Move) (vars : List (Option HeldByStepper)) (cleared : ℕ) (now : List Note) : Type 0 where
   pub base : List Note
   pub stands : CascadeStandsFor base c (step_in asked) now
   pub layout : c.layout ≡ extent_of w.shape
   pub shape : c.shape ≡ w.shape
-  pub ends : (after : List Note) → IsCascade w.shape c.slot base after → IsOver w i vars after
+  pub ends : (after : List Note) → IsCascade w.shape c.slot base after → IsOver w i vars cleared after
 
 -- the last unowned reference was dropped, and whatever completes the end of the slot completes what is under way
-pub record IsVacating (w : Work) (i slot : ℕ) (vars : List (Option HeldByStepper)) (now : List Note) : Type 0 where
+pub record IsVacating (w : Work) (i slot : ℕ) (vars : List (Option HeldByStepper)) (cleared : ℕ) (now : List Note) : Type 0 where
   pub before : List Note
   pub now_is : now ≡ Entry slot None ∷ before
-  pub ends : (after : List Note) → IsEnd slot before after → IsOver w i vars after
+  pub ends : (after : List Note) → IsEnd slot before after → IsOver w i vars cleared after
 
 -- the notes, by what the stepper is doing
-abbrev pub StepperUpTo : Work → ℕ → List (Option HeldByStepper) → Move → List Note → Doing → Type 0
-StepperUpTo w i vars asked now Ready = AreDone w i vars now
-StepperUpTo w i vars asked now (Making to name plan) = MakesUpTo w i to name vars now plan.at
-StepperUpTo w i vars asked now (Gaining gain to from plan) = IsGaining w i gain to from vars now
-StepperUpTo w i vars asked now (Naming to held plan) = IsLoaded w i to held plan (step_in asked) vars now
-StepperUpTo w i vars asked now (Dropping held plan) = IsDropping w i held plan (step_in asked) vars now
-StepperUpTo w i vars asked now (Dying c) = IsDying w i c asked vars now
-StepperUpTo w i vars asked now (Vacating slot plan) = IsVacating w i slot vars now
-StepperUpTo w i vars asked now Ended = IsProgram w.shape w.thread w.came w.program w.count now
+abbrev pub StepperUpTo : Work → ℕ → List (Option HeldByStepper) → (cleared : ℕ) → Move → List Note → Doing → Type 0
+StepperUpTo w i vars cleared asked now Ready = IsReady w i vars cleared now
+StepperUpTo w i vars cleared asked now (Making to name plan) = MakesUpTo w i to name vars now plan.at
+StepperUpTo w i vars cleared asked now (Gaining gain to from plan) = GainsUpTo w i gain to from.origin from.kind from.place vars now
+StepperUpTo w i vars cleared asked now (Naming to held plan) = IsLoaded w i to held plan (step_in asked) vars now
+StepperUpTo w i vars cleared asked now (Opening to cell plan) = IsGetting w i to cell vars now
+StepperUpTo w i vars cleared asked now (Closing to cell held plan) = IsGot w i to cell held vars now
+StepperUpTo w i vars cleared asked now (Setting from cell plan) = IsPutting w i from cell vars now
+StepperUpTo w i vars cleared asked now (Clearing plan) = IsClearing w vars cleared now
+StepperUpTo w i vars cleared asked now (Dropping held plan) = IsDropping w i held plan (step_in asked) vars cleared now
+StepperUpTo w i vars cleared asked now (Dying c) = IsDying w i c asked vars cleared now
+StepperUpTo w i vars cleared asked now (Vacating slot plan) = IsVacating w i slot vars cleared now
+StepperUpTo w i vars cleared asked now Ended = HasEnded (w.thread == 0) w now
 
 -- what it works on
 pub record WorksOn (w : Work) (layout : Extent) (shape : HeapShape) (thread : ℕ) (phases : List (List Op)) (program : List Op) (vars : List (Option HeldByStepper)) : Type 0 where
@@ -242,12 +298,12 @@ pub record StandsFor (w : Work) (t : Thread) (now : List Note) : Type 0 where
   pub counts : IsCounted w t.hands t.made t.kept now
   pub number : IsNumberedIf (is_busy t.doing) w t.index now
   pub asks : Asks t.doing t.asked
-  pub up_to : StepperUpTo w t.index t.vars t.asked now t.doing
+  pub up_to : StepperUpTo w t.index t.vars t.cleared t.asked now t.doing
 
 -- What a stepper stands for once it is given a word: the notes that it stood for, with what this turn adds. The event that it
 -- tells, or none, is what the events have more.
 pub record StepperGoesOn (w : Work) (t : Thread) (last : Option ℕ) (now : List Note) : Type 0 where
   pub after : List Note
-  pub adds : Adds (extent_of w.shape) (step_in t.asked) last (turned t last).event now after
+  pub adds : Adds (extent_of w.shape) (step_in t.asked) last (turned t last).event (came_out t last) now after
   pub events : acts_of after ≡ with_event (turned t last).event (acts_of now)
   pub stands : StandsFor w (turned t last) after

@@ -2,7 +2,7 @@
 #![tactic(auto)]
 
 ghost use Rattle.arc_spelled.specs.CascadeStands.{CascadesBegin, CascadesGoOn};
-ghost use Rattle.arc_spelled.specs.Spelled.{SteppersBegin, SteppersGoOn, EndedSteppersSpell, ReadySteppersHaveDone, AddedNotesAreTied};
+ghost use Rattle.arc_spelled.specs.Spelled.{SteppersBegin, MoreIsKnown, SteppersGoOn, EndedSteppersSpell, ReadySteppersHaveDone, AddedNotesAreTied};
 
 /// A cascade stands for the notes that spell the deinit up to where it is: a new one for those behind which it begins, and after
 /// each word that it may be given for these with what the word shows. It tells an object once for each line of a deinit. Where it is
@@ -13,9 +13,11 @@ pub fn cascade_stands_for()
 {}
 
 /// A stepper stands for the notes that spell its thread's program up to where it is: a new one for none, and after each word that it
-/// may be given for these with what this turn adds. The event that it tells, or none, is what the events have more.
+/// may be given for these with what this turn adds, where what comes out of a cell is known. The event that it tells, or none, is what
+/// the events have more. It stands for the same notes where more is known of what came.
 pub fn stepper_stands_for()
     ensures begins { SteppersBegin }
+    ensures more_is_known { MoreIsKnown }
     ensures goes_on { SteppersGoOn }
 {}
 

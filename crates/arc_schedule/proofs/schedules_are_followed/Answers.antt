@@ -1,4 +1,4 @@
-use Rattle.arc_schedule.proofs.Worked.{places_come_first as places, accesses_end_first as accesses, operations_tell as events, blocks_are_run as blocks, loads_give as loads, loads_find_dead as loads-dead}
+use Rattle.arc_schedule.proofs.Worked.{places_come_first as places, accesses_end_first as accesses, operations_tell as events, blocks_are_run as blocks, loads_give as loads, loads_find_dead as loads-dead, gets_copy as gets, sets_swap as sets, ends_clear as ends}
 use Rattle.arc_schedule.proofs.schedules_are_followed.Goals as goal
 
 pub returns-clause-places : goal.returns-clause-places
@@ -18,3 +18,12 @@ returns-clause-loads c = loads
 
 pub returns-clause-loads_dead : goal.returns-clause-loads_dead
 returns-clause-loads_dead c = loads-dead
+
+pub returns-clause-gets : goal.returns-clause-gets
+returns-clause-gets c = gets
+
+pub returns-clause-sets : goal.returns-clause-sets
+returns-clause-sets c = sets
+
+pub returns-clause-end_section : goal.returns-clause-end_section
+returns-clause-end_section c = ends

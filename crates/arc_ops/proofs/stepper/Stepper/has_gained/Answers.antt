@@ -7,4 +7,4 @@ pub invariant_of-self : goal.invariant_of-self
 invariant_of-self c =
     let idle = ap (λ (t : Thread). t.doing) c.self.view_is ∙ c.requires.idle in
     let few = rw (← c.self.view_is) at c.requires.few in
-    took_one _ c.self.invariant idle few (Some c.act.result)
+    took_one _ c.self.invariant idle few.0 (Some c.act.result)

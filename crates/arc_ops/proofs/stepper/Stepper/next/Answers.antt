@@ -1,5 +1,5 @@
 use Rattle.std.proofs.Common.{false, None, ap, sym, ◌∙◌}
-use Rattle.arc_cells.specs.Cascades.{CascadeState}
+use Rattle.arc_cells.specs.BareCascades.{CascadeState}
 use Rattle.arc_ops.specs.Thread.{Thread}
 use Rattle.arc_ops.proofs.Moves.{making_goes_on, same_heap, gain_answers}
 use Rattle.arc_ops.proofs.stepper.Stepper.next.Goals as goal
@@ -20,7 +20,7 @@ make_on-requires-clause-goes_on c =
     let under_way = rw (sym c.replace-doing.ensures.value ∙ c.in-Making.is) at c.self.invariant.under_way in
     let in_operation = rw (sym c.replace-doing.ensures.value ∙ c.in-Making.is) at c.self.invariant.in_operation in
     let i = c.self.inside in
-    let idle : Thread = record { layout = i.layout; shape = i.shape.now; thread = i.thread; phases = i.phases.now; program = i.program; vars = i.vars.items; phase = i.phase; index = i.index; doing = c.replace-doing.new.dest; asked = i.asked; first = false; hands = i.hands; made = i.made; event = None; kept = i.lines } in
+    let idle : Thread = record { layout = i.layout; shape = i.shape.now; thread = i.thread; phases = i.phases.now; program = i.program; vars = i.vars.items; phase = i.phase; index = i.index; doing = c.replace-doing.new.dest; asked = i.asked; first = false; hands = i.hands; made = i.made; cleared = i.cleared; event = None; kept = i.lines } in
     rw (c.next-next.ensures.turned, c.next-next.ensures.answer)
     (making_goes_on idle c.in-Making.name c.in-Making.plan c.args.last under_way.2 under_way.3 under_way.1 in_operation.1)
 
@@ -28,4 +28,4 @@ pub gain_on-requires-clause-answer : goal.gain_on-requires-clause-answer
 gain_on-requires-clause-answer c =
     let takes = rw (← c.self.view_is) at c.requires.takes in
     let here = rw (sym c.replace-doing.ensures.value ∙ c.in-Gaining.is) at takes in
-    rw c.next-next-in-Gaining.ensures.answer (gain_answers c.in-Gaining.gain c.in-Gaining.plan c.args.last here)
+    gain_answers c.in-Gaining.gain c.in-Gaining.plan c.args.last here

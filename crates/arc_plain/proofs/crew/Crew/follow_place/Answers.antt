@@ -24,12 +24,12 @@ make_step-requires-clause-there c = rw c.pass_place.ensures (place_fits c.args.s
 pub make_step-requires-clause-place : goal.make_step-requires-clause-place
 make_step-requires-clause-place c =
     let at : c.asks.result ≡ (thread_at c.args.thread c.args.self.now).asked = c.asks.ensures.asked ∙ ap (λ (x : Progress). (thread_at c.args.thread x).asked) c.pass_place.ensures in
-    rw c.pass_place.ensures (may_make c.args.self.now c.args.thread c.in-Step.step c.in-Step.intent c.requires.in_phases.under_way (place_fits c.args.self.now c.args.thread c.requires.in_phases.under_way c.requires.next).1 (sym at ∙ c.in-Step.is)).place
+    rw c.pass_place.ensures (may_make 0 c.args.self.now c.args.thread c.in-Step.step c.in-Step.intent c.requires.in_phases.under_way (place_fits c.args.self.now c.args.thread c.requires.in_phases.under_way c.requires.next).1 (sym at ∙ c.in-Step.is)).place
 
 pub make_step-requires-clause-takes : goal.make_step-requires-clause-takes
 make_step-requires-clause-takes c =
     let at : c.asks.result ≡ (thread_at c.args.thread c.args.self.now).asked = c.asks.ensures.asked ∙ ap (λ (x : Progress). (thread_at c.args.thread x).asked) c.pass_place.ensures in
-    rw c.pass_place.ensures (may_make c.args.self.now c.args.thread c.in-Step.step c.in-Step.intent c.requires.in_phases.under_way (place_fits c.args.self.now c.args.thread c.requires.in_phases.under_way c.requires.next).1 (sym at ∙ c.in-Step.is)).takes_it
+    rw c.pass_place.ensures (may_make 0 c.args.self.now c.args.thread c.in-Step.step c.in-Step.intent c.requires.in_phases.under_way (place_fits c.args.self.now c.args.thread c.requires.in_phases.under_way c.requires.next).1 (sym at ∙ c.in-Step.is)).takes_it
 
 pub returns-in-Step : goal.returns-in-Step
 returns-in-Step c =

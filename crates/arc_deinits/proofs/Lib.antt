@@ -1,0 +1,3 @@
+pub mod Cascades
+pub mod Drops
+pub mod Ends

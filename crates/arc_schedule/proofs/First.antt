@@ -1,0 +1,359 @@
+-- Thread 0: it clears the globals, and drops what each had.
+use Rattle.std.proofs.Common.{◌≡◌, ℕ, zero, suc, ◌+◌, ◌-◌, ◌<◌, ◌≤◌, Bool, true, false, cond, eqb, ltb, List, [], ◌∷◌, length, drop, Option, Some, None, refl, sym, ap, subst, ◌∙◌, arith}
+use Rattle.std.proofs.lemmas.Bool.{ltb-true, ltb-false, eqb-false}
+use Rattle.std.proofs.lemmas.List.Elements.{All-get_or}
+use Rattle.std.specs.Prelude.{All, ◌≢◌, ◌&&◌, take, position}
+use Rattle.arc_model.specs.declared.event.Act.{Act}
+use Rattle.arc_model.specs.declared.shape.Kind.{Kind}
+use Rattle.arc_model.specs.declared.shape.Kind.TheVariants.{Strong}
+use Rattle.arc_model.specs.declared.shape.RefShape.{RefShape}
+use Rattle.arc_model.specs.Shapes.{HeapShape}
+use Rattle.arc_rule.specs.Extents.{Extent}
+use Rattle.arc_rule.specs.Places.{extent_of}
+use Rattle.arc_rule.specs.declared.plan.Next.{Next}
+use Rattle.arc_rule.specs.declared.plan.Next.TheVariants as nexts
+use Rattle.arc_rule.specs.declared.step.Step.{Step}
+use Rattle.arc_side.specs.Downs.{down_turned, down_answer}
+use Rattle.arc_side.specs.Inline.{IsCountedInline}
+use Rattle.arc_plan.specs.Slots.{one_turned, vacate_answer}
+use Rattle.arc_cells.specs.declared.swap.SwapAnswer.{SwapAnswer}
+use Rattle.arc_cells.specs.declared.swap.SwapAnswer.TheVariants as swaps
+use Rattle.arc_cells.specs.Swaps.{SwapAttempt, swap_turned, swap_answer}
+use Rattle.arc_cells.specs.Cascades.{HasNoFields}
+use Rattle.arc_cells.specs.declared.bare.At.{At as CascadeAt}
+use Rattle.arc_cells.specs.declared.bare.At.TheVariants as at
+use Rattle.arc_script.specs.declared.script.Op.{Op}
+use Rattle.arc_ops.specs.declared.stepper.Held.{Held}
+use Rattle.arc_ops.specs.declared.stepper.Doing.{Doing}
+use Rattle.arc_ops.specs.declared.stepper.Doing.TheVariants.{Ready, Making, Gaining, Naming, Opening, Closing, Setting, Clearing, Dropping, Dying, Vacating, Ended}
+use Rattle.arc_ops.specs.declared.stepper.Move.{Move}
+use Rattle.arc_ops.specs.declared.stepper.Move.TheVariants as moves
+use Rattle.arc_replays.specs.Stages.{is_phase_end, awaits_phase}
+use Rattle.arc_ops.specs.Thread.{Thread, is_held}
+use Rattle.arc_ops.specs.Cells.{swapped, swap_from, clear_begun, next_global}
+use Rattle.arc_ops.specs.Sets.{cleared, cleared_on}
+use Rattle.arc_ops.specs.Plans.{drop_from}
+use Rattle.arc_ops.specs.Begins.{phase_end, scope_at, scope_begun, phase_over, begun_at, begun, next_op}
+use Rattle.arc_ops.specs.Drops.{dropped_on, vacated_on}
+use Rattle.arc_ops.specs.Steppers.{SwappingGoesOn}
+use Rattle.arc_ops.proofs.Moves.{swapping_goes_on}
+use Rattle.arc_ops.specs.Takes.{IsCellAt, takes_at, takes}
+use Rattle.arc_ops.specs.Turns.{turned_at, turned}
+use Rattle.arc_schedule.specs.Made.{Made, made_at}
+use Rattle.arc_schedule.specs.Plans.{Plan, Starts, Gives, down, swap, swap_anew, swap_told, told_by}
+use Rattle.arc_schedule.specs.Plans.Starts.{first as starts_first}
+use Rattle.arc_schedule.specs.Operations.{Drops, global_kind, taken}
+use Rattle.arc_schedule.specs.Operations.Drops.{nothing as drops_nothing}
+use Rattle.arc_schedule.specs.Threads.{end_point, GlobalsCleared}
+use Rattle.arc_schedule.specs.Threads.GlobalsCleared.{none as globals_none, one as globals_one}
+use Rattle.arc_schedule.proofs.Lists.{equal}
+use Rattle.arc_schedule.proofs.Stands.{Gave, waits, begun-from, given, gives, starts-again, ref, step_in, CascadeUpTo, IsClearing, FirstUpTo, StandsFirst}
+use Rattle.arc_schedule.proofs.Tells.{idle, clears-tells, drops-tells, ends-tells}
+use Rattle.arc_schedule.proofs.Lasts.{Lasts, drops, slot-ends, dies-on}
+
+-- the thread is in the heap of the script, and has neither phases nor variables
+pub record IsThreadZero (shape : HeapShape) (t : Thread) : Type 0 where
+  pub layout_is : t.layout ≡ extent_of shape
+  pub shape_is : t.shape ≡ shape
+  pub thread_is : t.thread ≡ 0
+  pub phases_is : t.phases ≡ []
+  pub program_is : t.program ≡ []
+  pub vars_is : t.vars ≡ []
+
+pub is-zero : (shape : HeapShape) (t : Thread) (now : List Made) → StandsFirst shape t now → IsThreadZero shape t
+is-zero shape t now st = record { layout_is = st.layout_is; shape_is = st.shape_is; thread_is = st.thread_is; phases_is = st.phases_is; program_is = st.program_is; vars_is = st.vars_is }
+
+-- the next global is cleared
+clear-asks : (shape : HeapShape) (t : Thread) (now begin : List Made) → IsThreadZero shape t → GlobalsCleared shape t.cleared t.hands begin → t.cleared < length shape.globals →
+    Starts (swap (extent_of shape) t.cleared 0 None (t.hands + 1)) end_point begin now → StandsFirst shape (clear_begun t) now
+clear-asks shape t now begin z so_far there starts =
+    let plan : Plan SwapAttempt SwapAnswer = swap (extent_of shape) t.cleared 0 None (t.hands + 1) in
+    let same : plan.start ≡ swap_from (next_global t).name None t = rw z.layout_is refl in
+    record {
+      layout_is = z.layout_is;
+      shape_is = z.shape_is;
+      thread_is = z.thread_is;
+      phases_is = z.phases_is;
+      program_is = z.program_is;
+      vars_is = z.vars_is;
+      up_to = record { base = begin; so_far = so_far; there = there; waits = waits plan end_point begin now _ _ (begun-from plan end_point begin now (swap_from (next_global t).name None t) starts same); word = tt };
+    }
+
+not-below : (n : ℕ) → ltb n 0 ≡ false
+not-below n = go (ltb n 0) refl
+  where
+    go : (b : Bool) → ltb n 0 ≡ b → ltb n 0 ≡ false
+    go true e = let below = ltb-true n 0 e in absurd (omega arith)
+    go false e = e
+
+-- what was under way is over: the next global is cleared, or the thread has ended
+clears-on : (shape : HeapShape) (t : Thread) (now : List Made) → IsThreadZero shape t → GlobalsCleared shape t.cleared t.hands now → StandsFirst shape (phase_over t) now
+clears-on shape t now z so_far =
+    subst (λ (ps : List (List Op)). StandsFirst shape (cond (ltb (t.phase + 1) (length ps)) (record t { doing = Ready; asked = moves.PhaseEnd; phase = t.phase + 1 }) (scope_begun t)) now) (sym z.phases_is)
+    (subst (λ (b : Bool). StandsFirst shape (cond b (record t { doing = Ready; asked = moves.PhaseEnd; phase = t.phase + 1 }) (scope_begun t)) now) (sym (not-below (t.phase + 1)))
+    (subst (λ (vs : List (Option Held)). StandsFirst shape (scope_at (position is_held vs) t) now) (sym z.vars_is)
+    (subst (λ (b : Bool). StandsFirst shape (cond (b && ltb t.cleared t.layout.globals) (clear_begun t) (record t { doing = Ended; asked = moves.Ended })) now) (sym (equal t.thread 0 z.thread_is))
+    (go (ltb t.cleared t.layout.globals) refl))))
+  where
+    many : t.layout.globals ≡ length shape.globals
+    many = ap (λ (l : Extent). l.globals) z.layout_is
+
+    go : (b : Bool) → ltb t.cleared t.layout.globals ≡ b → StandsFirst shape (cond b (clear_begun t) (record t { doing = Ended; asked = moves.Ended })) now
+    go true e = clear-asks shape t now now z so_far (let below = ltb-true t.cleared t.layout.globals e in let m = many in omega arith) starts_first
+    go false e = record {
+      layout_is = z.layout_is;
+      shape_is = z.shape_is;
+      thread_is = z.thread_is;
+      phases_is = z.phases_is;
+      program_is = z.program_is;
+      vars_is = z.vars_is;
+      up_to = (refl, let past = ltb-false t.cleared t.layout.globals e in let m = many in omega arith, so_far);
+    }
+
+no-ops : (n m : ℕ) (program : List Op) → program ≡ [] → drop n (take m program) ≡ []
+no-ops n m (o ∷ program) none = absurd (cc)
+no-ops zero zero [] none = refl
+no-ops zero (suc m) [] none = refl
+no-ops (suc n) zero [] none = refl
+no-ops (suc n) (suc m) [] none = refl
+
+begins-on : (shape : HeapShape) (t : Thread) (now : List Made) → IsThreadZero shape t → GlobalsCleared shape t.cleared t.hands now → StandsFirst shape (begun t) now
+begins-on shape t now z so_far =
+    subst (λ (ops : List Op). StandsFirst shape (begun_at t.index ops t) now) (sym (no-ops t.index (phase_end t) t.program z.program_is)) (clears-on shape t now z so_far)
+
+next-on : (shape : HeapShape) (t : Thread) (now : List Made) → IsThreadZero shape t → GlobalsCleared shape t.cleared t.hands now → StandsFirst shape (next_op t) now
+next-on shape t now z so_far =
+    begins-on shape (record t { doing = Ended; index = cond (ltb t.index (length t.program)) (t.index + 1) t.index }) now
+    (record { layout_is = z.layout_is; shape_is = z.shape_is; thread_is = z.thread_is; phases_is = z.phases_is; program_is = z.program_is; vars_is = z.vars_is }) so_far
+
+-- what is dropped behind a global that was cleared
+lasts : (shape : HeapShape) (t : Thread) → IsThreadZero shape t → Lasts shape end_point (GlobalsCleared shape t.cleared t.hands) t (StandsFirst shape)
+lasts shape t z = record {
+  layout_is = z.layout_is;
+  shape_is = z.shape_is;
+  drops = λ held plan asked event now u newest. record { layout_is = z.layout_is; shape_is = z.shape_is; thread_is = z.thread_is; phases_is = z.phases_is; program_is = z.program_is; vars_is = z.vars_is; up_to = u };
+  dies = λ c asked event kept now u newest. record { layout_is = z.layout_is; shape_is = z.shape_is; thread_is = z.thread_is; phases_is = z.phases_is; program_is = z.program_is; vars_is = z.vars_is; up_to = u };
+  ends = λ slot plan asked event now u newest. record { layout_is = z.layout_is; shape_is = z.shape_is; thread_is = z.thread_is; phases_is = z.phases_is; program_is = z.program_is; vars_is = z.vars_is; up_to = u };
+  over = λ event now newest so_far. next-on shape (record (idle t) { event = event }) now
+      (record { layout_is = z.layout_is; shape_is = z.shape_is; thread_is = z.thread_is; phases_is = z.phases_is; program_is = z.program_is; vars_is = z.vars_is }) so_far;
+}
+
+-- a global is cleared by one exchange
+clears : (shape : HeapShape) → All (λ (r : RefShape). IsCountedInline r.kind) shape.globals → (t : Thread) (s : Step) (w : ℕ) (now : List Made) → IsThreadZero shape t →
+    (plan : SwapAttempt) → IsClearing shape t.cleared t.hands plan (Some s) now → IsCellAt shape.slots plan.at w →
+    StandsFirst shape (cleared_on (swap_turned plan (Some w)) (swap_answer plan (Some w)) (idle t)) (made_at end_point s w (told_by (swap_told t.cleared None (t.hands + 1)) (swap_answer plan (Some w))) ∷ now)
+clears shape globals t s w now z plan u fits =
+    go (swap_answer plan (Some w)) (swapping_goes_on shape.slots plan (Some w) u.word fits) (given clearing end_point u.base now plan s w u.waits)
+  where
+    clearing : Plan SwapAttempt SwapAnswer
+    clearing = swap (extent_of shape) t.cleared 0 None (t.hands + 1)
+
+    after : List Made
+    after = made_at end_point s w (told_by (swap_told t.cleared None (t.hands + 1)) (swap_answer plan (Some w))) ∷ now
+
+    kind : Kind
+    kind = (next_global t).kind
+
+    kind-is : (next_global t).kind ≡ global_kind shape t.cleared
+    kind-is = rw z.shape_is refl
+
+    again : (a : SwapAnswer) → swap_anew a ≡ true → Gave clearing end_point u.base after (nexts.Done a) (swap_turned plan (Some w)) → StandsFirst shape (clear_begun (idle t)) after
+    again a anew g =
+        clear-asks shape (idle t) after u.base (record { layout_is = z.layout_is; shape_is = z.shape_is; thread_is = z.thread_is; phases_is = z.phases_is; program_is = z.program_is; vars_is = z.vars_is }) u.so_far u.there
+        (starts-again clearing end_point u.base after _ a anew g)
+
+    took : (x : ℕ) → x ≢ 1 → x < shape.slots + 2 → Gives clearing end_point u.base (swaps.Took x) after → (b : Bool) → eqb x 0 ≡ b →
+        StandsFirst shape (cleared (next_global t) (cond b None (Some (record { hand = t.hands + 1; kind = (next_global t).kind; place = x - 2 }))) (idle t)) after
+    took x free below g true e =
+        let all : GlobalsCleared shape (t.cleared + 1) (cond (eqb x 0) t.hands (t.hands + 1)) after = globals_one u.so_far u.there g (rw e drops_nothing) in
+        next-on shape (swapped (next_global t).name None None (record (idle t) { cleared = t.cleared + 1 })) after
+        (record { layout_is = z.layout_is; shape_is = z.shape_is; thread_is = z.thread_is; phases_is = z.phases_is; program_is = z.program_is; vars_is = z.vars_is })
+        (subst (λ (b : Bool). GlobalsCleared shape (t.cleared + 1) (cond b t.hands (t.hands + 1)) after) e all)
+    took x free below g false e =
+        let some : x ≢ 0 = eqb-false x 0 e in
+        let old : Held = record { hand = t.hands + 1; kind = (next_global t).kind; place = x - 2 } in
+        let counted : IsCountedInline (next_global t).kind =
+        subst IsCountedInline (sym kind-is) (All-get_or (λ (r : RefShape). IsCountedInline r.kind) shape.globals t.cleared (record { kind = Strong; class = 0 }) u.there globals) in
+        let falling : Plan _ _ = down (extent_of shape) (next_global t).kind (x - 2) (t.hands + 1) in
+        let v : Thread = swapped (next_global t).name None (Some old) (record (idle t) { cleared = t.cleared + 1 }) in
+        let same : falling.start ≡ drop_from old v = rw z.layout_is refl in
+        record {
+          layout_is = z.layout_is;
+          shape_is = z.shape_is;
+          thread_is = z.thread_is;
+          phases_is = z.phases_is;
+          program_is = z.program_is;
+          vars_is = z.vars_is;
+          up_to = record {
+            base = after;
+            ends = λ end y. (
+                let dropped : Drops shape end_point (taken (t.hands + 1) (global_kind shape t.cleared) x) after end =
+                rw e (subst (λ (c : Kind). Drops shape end_point (ref (Some (record { hand = t.hands + 1; kind = c; place = x - 2 }))) after end) kind-is y) in
+                subst (λ (b : Bool). GlobalsCleared shape (t.cleared + 1) (cond b t.hands (t.hands + 1)) end) e (globals_one u.so_far u.there g dropped));
+            waits = waits falling end_point after after _ _ (begun-from falling end_point after after (drop_from old v) starts_first same);
+            inside = record { place = above x free some below; kind = counted };
+            bare = refl;
+          };
+        }
+      where
+        above : (x : ℕ) → x ≢ 1 → x ≢ 0 → x < shape.slots + 2 → x - 2 < shape.slots
+        above zero free some below = absurd (some refl)
+        above (suc zero) free some below = absurd (free refl)
+        above (suc (suc x)) free some below = omega arith
+
+    go : (a : Next SwapAnswer) → SwappingGoesOn shape.slots (swap_turned plan (Some w)).at a → Gave clearing end_point u.base after a (swap_turned plan (Some w)) →
+        StandsFirst shape (cleared_on (swap_turned plan (Some w)) a (idle t)) after
+    go (nexts.Step s) on g = record {
+      layout_is = z.layout_is;
+      shape_is = z.shape_is;
+      thread_is = z.thread_is;
+      phases_is = z.phases_is;
+      program_is = z.program_is;
+      vars_is = z.vars_is;
+      up_to = record { base = u.base; so_far = u.so_far; there = u.there; waits = waits clearing end_point u.base after _ s g; word = on };
+    }
+    go (nexts.Done (swaps.Took x)) on g = took x on.0 on.1 (gives clearing end_point u.base after _ (swaps.Took x) refl g) (eqb x 0) refl
+    go (nexts.Done swaps.Busy) on g = again swaps.Busy refl g
+    go (nexts.Done (swaps.Again c)) on g = again (swaps.Again c) refl g
+
+-- Each word that thread 0 is given is that of a step of the end section, with the event that it tells.
+pub keeps-first : (shape : HeapShape) → HasNoFields shape → All (λ (r : RefShape). IsCountedInline r.kind) shape.globals → (t : Thread) (s : Step) (w : ℕ) (now : List Made) → StandsFirst shape t now → step_in t.asked ≡ Some s → takes t (Some w) →
+    StandsFirst shape (turned t (Some w)) (made_at end_point s w (turned t (Some w)).event ∷ now)
+keeps-first shape bare globals t s w now st asked takes = go t.doing st.up_to takes
+  where
+    z : IsThreadZero shape t
+    z = is-zero shape t now st
+
+    Left : Thread → Option Act → Type 0
+    Left t e = StandsFirst shape t (made_at end_point s w e ∷ now)
+
+    slots-are : t.shape.slots ≡ shape.slots
+    slots-are = ap (λ (h : HeapShape). h.slots) st.shape_is
+
+    go : (d : Doing) → FirstUpTo shape t.cleared t.hands t.asked now d → takes_at t.shape (Some w) d → Left (turned_at (Some w) d (idle t)) (turned_at (Some w) d (idle t)).event
+    go Ready u takes = absurd (cc)
+    go (Making to name plan) u takes = absurd u
+    go (Gaining gain to from plan) u takes = absurd u
+    go (Naming to held plan) u takes = absurd u
+    go (Opening to cell plan) u takes = absurd u
+    go (Closing to cell held plan) u takes = absurd u
+    go (Setting from cell plan) u takes = absurd u
+    go (Clearing plan) u takes =
+        subst (λ (e : Option Act). Left (cleared_on (swap_turned plan (Some w)) (swap_answer plan (Some w)) (idle t)) e)
+        (sym (clears-tells t (swap_turned plan (Some w)) (swap_answer plan (Some w))))
+        (clears shape globals t s w now z plan (rw asked at u) (subst (λ (m : ℕ). IsCellAt m plan.at w) slots-are takes.1))
+    go (Dropping held plan) u takes =
+        subst (λ (e : Option Act). Left (dropped_on held (down_turned plan (Some w)) (down_answer plan (Some w)) (idle t)) e)
+        (sym (drops-tells t held (down_turned plan (Some w)) (down_answer plan (Some w))))
+        (drops shape end_point (GlobalsCleared shape t.cleared t.hands) t (StandsFirst shape) (lasts shape t z) s w now held plan (rw asked at u) takes.1)
+    go (Vacating slot plan) u takes =
+        subst (λ (e : Option Act). Left (vacated_on slot (one_turned plan (Some w)) (vacate_answer plan (Some w)) (idle t)) e)
+        (sym (ends-tells t slot (one_turned plan (Some w)) (vacate_answer plan (Some w))))
+        (slot-ends shape end_point (GlobalsCleared shape t.cleared t.hands) t (StandsFirst shape) (lasts shape t z) s w now slot plan (rw asked at u))
+    go (Dying c) u takes = dies-on shape end_point (GlobalsCleared shape t.cleared t.hands) t (StandsFirst shape) (lasts shape t z) s w now bare c (rw asked at u) takes
+    go Ended u takes = absurd takes
+
+-- It begins without a step.
+pub begins-first : (shape : HeapShape) (t : Thread) (now : List Made) → StandsFirst shape t now → takes t None → t.asked ≡ moves.PhaseEnd → StandsFirst shape (turned t None) now
+begins-first shape t now st takes asked = go t.doing st.up_to takes
+  where
+    none : step_in t.asked ≡ None
+    none = ap step_in asked
+
+    go : (d : Doing) → FirstUpTo shape t.cleared t.hands t.asked now d → takes_at t.shape None d → StandsFirst shape (turned_at None d (idle t)) now
+    go Ready u takes =
+        begins-on shape (idle t) now (record { layout_is = st.layout_is; shape_is = st.shape_is; thread_is = st.thread_is; phases_is = st.phases_is; program_is = st.program_is; vars_is = st.vars_is }) u.2
+    go (Making to name plan) u takes = absurd u
+    go (Gaining gain to from plan) u takes = absurd u
+    go (Naming to held plan) u takes = absurd u
+    go (Opening to cell plan) u takes = absurd u
+    go (Closing to cell held plan) u takes = absurd u
+    go (Setting from cell plan) u takes = absurd u
+    go (Clearing plan) u takes = let e = u.waits.asked_is in let n = none in absurd (cc)
+    go (Dropping held plan) u takes = let e = u.waits.asked_is in let n = none in absurd (cc)
+    go (Vacating slot plan) u takes = let e = u.waits.asked_is in let n = none in absurd (cc)
+    go (Dying c) u takes = absurd (dying c.at u.place)
+      where
+        dying : (a : CascadeAt) → CascadeUpTo shape end_point c.slot u.base now (step_in t.asked) a → ⊥
+        dying at.Start p = absurd p
+        dying at.Entering p = let e = p.1 in let n = none in absurd (cc)
+        dying at.Naming p = let e = p.1 in let n = none in absurd (cc)
+        dying (at.Named name) p = absurd p
+        dying at.Leaving p = let e = p.1 in let n = none in absurd (cc)
+        dying (at.Finishing q) p = let e = p.waits.asked_is in let n = none in absurd (cc)
+        dying (at.Vacating q) p = let e = p.waits.asked_is in let n = none in absurd (cc)
+        dying at.Ended p = absurd p
+    go Ended u takes = absurd takes
+
+-- behind a step it never waits for a phase
+pub never-waits : (shape : HeapShape) (t : Thread) (m : Made) (now : List Made) → StandsFirst shape t (m ∷ now) → awaits_phase t ≡ false
+never-waits shape t m now st = go t.doing st.up_to
+  where
+    asks : (o : Option Step) (s : Step) → step_in t.asked ≡ o → o ≡ Some s → awaits_phase t ≡ false
+    asks o s e f = is t.asked (e ∙ f)
+      where
+        is : (x : Move) → step_in x ≡ Some s → is_phase_end x ≡ false
+        is (moves.Step step intent) g = refl
+        is moves.PhaseEnd g = absurd (cc)
+        is moves.Ended g = refl
+
+    go : (d : Doing) → FirstUpTo shape t.cleared t.hands t.asked (m ∷ now) d → awaits_phase t ≡ false
+    go Ready u = let e = u.1 in absurd (cc)
+    go (Making to name plan) u = absurd u
+    go (Gaining gain to from plan) u = absurd u
+    go (Naming to held plan) u = absurd u
+    go (Opening to cell plan) u = absurd u
+    go (Closing to cell held plan) u = absurd u
+    go (Setting from cell plan) u = absurd u
+    go (Clearing plan) u = asks (step_in t.asked) u.waits.step refl u.waits.asked_is
+    go (Dropping held plan) u = asks (step_in t.asked) u.waits.step refl u.waits.asked_is
+    go (Vacating slot plan) u = asks (step_in t.asked) u.waits.step refl u.waits.asked_is
+    go (Dying c) u = dying c.at u.place
+      where
+        dying : (a : CascadeAt) → CascadeUpTo shape end_point c.slot u.base (m ∷ now) (step_in t.asked) a → awaits_phase t ≡ false
+        dying at.Start p = absurd p
+        dying at.Entering p = asks (step_in t.asked) _ refl p.1
+        dying at.Naming p = asks (step_in t.asked) _ refl p.1
+        dying (at.Named name) p = absurd p
+        dying at.Leaving p = asks (step_in t.asked) _ refl p.1
+        dying (at.Finishing q) p = asks (step_in t.asked) p.waits.step refl p.waits.asked_is
+        dying (at.Vacating q) p = asks (step_in t.asked) p.waits.step refl p.waits.asked_is
+        dying at.Ended p = absurd p
+    go Ended u = rw u.0 refl
+
+few-cleared : (shape : HeapShape) {done hands : ℕ} {now : List Made} → GlobalsCleared shape done hands now → done ≤ length shape.globals
+few-cleared shape globals_none = omega arith
+few-cleared shape (globals_one so_far there g d) = omega arith
+
+-- where it has ended, all globals are cleared
+pub all-cleared : (shape : HeapShape) (t : Thread) (now : List Made) → StandsFirst shape t now → t.asked ≡ moves.Ended → (hands : ℕ) × GlobalsCleared shape (length shape.globals) hands now
+all-cleared shape t now st ended = go t.doing st.up_to
+  where
+    none : step_in t.asked ≡ None
+    none = ap step_in ended
+
+    go : (d : Doing) → FirstUpTo shape t.cleared t.hands t.asked now d → (hands : ℕ) × GlobalsCleared shape (length shape.globals) hands now
+    go Ready u = let e = u.0 in absurd (cc)
+    go (Making to name plan) u = absurd u
+    go (Gaining gain to from plan) u = absurd u
+    go (Naming to held plan) u = absurd u
+    go (Opening to cell plan) u = absurd u
+    go (Closing to cell held plan) u = absurd u
+    go (Setting from cell plan) u = absurd u
+    go (Clearing plan) u = let e = u.waits.asked_is in let n = none in absurd (cc)
+    go (Dropping held plan) u = let e = u.waits.asked_is in let n = none in absurd (cc)
+    go (Vacating slot plan) u = let e = u.waits.asked_is in let n = none in absurd (cc)
+    go (Dying c) u = absurd (dying c.at u.place)
+      where
+        dying : (a : CascadeAt) → CascadeUpTo shape end_point c.slot u.base now (step_in t.asked) a → ⊥
+        dying at.Start p = absurd p
+        dying at.Entering p = let e = p.1 in let n = none in absurd (cc)
+        dying at.Naming p = let e = p.1 in let n = none in absurd (cc)
+        dying (at.Named name) p = absurd p
+        dying at.Leaving p = let e = p.1 in let n = none in absurd (cc)
+        dying (at.Finishing q) p = let e = p.waits.asked_is in let n = none in absurd (cc)
+        dying (at.Vacating q) p = let e = p.waits.asked_is in let n = none in absurd (cc)
+        dying at.Ended p = absurd p
+    go Ended u =
+        let same : t.cleared ≡ length shape.globals = (let few = few-cleared shape u.2 in let most : length shape.globals ≤ t.cleared = u.1 in omega arith) in
+        (t.hands, subst (λ (n : ℕ). GlobalsCleared shape n t.hands now) same u.2)
