@@ -8,7 +8,7 @@ use Rattle.arc_script.specs.declared.script.Script.{Script}
 use Rattle.arc_script.specs.Grammar.{script_of}
 use Rattle.arc_script.specs.Canonical.{canonical}
 use Rattle.arc_storm.specs.Storm.{storm_script}
-use Rattle.arc_ops.specs.Served.{IsServed}
+use Rattle.arc_served.specs.Served.{IsServed}
 use Rattle.arc_plain.specs.declared.replay.Replay.{Replay}
 use Rattle.arc_plain.specs.Replays.{IsReplay}
 use Rattle.arc_report.specs.Report.{report}

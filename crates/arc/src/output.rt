@@ -6,7 +6,7 @@ ghost use Rattle.arc_io.specs.Moved.{TookAtMost};
 ghost use Rattle.arc_script.specs.Valid.{IsScript};
 ghost use Rattle.arc_script.specs.Canonical.{canonical};
 ghost use Rattle.arc_storm.specs.Storm.{storm_script};
-ghost use Rattle.arc_ops.specs.Served.{IsServed};
+ghost use Rattle.arc_served.specs.Served.{IsServed};
 ghost use Rattle.arc_command.specs.Commands.{CountFits, reads, limit_of};
 ghost use Rattle.arc.specs.Outputs.{TellsReplay, TellsOf, illegal_number, legal_text, illegal_text, TellsVerdict, IsOutput, RefusesText, IsCause};
 
@@ -14,12 +14,12 @@ use arc_check::{CheckFault, Verdict, check};
 use arc_command::Command;
 use arc_io::{InFault, Source, read_all};
 use arc_model::{Illegal, Memory};
-use arc_ops::is_served;
 use arc_plain::replay_all;
 use arc_report::{history_text, report_text};
 use arc_script::{ReadFault, Script};
 use arc_script_reader::read_script;
 use arc_script_text::write_script;
+use arc_served::is_served;
 use arc_storm::storm;
 use std::alloc::{AllocError, Global};
 

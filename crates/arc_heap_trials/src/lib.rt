@@ -2,7 +2,17 @@
 #![tactic(auto)]
 
 #[cfg(test)]
+mod again;
+#[cfg(test)]
+mod dying;
+#[cfg(test)]
 mod forever;
+#[cfg(test)]
+mod making;
+#[cfg(test)]
+mod migrating;
+#[cfg(test)]
+mod referring;
 #[cfg(test)]
 mod tests;
 #[cfg(test)]

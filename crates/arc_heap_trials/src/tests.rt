@@ -3,8 +3,13 @@
 ghost use Rattle.std.specs.Prelude.{◌≡◌, true};
 ghost use Rattle.arc_heap_judge.specs.Stands.{IsCellInRange, IsOriginInRange, IsInRange, thread_count};
 
+use crate::again::AGAIN;
+use crate::dying::DYING;
 use crate::forever::FOREVER;
-use crate::trials::{TRIALS, Trial};
+use crate::making::MAKING;
+use crate::migrating::MIGRATING;
+use crate::referring::REFERRING;
+use crate::trials::Trial;
 use arc_heap::{ModelHeap, Refusal};
 use arc_model::{
     Act, Caps, CellName, ClassShape, Event, Illegal, Kind, Life, Memory, ObjectId, Origin,
@@ -79,6 +84,8 @@ fn answers(heap: &mut ModelHeap, shape: &Shape, trial: Trial) -> bool
 fn first_wrong(heap: &mut ModelHeap, shape: &Shape, trials: &[Trial]) -> Option<usize>
     requires threads { thread_count heap.old ≡ 3 }
     requires shape { heap.old.shape ≡ shape.now }
+    ensures threads { thread_count heap.new ≡ 3 }
+    ensures shape { heap.new.shape ≡ shape.now }
 {
     for (number, trial) in trials.iter().enumerate() {
         if !answers(heap, shape, *trial) {
@@ -119,13 +126,17 @@ fn small(alloc: Global) -> Result<Shape, Memory> {
     Shape::new(2, 2, caps, classes, refs(alloc, 0)?).map_err(|_| Memory)
 }
 
-/// Each trial has the answer that the needs of its act give it.
+/// Each trial has the answer that the needs of its act give it, the stages one after the other on one heap.
 #[test]
 fn each_trial_is_answered_as_it_is_to_be(rt: HostRuntime) -> Result<(), Memory> {
     let shape = small(rt.alloc())?;
     let mut heap = ModelHeap::make(rt.alloc(), shape.copy(rt.alloc())?, 2)?;
     assert_eq!(rt; heap.objects(), 0);
-    assert_eq!(rt; first_wrong(&mut heap, &shape, TRIALS), None);
+    assert_eq!(rt; first_wrong(&mut heap, &shape, MAKING), None);
+    assert_eq!(rt; first_wrong(&mut heap, &shape, MIGRATING), None);
+    assert_eq!(rt; first_wrong(&mut heap, &shape, REFERRING), None);
+    assert_eq!(rt; first_wrong(&mut heap, &shape, DYING), None);
+    assert_eq!(rt; first_wrong(&mut heap, &shape, AGAIN), None);
     assert_eq!(rt; heap.objects(), 4);
     for (number, life, weak) in [
         (1, Some(Life::Dead), Some(0)),

@@ -8,7 +8,7 @@ use Rattle.arc_model.specs.History.{History, judge, IsLegal}
 use Rattle.arc_script.specs.declared.script.Script.{Script}
 use Rattle.arc_script.specs.Valid.{IsScript}
 use Rattle.arc_script.specs.Grammar.{Refusal}
-use Rattle.arc_ops.specs.Served.{IsServed}
+use Rattle.arc_served.specs.Served.{IsServed}
 use Rattle.arc_ops.specs.declared.told.Stamped.{Stamped}
 use Rattle.arc_plain.specs.declared.replay.Replay.{Replay}
 use Rattle.arc_replays.specs.Histories as replays

@@ -11,7 +11,7 @@ use Rattle.arc_script.specs.declared.script.Script.{Script}
 use Rattle.arc_script.specs.Valid.{IsScript}
 use Rattle.arc_view.specs.Rule.{InShape}
 use Rattle.arc_ops.specs.declared.told.Stamped.{Stamped}
-use Rattle.arc_ops.specs.Served.{IsServed}
+use Rattle.arc_served.specs.Served.{IsServed}
 use Rattle.arc_ops.specs.Thread.{Thread}
 use Rattle.arc_ops.specs.Turns.{turned}
 use Rattle.arc_replays.specs.Stages.{Stage, Reached, stamped, stepped}

@@ -3,7 +3,7 @@
 ghost use Rattle.std.specs.Prelude.{length};
 ghost use Rattle.arc_script.specs.declared.script.Script.{Script};
 ghost use Rattle.arc_script.specs.Valid.{IsScript};
-ghost use Rattle.arc_ops.specs.Served.{IsServed};
+ghost use Rattle.arc_served.specs.Served.{IsServed};
 ghost use Rattle.arc_plain.specs.declared.replay.Replay.{Replay};
 ghost use Rattle.arc_plain.specs.Replays.{IsReplay};
 ghost use Rattle.arc_report.specs.History.{history};

@@ -1,26 +1,28 @@
 -- A script that is served gives each of its threads a stepper.
-use Rattle.std.proofs.Common.{◌≡◌, ℕ, zero, suc, ◌+◌, ◌-◌, ◌≤◌, Bool, true, false, cond, eqb, List, [], ◌∷◌, length, None, refl, ap, ◌∙◌, subst, arith, zero-add}
+use Rattle.std.proofs.Common.{◌≡◌, ℕ, zero, suc, ◌+◌, ◌-◌, ◌≤◌, Bool, true, false, cond, eqb, List, [], ◌∷◌, length, map, Option, Some, None, refl, sym, ap, ◌∙◌, subst, arith, zero-add}
 use Rattle.std.proofs.lemmas.List.{length-map, length-replicate}
-use Rattle.std.specs.Prelude.{slice_get, All, sum_by, flat_map}
+use Rattle.std.specs.Prelude.{slice_get, slice_index_or, All, sum_by, flat_map}
 use Rattle.std.proofs.lemmas.List.Concat.{length-flat_map}
 use Rattle.std.proofs.lemmas.List.Sums.{sum_by-cons}
 use Rattle.std.specs.List.{AllByRecursion}
 use Rattle.std.proofs.lemmas.List.Elements.{All-from_recursion, recursion_from_All, All-replicate}
+use Rattle.arc_model.specs.Shapes.{ObjectClass, HeapShape, class_at}
+use Rattle.arc_script.specs.declared.script.FieldDecl.{FieldDecl}
 use Rattle.arc_script.specs.declared.script.ClassDecl.{ClassDecl}
 use Rattle.arc_script.specs.declared.script.VarDecl.{VarDecl}
 use Rattle.arc_script.specs.declared.script.ThreadDecl.{ThreadDecl}
 use Rattle.arc_script.specs.declared.script.Script.{Script}
 use Rattle.arc_script.specs.declared.script.Op.{Op}
 use Rattle.arc_script.specs.declared.script.Op.TheVariants as op
+use Rattle.arc_script.specs.declared.script.OpCell.{OpCell}
 use Rattle.arc_script.specs.declared.script.OpCell.TheVariants as opcell
-use Rattle.arc_script.specs.Valid.{IsScript, IsThread, IsOp, Nested, op_count, field_refs, var_refs}
+use Rattle.arc_script.specs.Valid.{IsScript, IsThread, IsCell, IsOp, Nested, op_count, field_refs, class_refs, var_refs, ref_at, fields_at, owner_fields}
 use Rattle.arc_model.specs.declared.shape.RefShape.{RefShape}
-use Rattle.arc_side.specs.Inline.{IsCountedInline}
 use Rattle.arc_script.specs.OneList.{in_one_list, moved_behind}
 use Rattle.arc_script.proofs.OneList.{all_in_one, length_in_one}
-use Rattle.arc_ops.specs.Served.{IsServed, IsServedThread, IsServedOp, IsServedVar}
-use Rattle.arc_ops.specs.Programs.{phases_in, phases_of, program_of, ops_in_first, count_of_vars, vars_of, VarsFit, ClassFits, CellFits, GoesForth, ToFits, BlocksFit}
-use Rattle.arc_ops.proofs.Blocks.{phases_forth, all_to_fit}
+use Rattle.arc_served.specs.Served.{IsServed, IsServedThread, IsServedOp, IsServedVar, IsServedRef, IsServedClass}
+use Rattle.arc_served.specs.Programs.{declared_of, phases_in, phases_of, program_of, ops_in_first, count_of_vars, vars_of, classes_in, classes_of, class_of, OwnerFits, VarsFit, ClassFits, HasCell, CellFits, GoesForth, ToFits, BlocksFit}
+use Rattle.arc_served.proofs.Blocks.{phases_forth, all_to_fit}
 use Rattle.arc_ops.specs.Thread.{stepper_of}
 use Rattle.arc_ops.specs.Steppers.{HeldFits, IsStepper}
 
@@ -47,77 +49,146 @@ program_few s thread valid =
     let few = phases_few s thread valid in
     omega (arith, long, few)
 
+-- ---- the cells that operations name
+
+-- the fields of a class, and how many there are
+refs_at : (classes : List ClassDecl) (i : ℕ) → (slice_index_or (class_refs classes) i (record { fields = []; immortal = false })).fields ≡ field_refs (fields_at classes i)
+refs_at [] i = refl
+refs_at (c ∷ classes) zero = refl
+refs_at (c ∷ classes) (suc i) = refs_at classes i
+
+length_refs : (fields : List FieldDecl) → length (field_refs fields) ≡ length fields
+length_refs [] = refl
+length_refs (f ∷ fields) = ap suc (length_refs fields)
+
+-- the class that a variable is for
+abbrev classes_for : List VarDecl → List ℕ
+classes_for vars = map (λ (v : VarDecl). v.class) vars
+
+class_is : (vars : List VarDecl) (v : ℕ) → class_of (classes_for vars) v ≡ (ref_at (var_refs vars) v).class
+class_is [] v = refl
+class_is (d ∷ vars) zero = refl
+class_is (d ∷ vars) (suc v) = class_is vars v
+
+-- a heap of these classes and globals
+record IsOf (shape : HeapShape) (classes : List ClassDecl) (globals : List VarDecl) : Type 0 where
+  few : length classes ≤ 64
+  of_classes : shape.classes ≡ class_refs classes
+  of_globals : shape.globals ≡ var_refs globals
+
+classes_there : (shape : HeapShape) (classes : List ClassDecl) (globals : List VarDecl) → IsOf shape classes globals → length shape.classes ≡ length classes
+classes_there shape classes globals f = ap length f.of_classes ∙ length-map classes (λ (c : ClassDecl). record { fields = field_refs c.fields; immortal = c.immortal })
+
+fields_there : (shape : HeapShape) (classes : List ClassDecl) (globals vars : List VarDecl) → IsOf shape classes globals → (owner : ℕ) →
+    length (class_at shape (class_of (classes_for vars) owner)).fields ≡ length (owner_fields classes vars owner)
+fields_there shape classes globals vars f owner =
+    ap (λ (i : ℕ). length (class_at shape i).fields) (class_is vars owner)
+    ∙ ap (λ (cs : List ObjectClass). length (slice_index_or cs (ref_at (var_refs vars) owner).class (record { fields = []; immortal = false })).fields) f.of_classes
+    ∙ ap length (refs_at classes (ref_at (var_refs vars) owner).class) ∙ length_refs (owner_fields classes vars owner)
+
+has_cell : (shape : HeapShape) (classes : List ClassDecl) (globals vars : List VarDecl) → IsOf shape classes globals → (c : OpCell) → IsCell classes globals vars c → HasCell shape (classes_for vars) c
+has_cell shape classes globals vars f (opcell.Global g) is =
+    let long : length shape.globals ≡ length globals = ap length f.of_globals ∙ length-map globals (λ (v : VarDecl). record { kind = v.kind; class = v.class }) in
+    omega (arith, is, long)
+has_cell shape classes globals vars f (opcell.Field owner field) is =
+    let long = fields_there shape classes globals vars f owner in
+    let within = is.2 in
+    omega (arith, within, long)
+
+owner_fits : (classes : List ClassDecl) (globals vars : List VarDecl) (c : OpCell) → IsCell classes globals vars c → OwnerFits (length vars) c
+owner_fits classes globals vars (opcell.Global g) is = tt
+owner_fits classes globals vars (opcell.Field owner field) is = is.0
+
 -- what an operation names is there
-abbrev OpFits : (vars classes globals : ℕ) → Op → Type 0
-OpFits vars classes globals o = VarsFit vars o × ClassFits classes o × CellFits globals o
+abbrev OpFits : (vars : ℕ) → HeapShape → (classes : List ℕ) → Op → Type 0
+OpFits vars shape classes o = VarsFit vars o × ClassFits (length shape.classes) o × CellFits shape classes o
 
-op_fits : (classes : List ClassDecl) (globals vars : List VarDecl) → length classes ≤ 64 → (o : Op) → IsOp classes globals vars o → IsServedOp o → OpFits (length vars) (length classes) (length globals) o
-op_fits classes globals vars few (op.New to class) h s = let k = h.1 in (h.0, (h.1, omega arith), tt)
-op_fits classes globals vars few (op.Copy to from) h s = ((h.0.to_there, h.0.of_there), tt, tt)
-op_fits classes globals vars few (op.Move to from) h s = ((h.0.to_there, h.0.of_there), tt, tt)
-op_fits classes globals vars few (op.Drop v) h s = (h, tt, tt)
-op_fits classes globals vars few (op.Unown to of) h s = ((h.to_there, h.of_there), tt, tt)
-op_fits classes globals vars few (op.Weak to of) h s = absurd s
-op_fits classes globals vars few (op.Load to of) h s = ((h.0.to_there, h.0.of_there), tt, tt)
-op_fits classes globals vars few (op.Get to (opcell.Global g)) h s = (h.0, tt, h.1)
-op_fits classes globals vars few (op.Get to (opcell.Field owner field)) h s = absurd s
-op_fits classes globals vars few (op.Set (opcell.Global g) from) h s = (h.0, tt, h.1)
-op_fits classes globals vars few (op.Set (opcell.Field owner field) from) h s = absurd s
-op_fits classes globals vars few (op.IfNil var to) h s = (h, tt, tt)
-op_fits classes globals vars few (op.IfSome var to) h s = (h, tt, tt)
+op_fits : (shape : HeapShape) (classes : List ClassDecl) (globals vars : List VarDecl) → IsOf shape classes globals → (o : Op) → IsOp classes globals vars o → IsServedOp o → OpFits (length vars) shape (classes_for vars) o
+op_fits shape classes globals vars f (op.New to class) h s =
+    let long = classes_there shape classes globals f in
+    let few = f.few in
+    let k = h.1 in
+    (h.0, (omega (arith, k, long), omega (arith, k, few)), tt)
+op_fits shape classes globals vars f (op.Copy to from) h s = ((h.0.to_there, h.0.of_there), tt, tt)
+op_fits shape classes globals vars f (op.Move to from) h s = ((h.0.to_there, h.0.of_there), tt, tt)
+op_fits shape classes globals vars f (op.Drop v) h s = (h, tt, tt)
+op_fits shape classes globals vars f (op.Unown to of) h s = ((h.to_there, h.of_there), tt, tt)
+op_fits shape classes globals vars f (op.Weak to of) h s = absurd s
+op_fits shape classes globals vars f (op.Load to of) h s = ((h.0.to_there, h.0.of_there), tt, tt)
+op_fits shape classes globals vars f (op.Get to c) h s = ((h.0, owner_fits classes globals vars c h.1), tt, has_cell shape classes globals vars f c h.1)
+op_fits shape classes globals vars f (op.Set c from) h s = ((h.0, owner_fits classes globals vars c h.1), tt, has_cell shape classes globals vars f c h.1)
+op_fits shape classes globals vars f (op.IfNil var to) h s = (h, tt, tt)
+op_fits shape classes globals vars f (op.IfSome var to) h s = (h, tt, tt)
 
-ops_fit : (classes : List ClassDecl) (globals vars : List VarDecl) → length classes ≤ 64 → (ops : List Op) → AllByRecursion (IsOp classes globals vars) ops → AllByRecursion IsServedOp ops →
-    AllByRecursion (OpFits (length vars) (length classes) (length globals)) ops
-ops_fit classes globals vars few [] h s = tt
-ops_fit classes globals vars few (o ∷ ops) h s = (op_fits classes globals vars few o h.0 s.0, ops_fit classes globals vars few ops h.1 s.1)
+ops_fit : (shape : HeapShape) (classes : List ClassDecl) (globals vars : List VarDecl) → IsOf shape classes globals → (ops : List Op) → AllByRecursion (IsOp classes globals vars) ops → AllByRecursion IsServedOp ops →
+    AllByRecursion (OpFits (length vars) shape (classes_for vars)) ops
+ops_fit shape classes globals vars f [] h s = tt
+ops_fit shape classes globals vars f (o ∷ ops) h s = (op_fits shape classes globals vars f o h.0 s.0, ops_fit shape classes globals vars f ops h.1 s.1)
 
 -- and still where they are moved behind others
-moved_fits : (vars classes globals n : ℕ) (o : Op) → OpFits vars classes globals o → OpFits vars classes globals (moved_behind n o)
-moved_fits vars classes globals n (op.New to class) f = f
-moved_fits vars classes globals n (op.Copy to from) f = f
-moved_fits vars classes globals n (op.Move to from) f = f
-moved_fits vars classes globals n (op.Drop v) f = f
-moved_fits vars classes globals n (op.Unown to of) f = f
-moved_fits vars classes globals n (op.Weak to of) f = f
-moved_fits vars classes globals n (op.Load to of) f = f
-moved_fits vars classes globals n (op.Get to c) f = f
-moved_fits vars classes globals n (op.Set c from) f = f
-moved_fits vars classes globals n (op.IfNil v to) f = f
-moved_fits vars classes globals n (op.IfSome v to) f = f
+moved_fits : (vars : ℕ) (shape : HeapShape) (classes : List ℕ) (n : ℕ) (o : Op) → OpFits vars shape classes o → OpFits vars shape classes (moved_behind n o)
+moved_fits vars shape classes n (op.New to class) f = f
+moved_fits vars shape classes n (op.Copy to from) f = f
+moved_fits vars shape classes n (op.Move to from) f = f
+moved_fits vars shape classes n (op.Drop v) f = f
+moved_fits vars shape classes n (op.Unown to of) f = f
+moved_fits vars shape classes n (op.Weak to of) f = f
+moved_fits vars shape classes n (op.Load to of) f = f
+moved_fits vars shape classes n (op.Get to c) f = f
+moved_fits vars shape classes n (op.Set c from) f = f
+moved_fits vars shape classes n (op.IfNil v to) f = f
+moved_fits vars shape classes n (op.IfSome v to) f = f
 
-phases_fit : (classes : List ClassDecl) (globals vars : List VarDecl) → length classes ≤ 64 → (phases : List (List Op)) →
+phases_fit : (shape : HeapShape) (classes : List ClassDecl) (globals vars : List VarDecl) → IsOf shape classes globals → (phases : List (List Op)) →
     AllByRecursion (λ (ops : List Op). AllByRecursion (IsOp classes globals vars) ops) phases → AllByRecursion (All IsServedOp) phases →
-    AllByRecursion (λ (ops : List Op). AllByRecursion (OpFits (length vars) (length classes) (length globals)) ops) phases
-phases_fit classes globals vars few [] h s = tt
-phases_fit classes globals vars few (ops ∷ rest) h s =
-    (ops_fit classes globals vars few ops h.0 (recursion_from_All IsServedOp ops s.0), phases_fit classes globals vars few rest h.1 s.1)
+    AllByRecursion (λ (ops : List Op). AllByRecursion (OpFits (length vars) shape (classes_for vars)) ops) phases
+phases_fit shape classes globals vars f [] h s = tt
+phases_fit shape classes globals vars f (ops ∷ rest) h s =
+    (ops_fit shape classes globals vars f ops h.0 (recursion_from_All IsServedOp ops s.0), phases_fit shape classes globals vars f rest h.1 s.1)
 
-thread_fits : (classes : List ClassDecl) (globals : List VarDecl) → length classes ≤ 64 → (ts : List ThreadDecl) (i : ℕ) → AllByRecursion (IsThread classes globals) ts → AllByRecursion IsServedThread ts →
-    AllByRecursion (OpFits (count_of_vars (slice_get ts i)) (length classes) (length globals)) (in_one_list 0 (phases_in (slice_get ts i)))
-thread_fits classes globals few [] i h s = tt
-thread_fits classes globals few (t ∷ ts) zero h s =
-    all_in_one (OpFits (length t.vars) (length classes) (length globals)) (moved_fits (length t.vars) (length classes) (length globals)) 0 t.phases
-    (phases_fit classes globals t.vars few t.phases h.0.ops (recursion_from_All (All IsServedOp) t.phases s.0.ops))
-thread_fits classes globals few (t ∷ ts) (suc i) h s = thread_fits classes globals few ts i h.1 s.1
+thread_fits : (shape : HeapShape) (classes : List ClassDecl) (globals : List VarDecl) → IsOf shape classes globals → (ts : List ThreadDecl) (i : ℕ) → AllByRecursion (IsThread classes globals) ts → AllByRecursion IsServedThread ts →
+    AllByRecursion (OpFits (count_of_vars (slice_get ts i)) shape (classes_in (slice_get ts i))) (in_one_list 0 (phases_in (slice_get ts i)))
+thread_fits shape classes globals f [] i h s = tt
+thread_fits shape classes globals f (t ∷ ts) zero h s =
+    all_in_one (OpFits (length t.vars) shape (classes_for t.vars)) (moved_fits (length t.vars) shape (classes_for t.vars)) 0 t.phases
+    (phases_fit shape classes globals t.vars f t.phases h.0.ops (recursion_from_All (All IsServedOp) t.phases s.0.ops))
+thread_fits shape classes globals f (t ∷ ts) (suc i) h s = thread_fits shape classes globals f ts i h.1 s.1
 
-program_fits : (s : Script) (thread : ℕ) → IsScript s → IsServed s → AllByRecursion (OpFits (vars_of s thread) (length s.classes) (length s.globals)) (program_of s thread)
+is_of : (s : Script) → IsScript s → IsOf s.shape s.classes s.globals
+is_of s valid = record {
+  few = rw length-map at valid.heading.classes_named.names.few;
+  of_classes = valid.heading.of_classes;
+  of_globals = valid.heading.of_globals;
+}
+
+program_fits : (s : Script) (thread : ℕ) → IsScript s → IsServed s → AllByRecursion (OpFits (vars_of s thread) s.shape (classes_of s thread)) (program_of s thread)
 program_fits s thread valid served = go (eqb thread 0)
   where
-    go : (b : Bool) → AllByRecursion (OpFits (count_of_vars (cond b None (slice_get s.threads (thread - 1)))) (length s.classes) (length s.globals)) (in_one_list 0 (phases_in (cond b None (slice_get s.threads (thread - 1)))))
+    go : (b : Bool) → AllByRecursion (OpFits (count_of_vars (cond b None (slice_get s.threads (thread - 1)))) s.shape (classes_in (cond b None (slice_get s.threads (thread - 1))))) (in_one_list 0 (phases_in (cond b None (slice_get s.threads (thread - 1)))))
     go true = tt
-    go false =
-        thread_fits s.classes s.globals (rw length-map at valid.heading.classes_named.names.few) s.threads (thread - 1) valid.threads
-        (recursion_from_All IsServedThread s.threads served.threads)
+    go false = thread_fits s.shape s.classes s.globals (is_of s valid) s.threads (thread - 1) valid.threads (recursion_from_All IsServedThread s.threads served.threads)
+
+-- each variable is for a class
+vars_are : (s : Script) (thread : ℕ) → length (classes_of s thread) ≡ vars_of s thread
+vars_are s thread = go (declared_of s thread)
+  where
+    go : (d : Option ThreadDecl) → length (classes_in d) ≡ count_of_vars d
+    go None = refl
+    go (Some t) = length-map t.vars (λ (v : VarDecl). v.class)
 
 -- what holds of each holds of each in part
 part : (P Q : Op → Type 0) → ((o : Op) → P o → Q o) → (ops : List Op) → AllByRecursion P ops → AllByRecursion Q ops
 part P Q of [] f = tt
 part P Q of (o ∷ ops) f = (of o f.0, part P Q of ops f.1)
 
--- the kinds of the globals
-kinds_served : (vs : List VarDecl) → AllByRecursion IsServedVar vs → AllByRecursion (λ (r : RefShape). IsCountedInline r.kind) (var_refs vs)
+-- the kinds of the globals, and of the fields, of which there are none so far
+kinds_served : (vs : List VarDecl) → AllByRecursion IsServedVar vs → AllByRecursion IsServedRef (var_refs vs)
 kinds_served [] s = tt
 kinds_served (v ∷ vs) s = (s.0, kinds_served vs s.1)
+
+classes_served : (cs : List ObjectClass) → AllByRecursion (λ (c : ObjectClass). c.fields ≡ []) cs → AllByRecursion IsServedClass cs
+classes_served [] s = tt
+classes_served (c ∷ cs) s = (subst (λ (fs : List RefShape). All IsServedRef fs) (sym s.0) (All-from_recursion IsServedRef [] tt), classes_served cs s.1)
 
 -- the phases of each thread are nested
 thread_nested : (classes : List ClassDecl) (globals : List VarDecl) (ts : List ThreadDecl) (i : ℕ) → AllByRecursion (IsThread classes globals) ts → AllByRecursion (Nested 8 0) (phases_in (slice_get ts i))
@@ -142,23 +213,25 @@ to_fit s thread valid = All-from_recursion (All ToFits) (phases_of s thread) (al
 
 pub is_stepper : (s : Script) (thread : ℕ) → IsScript s → IsServed s → thread ≤ length s.threads → IsStepper (stepper_of s thread)
 is_stepper s thread valid served within =
+    let P : Op → Type 0 = OpFits (vars_of s thread) s.shape (classes_of s thread) in
     let fits = program_fits s thread valid served in
-    let length_is : length s.shape.classes ≡ length s.classes = ap length valid.heading.of_classes ∙ length-map s.classes (λ (c : ClassDecl). record { fields = field_refs c.fields; immortal = c.immortal }) in
     let globals_is : length s.shape.globals ≡ length s.globals = ap length valid.heading.of_globals ∙ length-map s.globals (λ (v : VarDecl). record { kind = v.kind; class = v.class }) in
     let few = valid.few_threads in
     let cap = served.strong_cap in
     record {
       layout = refl;
-      without_fields = served.without_fields;
+      classes = All-from_recursion IsServedClass s.shape.classes (classes_served s.shape.classes (recursion_from_All (λ (c : ObjectClass). c.fields ≡ []) s.shape.classes served.without_fields));
       slots = valid.heading.slots.1;
       strong_cap = omega arith;
       thread = omega arith;
       globals = rw globals_is (rw length-map at valid.heading.globals_named.names.few);
-      global_kinds = rw valid.heading.of_globals (All-from_recursion (λ (r : RefShape). IsCountedInline r.kind) (var_refs s.globals) (kinds_served s.globals (recursion_from_All IsServedVar s.globals served.globals)));
-      vars_fit = rw length-replicate (All-from_recursion (VarsFit (vars_of s thread)) (program_of s thread) (part (OpFits (vars_of s thread) (length s.classes) (length s.globals)) (VarsFit (vars_of s thread)) (λ o f. f.0) (program_of s thread) fits));
-      classes_fit = rw length_is (All-from_recursion (ClassFits (length s.classes)) (program_of s thread) (part (OpFits (vars_of s thread) (length s.classes) (length s.globals)) (ClassFits (length s.classes)) (λ o f. f.1) (program_of s thread) fits));
-      cells_fit = rw globals_is (All-from_recursion (CellFits (length s.globals)) (program_of s thread) (part (OpFits (vars_of s thread) (length s.classes) (length s.globals)) (CellFits (length s.globals)) (λ o f. f.2) (program_of s thread) fits));
+      global_kinds = rw valid.heading.of_globals (All-from_recursion IsServedRef (var_refs s.globals) (kinds_served s.globals (recursion_from_All IsServedVar s.globals served.globals)));
+      vars_are = vars_are s thread ∙ sym (length-replicate (vars_of s thread) None);
+      vars_fit = rw length-replicate (All-from_recursion (VarsFit (vars_of s thread)) (program_of s thread) (part P (VarsFit (vars_of s thread)) (λ o f. f.0) (program_of s thread) fits));
+      classes_fit = All-from_recursion (ClassFits (length s.shape.classes)) (program_of s thread) (part P (ClassFits (length s.shape.classes)) (λ o f. f.1) (program_of s thread) fits);
+      cells_fit = All-from_recursion (CellFits s.shape (classes_of s thread)) (program_of s thread) (part P (CellFits s.shape (classes_of s thread)) (λ o f. f.2) (program_of s thread) fits);
       cleared = omega arith;
+      taken = omega arith;
       whole = refl;
       blocks = blocks_fit s thread valid;
       few = program_few s thread valid;

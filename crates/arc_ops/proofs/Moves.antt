@@ -1,5 +1,5 @@
 -- What holds of each stepper goes on to hold.
-use Rattle.std.proofs.Common.{◌≡◌, ℕ, ◌+◌, ◌≤◌, ◌<◌, Bool, true, false, cond, ltb, List, length, set, eqb, Option, Some, None, bit_and, ◌==◌, refl, sym, ap, ◌∙◌, subst, arith}
+use Rattle.std.proofs.Common.{◌≡◌, ℕ, ◌+◌, ◌-◌, ◌≤◌, ◌<◌, Bool, true, false, cond, ltb, List, length, set, eqb, Option, Some, None, bit_and, ◌==◌, refl, sym, ap, ◌∙◌, subst, arith}
 use Rattle.std.proofs.lemmas.Bool.{ltb-true, eqb-true, eqb-false}
 use Rattle.std.proofs.lemmas.List.{length-set}
 use Rattle.std.specs.Prelude.{All, ◌≢◌}
@@ -12,9 +12,6 @@ use Rattle.arc_rule.specs.declared.plan.Next.TheVariants as nexts
 use Rattle.arc_plan.specs.declared.slots.Making.{Making as Search}
 use Rattle.arc_plan.specs.declared.slots.Making.TheVariants as search
 use Rattle.arc_plan.specs.declared.slots.NewObjectAnswer.TheVariants.{Slot, NoSlot, Again}
-use Rattle.arc_plan.specs.declared.unowned.UnownedDownAnswer.{UnownedDownAnswer}
-use Rattle.arc_plan.specs.declared.unowned.UnownedDownAnswer.TheVariants as less
-use Rattle.arc_plan.specs.Attempts.{Attempt}
 use Rattle.arc_bits.specs.declared.packing.Word.{Word}
 use Rattle.arc_bits.specs.declared.packing.Word.TheVariants as words
 use Rattle.arc_bits.specs.Words.{packed, unpacked}
@@ -40,15 +37,28 @@ use Rattle.arc_side.specs.Ups.{Rise, of_strong_up, of_unowned_up, up_in, up_plac
 use Rattle.arc_plan.proofs.Bits.{free_is_clear}
 use Rattle.arc_rule.specs.Bits.{words_of, bit_of}
 use Rattle.arc_rule.specs.Extents.{Extent}
-use Rattle.arc_rule.specs.Isa.{IsName}
-use Rattle.arc_plan.specs.Unowned.{unowned_down_turned, unowned_down_answer}
-use Rattle.arc_plan.specs.Slots.{Creation, OneStep, IsTaking, free_slot, looked, looked_answer, looking, counting, making_turned, making_answer, creation_turned, creation_answer, one_turned, vacate_answer}
-use Rattle.arc_cells.specs.declared.bare.At.{At as CascadeAt}
-use Rattle.arc_cells.specs.declared.bare.At.TheVariants as at
-use Rattle.arc_cells.specs.BareCascades.{CascadeState, cascade_turned, turned_at, finish_turned, vacated}
-use Rattle.arc_ops.specs.Kept.{Kept}
+use Rattle.arc_plan.specs.Slots.{Creation, IsTaking, free_slot, looked, looked_answer, looking, counting, making_turned, making_answer, creation_turned, creation_answer}
+use Rattle.arc_model.specs.Spelling.{field_count}
+use Rattle.arc_rule.specs.Isa.{IsName, isa_name_of}
+use Rattle.arc_rule.specs.Places.{number}
+use Rattle.arc_rule.specs.declared.layout.Place.TheVariants as places
+use Rattle.arc_rule.specs.declared.step.Step.TheVariants.{Load, Store}
+use Rattle.arc_side.specs.Downs.{Fall, down_turned, down_answer}
+use Rattle.arc_side.specs.declared.down.DownAnswer.{DownAnswer}
+use Rattle.arc_side.specs.declared.down.DownAnswer.TheVariants as downs
+use Rattle.arc_side.specs.SlotEnds.{SlotEnding, slot_end_from, slot_end_turn}
+use Rattle.arc_side.specs.declared.slot_end.SlotEndNext.{SlotEndNext}
+use Rattle.arc_side.specs.declared.slot_end.SlotEndNext.TheVariants as ends
+use Rattle.arc_cells.specs.declared.parent.Parent.{Parent}
+use Rattle.arc_cells.specs.Drops.{Dropping, drop_from, drop_turn}
+use Rattle.arc_cells.specs.declared.ref_drop.RefDropNext.{RefDropNext}
+use Rattle.arc_cells.specs.declared.ref_drop.RefDropNext.TheVariants as drops
+use Rattle.arc_cells.specs.declared.cascade.At.{At as CascadeAt}
+use Rattle.arc_cells.specs.declared.cascade.At.TheVariants as at
+use Rattle.arc_cells.specs.Cascades.{CascadeState, CascadeTurn, asks, looks, climbs, drops_on, ends_on, finishes, has_taken, has_finished, field_kind, turn_at, cascade_turn}
+use Rattle.arc_served.specs.Kept.{Kept}
 use Rattle.arc_ops.specs.Cells.{IsCellWord}
-use Rattle.arc_ops.specs.Takes.{IsGainWord, gain_takes, IsGainAnswer, IsCellAt}
+use Rattle.arc_ops.specs.Takes.{IsGainWord, gain_takes, IsGainAnswer, IsCellAt, DiesAt}
 use Rattle.arc_ops.specs.declared.gain.Gain.{Gain}
 use Rattle.arc_ops.specs.declared.stepper.Held.{Held}
 use Rattle.arc_ops.specs.declared.stepper.Doing.TheVariants.{Ended}
@@ -62,16 +72,18 @@ pub moved : (t : Thread) → IsStepper t → t.doing ≡ Ended → (i : ℕ) (va
     (All (HeldFits t.layout.slots) t.vars → All (HeldFits t.layout.slots) vars) → IsStepper (record t { index = i; vars = vars; kept = kept })
 moved t s idle i vars kept from within count held = record {
   layout = s.layout;
-  without_fields = s.without_fields;
+  classes = s.classes;
   slots = s.slots;
   globals = s.globals;
   global_kinds = s.global_kinds;
   strong_cap = s.strong_cap;
   thread = s.thread;
+  vars_are = rw count s.vars_are;
   vars_fit = rw count s.vars_fit;
   classes_fit = s.classes_fit;
   cells_fit = s.cells_fit;
   cleared = s.cleared;
+  taken = s.taken;
   whole = s.whole;
   blocks = s.blocks;
   few = s.few;
@@ -88,16 +100,18 @@ moved t s idle i vars kept from within count held = record {
 pub revalued : (t : Thread) → IsStepper t → (to from : ℕ) (new last : Option Held) → All (HeldFits t.layout.slots) (set (set t.vars to new) from last) → IsStepper (record t { vars = set (set t.vars to new) from last })
 revalued t s to from new last held = record {
   layout = s.layout;
-  without_fields = s.without_fields;
+  classes = s.classes;
   slots = s.slots;
   globals = s.globals;
   global_kinds = s.global_kinds;
   strong_cap = s.strong_cap;
   thread = s.thread;
+  vars_are = rw same s.vars_are;
   vars_fit = rw same s.vars_fit;
   classes_fit = s.classes_fit;
   cells_fit = s.cells_fit;
   cleared = s.cleared;
+  taken = s.taken;
   whole = s.whole;
   blocks = s.blocks;
   few = s.few;
@@ -117,16 +131,18 @@ revalued t s to from new last held = record {
 pub made_one : (t : Thread) → IsStepper t → t.doing ≡ Ended → FewBefore t → (event : Option Act) → IsStepper (record t { hands = t.hands + 1; made = t.made + 1; event = event })
 made_one t s idle few event = record {
   layout = s.layout;
-  without_fields = s.without_fields;
+  classes = s.classes;
   slots = s.slots;
   globals = s.globals;
   global_kinds = s.global_kinds;
   strong_cap = s.strong_cap;
   thread = s.thread;
+  vars_are = s.vars_are;
   vars_fit = s.vars_fit;
   classes_fit = s.classes_fit;
   cells_fit = s.cells_fit;
   cleared = s.cleared;
+  taken = s.taken;
   whole = s.whole;
   blocks = s.blocks;
   few = s.few;
@@ -140,19 +156,21 @@ made_one t s idle few event = record {
 }
 
 -- an idle stepper that has a reference more
-pub took_one : (t : Thread) → IsStepper t → t.doing ≡ Ended → t.hands ≤ t.index + t.cleared → (event : Option Act) → IsStepper (record t { hands = t.hands + 1; event = event })
+pub took_one : (t : Thread) → IsStepper t → t.doing ≡ Ended → t.hands ≤ t.index + t.cleared + t.taken → (event : Option Act) → IsStepper (record t { hands = t.hands + 1; event = event })
 took_one t s idle few event = record {
   layout = s.layout;
-  without_fields = s.without_fields;
+  classes = s.classes;
   slots = s.slots;
   globals = s.globals;
   global_kinds = s.global_kinds;
   strong_cap = s.strong_cap;
   thread = s.thread;
+  vars_are = s.vars_are;
   vars_fit = s.vars_fit;
   classes_fit = s.classes_fit;
   cells_fit = s.cells_fit;
   cleared = s.cleared;
+  taken = s.taken;
   whole = s.whole;
   blocks = s.blocks;
   few = s.few;
@@ -169,16 +187,18 @@ took_one t s idle few event = record {
 pub cleared_one : (t : Thread) → IsStepper t → t.doing ≡ Ended → t.cleared < t.layout.globals → IsStepper (record t { cleared = t.cleared + 1 })
 cleared_one t s idle left = record {
   layout = s.layout;
-  without_fields = s.without_fields;
+  classes = s.classes;
   slots = s.slots;
   globals = s.globals;
   global_kinds = s.global_kinds;
   strong_cap = s.strong_cap;
   thread = s.thread;
+  vars_are = s.vars_are;
   vars_fit = s.vars_fit;
   classes_fit = s.classes_fit;
   cells_fit = s.cells_fit;
   cleared = omega arith;
+  taken = s.taken;
   whole = s.whole;
   blocks = s.blocks;
   few = s.few;
@@ -270,37 +290,77 @@ making_goes_on t name plan last is_name making layout made =
     go (search.Naming s) making made = making
     go search.Ended making made = absurd making
 
--- a cascade stays in its heap
-pub record SameHeap (c new : CascadeState) : Type 0 where
-  pub layout : new.layout ≡ c.layout
-  pub shape : new.shape ≡ c.shape
+-- ---- cascades
 
-pub same_heap : (c : CascadeState) (last : Option ℕ) → SameHeap c (cascade_turned c last)
-same_heap c last = go c.at
+-- a turn stays in the heap, and tells a name only where the cascade then waits for nothing
+pub record StaysIn (c : CascadeState) (t : CascadeTurn) : Type 0 where
+  pub layout : t.after.layout ≡ c.layout
+  pub shape : t.after.shape ≡ c.shape
+  pub died : DiesAt t.after t.says
+
+looks_stays : (c : CascadeState) (name : ObjectName) (field : ℕ) → StaysIn c (looks c name field)
+looks_stays c name field = go (ltb field (field_count c.shape name))
   where
-    ended : CascadeState
-    ended = record c { at = at.Ended; event = None }
+    go : (b : Bool) → StaysIn c (cond b (asks c (at.Looking name field) (Load (number c.layout (places.Field c.slot field)))) (asks c at.Leaving (Load (number c.layout (places.Next c.slot)))))
+    go true = record { layout = refl; shape = refl; died = tt }
+    go false = record { layout = refl; shape = refl; died = tt }
 
-    finishing : (p : Attempt) (a : Next UnownedDownAnswer) → SameHeap c (finish_turned (record c { at = at.Ended; event = None }) p a)
-    finishing p (nexts.Step s) = record { layout = refl; shape = refl }
-    finishing p (nexts.Done less.More) = record { layout = refl; shape = refl }
-    finishing p (nexts.Done less.Last) = record { layout = refl; shape = refl }
-    finishing p (nexts.Done (less.Slow e)) = record { layout = refl; shape = refl }
-    finishing p (nexts.Done (less.Again changed)) = record { layout = refl; shape = refl }
+climbs_stays : (c : CascadeState) (parent : Option Parent) → StaysIn c (climbs c parent)
+climbs_stays c None = record { layout = refl; shape = refl; died = tt }
+climbs_stays c (Some p) = record { layout = refl; shape = refl; died = tt }
 
-    vacating : (p : OneStep) (a : Next (Unit {0})) → SameHeap c (vacated (record c { at = at.Ended; event = None }) p a)
-    vacating p (nexts.Step s) = record { layout = refl; shape = refl }
-    vacating p (nexts.Done a) = record { layout = refl; shape = refl }
+drops_stays : (c : CascadeState) (name : ObjectName) (field : ℕ) (drop : Dropping) (says : RefDropNext) → StaysIn c (drops_on c name field drop says)
+drops_stays c name field drop (drops.Step step intent) = record { layout = refl; shape = refl; died = tt }
+drops_stays c name field drop (drops.Dies slot) = record { layout = refl; shape = refl; died = tt }
+drops_stays c name field drop drops.Done = looks_stays c name (field + 1)
 
-    go : (a : CascadeAt) → SameHeap c (turned_at (record c { at = at.Ended; event = None }) last a)
-    go at.Start = record { layout = refl; shape = refl }
-    go at.Entering = record { layout = refl; shape = refl }
-    go at.Naming = record { layout = refl; shape = refl }
-    go (at.Named name) = record { layout = refl; shape = refl }
-    go at.Leaving = record { layout = refl; shape = refl }
-    go (at.Finishing p) = finishing (unowned_down_turned p last) (unowned_down_answer p last)
-    go (at.Vacating p) = vacating (one_turned p last) (vacate_answer p last)
-    go at.Ended = record { layout = refl; shape = refl }
+ends_stays : (c : CascadeState) (parent : Option Parent) (end : SlotEnding) (says : SlotEndNext) → StaysIn c (ends_on c parent end says)
+ends_stays c parent end (ends.Step step intent) = record { layout = refl; shape = refl; died = tt }
+ends_stays c parent end ends.Done = climbs_stays c parent
+
+-- whatever it has told, and taken out of fields
+other : (c e : CascadeState) (t : CascadeTurn) → e.layout ≡ c.layout → e.shape ≡ c.shape → StaysIn e t → StaysIn c t
+other c e t layout shape s = record { layout = s.layout ∙ layout; shape = s.shape ∙ shape; died = s.died }
+
+finishes_stays : (c : CascadeState) (parent : Option Parent) (plan : Fall) (says : Next DownAnswer) → StaysIn c (finishes c parent plan says)
+finishes_stays c parent plan (nexts.Step s) = record { layout = refl; shape = refl; died = tt }
+finishes_stays c parent plan (nexts.Done (downs.More entry)) = other c (has_finished c false) _ refl refl (climbs_stays (has_finished c false) parent)
+finishes_stays c parent plan (nexts.Done (downs.Last entry)) =
+    let end = slot_end_turn (slot_end_from c.layout c.slot entry) None in
+    other c (has_finished c true) _ refl refl (ends_stays (has_finished c true) parent end.after end.says)
+finishes_stays c parent plan (nexts.Done (downs.Again changed)) = record { layout = refl; shape = refl; died = tt }
+
+pub turn_stays : (c : CascadeState) (last : Option ℕ) → StaysIn c (cascade_turn c last)
+turn_stays c last = other c idle (turn_at idle last c.at) refl refl (go c.at)
+  where
+    idle : CascadeState
+    idle = record c { at = at.Ended; event = None }
+
+    looked_on : (name : ObjectName) (field : ℕ) (b : Bool) → StaysIn idle (cond b (looks idle name (field + 1)) (asks idle (at.Taking name field (unwrap_or last 0 - 2)) (Store (number c.layout (places.Field c.slot field)) 0)))
+    looked_on name field true = looks_stays idle name (field + 1)
+    looked_on name field false = record { layout = refl; shape = refl; died = tt }
+
+    go : (a : CascadeAt) → StaysIn idle (turn_at idle last a)
+    go at.Start = record { layout = refl; shape = refl; died = tt }
+    go at.Entering = record { layout = refl; shape = refl; died = tt }
+    go at.Naming = record { layout = refl; shape = refl; died = refl }
+    go (at.Named name) = looks_stays idle name 0
+    go (at.Looking name field) = looked_on name field (eqb (unwrap_or last 0) 0)
+    go (at.Taking name field place) =
+        let drop = drop_turn (drop_from c.layout (c.before + c.taken + 1) (field_kind c.shape name field) place) None in
+        other idle (has_taken idle field) _ refl refl (drops_stays (has_taken idle field) name field drop.after drop.says)
+    go (at.Dropping name field drop) =
+        let turn = drop_turn drop last in
+        let told : CascadeState = record idle { event = turn.after.event } in
+        other idle told _ refl refl (drops_stays told name field turn.after turn.says)
+    go at.Leaving = record { layout = refl; shape = refl; died = tt }
+    go (at.Finishing parent plan) = finishes_stays idle parent (down_turned plan last) (down_answer plan last)
+    go (at.Ending parent end) =
+        let turn = slot_end_turn end last in
+        let told : CascadeState = record idle { event = turn.after.event } in
+        other idle told _ refl refl (ends_stays told parent turn.after turn.says)
+    go (at.Resuming field) = looks_stays idle (isa_name_of (unwrap_or last 0)) field
+    go at.Ended = record { layout = refl; shape = refl; died = tt }
 
 -- the object is in the slot, and the variable has the new reference
 pub slot_made : (to : ℕ) (name : ObjectName) (plan : Creation) (place : ℕ) (t middle new : Thread) (hand : ℕ) → hand ≡ t.hands → middle ≡ put (answers.New name) t →

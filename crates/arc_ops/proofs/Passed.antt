@@ -1,23 +1,34 @@
 -- How the operations of a phase begin: those that ask for no step are passed, and the first one that asks begins.
-use Rattle.std.proofs.Common.{◌≡◌, ℕ, zero, suc, ◌+◌, ◌-◌, ◌<◌, ◌≤◌, Bool, true, false, cond, List, [], ◌∷◌, length, take, drop, get_or, Option, Some, None, refl, sym, ap, subst, ◌∙◌, add-one, le_of_eq, arith}
-use Rattle.std.proofs.lemmas.List.{length-take-le, get_or-take, get_or_default}
+use Rattle.std.proofs.Common.{◌≡◌, ℕ, zero, suc, ◌+◌, ◌-◌, ◌<◌, ◌≤◌, Bool, true, false, cond, List, [], ◌∷◌, length, map, take, drop, get_or, Option, Some, None, refl, sym, ap, subst, ◌∙◌, add-one, le_of_eq, arith}
+use Rattle.std.proofs.lemmas.List.{length-map, get_or-map, length-take-le, get_or-take, get_or_default}
 use Rattle.std.proofs.lemmas.List.Elements.{All-get_or}
 use Rattle.std.proofs.lemmas.Bool.{lt-ltb, le-ltb}
 use Rattle.std.proofs.lemmas.Option.{slice_get_within, get_or_from_slice_get}
 use Rattle.std.proofs.Math.Seq.{drop-cons}
-use Rattle.std.specs.Prelude.{slice_get, All, ◌||◌}
+use Rattle.std.specs.Prelude.{slice_get, slice_index_or, All, ◌||◌}
+use Rattle.arc_model.specs.Ranges.{FieldsFit}
+use Rattle.arc_model.specs.Shapes.{ObjectClass, class_at}
+use Rattle.arc_model.specs.declared.shape.Kind.TheVariants.{Strong}
 use Rattle.arc_model.specs.declared.answer.Answer.{Answer}
+use Rattle.arc_side.specs.Inline.{IsCountedInline}
+use Rattle.arc_script.specs.Valid.{ref_at}
+use Rattle.arc_script.specs.declared.script.VarDecl.{VarDecl}
+use Rattle.arc_script.specs.declared.script.OpCell.{OpCell}
+use Rattle.arc_script.specs.declared.script.OpCell.TheVariants as opcell
 use Rattle.arc_script.specs.declared.script.Op.{Op}
 use Rattle.arc_script.specs.declared.script.Op.TheVariants as op
 use Rattle.arc_ops.specs.declared.gain.Gain.{Gain}
 use Rattle.arc_ops.specs.declared.gain.Gain.TheVariants as gains
 use Rattle.arc_ops.specs.declared.stepper.Held.{Held}
-use Rattle.arc_ops.specs.Kept.{Kept, with_line}
-use Rattle.arc_ops.specs.Programs.{VarsFit, GoesForth, ordinal}
+use Rattle.arc_served.specs.Kept.{Kept, with_line}
+use Rattle.arc_served.specs.Programs.{VarsFit, HasCell, GoesForth, class_of, ordinal}
+use Rattle.arc_served.specs.Served.{IsServedRef, IsServedClass}
 use Rattle.arc_ops.specs.Thread.{Thread, value, is_held}
 use Rattle.arc_ops.specs.Plans.{op_of}
-use Rattle.arc_ops.specs.Begins.{asks, block_goes_on, at_place, begun, begun_at, begun_nil, begun_gain, begun_move, begun_op, phase_end, skipped}
-use Rattle.arc_ops.specs.Steppers.{IsStepper}
+use Rattle.arc_ops.specs.Cells.{field_of, cell_of}
+use Rattle.arc_ops.specs.declared.cell.Cell.{Cell}
+use Rattle.arc_ops.specs.Begins.{asks, is_there, block_goes_on, at_place, begun, begun_at, begun_nil, begun_gain, begun_move, begun_get, begun_set, begun_op, phase_end, skipped}
+use Rattle.arc_ops.specs.Steppers.{IsStepper, IsHeld, HeldFits, IsCell}
 
 -- what an operation does that asks for no step, whatever goes on behind it
 abbrev pub IsDoneAtOnce : Op → (vars new : List (Option Held)) → Answer → Type 0
@@ -173,3 +184,79 @@ move_of t new o to from held o_is fits there asks_step begins rest =
     let from_there : from < length t.vars = (rw o_is at fits).1 in
     let value_is : value t.vars from ≡ Some held = get_or_default t.vars from None (Some held) from_there ∙ there in
     rw (o_is, value_is) (begins rest ∙ move_begun to from held (value t.vars to) t rest (rw o_is at asks_step))
+
+-- ---- cells
+
+-- a cell that there is none of has an owner that is nil
+pub not_there : (c : OpCell) (t : Thread) → cell_of c t ≡ None → is_there t.vars c ≡ false
+not_there (opcell.Global g) t e = absurd (cc)
+not_there (opcell.Field owner field) t e = go (value t.vars owner) e
+  where
+    go : (held : Option Held) → field_of t.shape (class_of t.classes owner) field held ≡ None → is_held held ≡ false
+    go None e = refl
+    go (Some held) e = absurd (cc)
+
+-- a cell begins to be read
+get_first : (to : ℕ) (cell : Option Cell) (there : Bool) (old : Option Held) (t : Thread) (rest : Thread → Thread) → (cell ≡ None → there ≡ false) → (there || is_held old) ≡ true →
+    begun_get to cell old (record t { first = true }) rest ≡ begun_get to cell old t rest
+get_first to (Some cell) there old t rest nowhere e = refl
+get_first to None there old t rest nowhere e = nil_begun to old t rest (subst (λ (b : Bool). (b || is_held old) ≡ true) (nowhere refl) e)
+
+pub get_of : (t new : Thread) (o : Op) (to : ℕ) (c : OpCell) → o ≡ op.Get to c → asks t.vars o ≡ true →
+    ((rest : Thread → Thread) → new ≡ begun_get to (cell_of c t) (value t.vars to) (record t { first = true }) rest) → (rest : Thread → Thread) → new ≡ begun_op o t rest
+get_of t new o to c o_is asks_step begins rest = rw o_is (begins rest ∙ get_first to (cell_of c t) (is_there t.vars c) (value t.vars to) t rest (not_there c t) (rw o_is at asks_step))
+
+-- a cell begins to be written
+put_first : (from : ℕ) (cell : Option Cell) (there : Bool) (t : Thread) (rest : Thread → Thread) → (cell ≡ None → there ≡ false) → there ≡ true →
+    begun_set from cell (record t { first = true }) rest ≡ begun_set from cell t rest
+put_first from (Some cell) there t rest nowhere e = refl
+put_first from None there t rest nowhere e = let none = nowhere refl in absurd (cc)
+
+pub put_of : (t new : Thread) (o : Op) (from : ℕ) (c : OpCell) → o ≡ op.Set c from → asks t.vars o ≡ true →
+    ((rest : Thread → Thread) → new ≡ begun_set from (cell_of c t) (record t { first = true }) rest) → (rest : Thread → Thread) → new ≡ begun_op o t rest
+put_of t new o from c o_is asks_step begins rest = rw o_is (begins rest ∙ put_first from (cell_of c t) (is_there t.vars c) t rest (not_there c t) (rw o_is at asks_step))
+
+-- ---- cells that are there
+
+some_cell : (a b : Cell) → Path (Option Cell) (Some a) (Some b) → a ≡ b
+some_cell a b e = cc
+
+-- a class that has a field is one of the heap's
+has_class : (classes : List ObjectClass) (i field : ℕ) → field < length (slice_index_or classes i (record { fields = []; immortal = false })).fields → i < length classes
+has_class [] i field has = absurd (omega (arith, has))
+has_class (c ∷ classes) zero field has = omega arith
+has_class (c ∷ classes) (suc i) field has = let k = has_class classes i field has in omega (arith, k)
+
+-- a field of the object that a variable refers to
+pub field_is : (t : Thread) → IsStepper t → FieldsFit t.shape.classes → (owner field : ℕ) (held : Held) (cell : Cell) → owner < length t.vars → value t.vars owner ≡ Some held →
+    HasCell t.shape t.classes (opcell.Field owner field) → field_of t.shape (class_of t.classes owner) field (Some held) ≡ Some cell → IsCell t.layout cell
+field_is t s eight owner field held cell within there has is =
+    subst (λ (c : Cell). IsCell t.layout c) (some_cell _ cell is) (record { place = (held_there.place, omega (arith, has, few)); kind = kind })
+  where
+    class : ObjectClass
+    class = class_at t.shape (class_of t.classes owner)
+
+    held_there : IsHeld t.layout.slots held
+    held_there = subst (HeldFits t.layout.slots) there (All-get_or (HeldFits t.layout.slots) t.vars owner None within s.held)
+
+    known : class_of t.classes owner < length t.shape.classes
+    known = has_class t.shape.classes (class_of t.classes owner) field has
+
+    few : length class.fields ≤ 8
+    few = All-get_or (λ (c : ObjectClass). length c.fields ≤ 8) t.shape.classes (class_of t.classes owner) (record { fields = []; immortal = false }) known eight
+
+    kind : IsCountedInline (ref_at class.fields field).kind
+    kind = All-get_or IsServedRef class.fields field (record { kind = Strong; class = 0 }) has (All-get_or IsServedClass t.shape.classes (class_of t.classes owner) (record { fields = []; immortal = false }) known s.classes)
+
+-- as it is found by the declaration of its owner's variable
+pub field_by : (t : Thread) → IsStepper t → FieldsFit t.shape.classes → (declared : List VarDecl) → t.classes ≡ map (λ (v : VarDecl). v.class) declared → (d : VarDecl) (owner field : ℕ) (held : Held) (cell : Cell) → owner < length t.vars →
+    get_or t.vars owner (Some held) ≡ Some held → HasCell t.shape t.classes (opcell.Field owner field) → field_of t.shape (get_or declared owner d).class field (Some held) ≡ Some cell → IsCell t.layout cell
+field_by t s eight declared classes_are d owner field held cell within held_is has is =
+    field_is t s eight owner field held cell within (get_or_default t.vars owner None (Some held) within ∙ held_is) has
+    (ap (λ (c : ℕ). field_of t.shape c field (Some held)) (ap (λ (cs : List ℕ). class_of cs owner) classes_are ∙ class_is) ∙ is)
+  where
+    there : owner < length declared
+    there = let long = ap length classes_are ∙ length-map declared (λ (v : VarDecl). v.class) in let same = s.vars_are in omega (arith, within, long, same)
+
+    class_is : class_of (map (λ (v : VarDecl). v.class) declared) owner ≡ (get_or declared owner d).class
+    class_is = get_or-map (λ (v : VarDecl). v.class) declared owner d 0 there

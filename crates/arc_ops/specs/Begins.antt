@@ -4,12 +4,14 @@ use Rattle.arc_model.specs.declared.answer.Answer.{Answer}
 use Rattle.arc_model.specs.declared.answer.Answer.TheVariants as answers
 use Rattle.arc_script.specs.declared.script.Op.{Op}
 use Rattle.arc_script.specs.declared.script.Op.TheVariants as op
+use Rattle.arc_script.specs.declared.script.OpCell.{OpCell}
 use Rattle.arc_script.specs.declared.script.OpCell.TheVariants as opcell
-use Rattle.arc_ops.specs.Kept.{with_line}
-use Rattle.arc_ops.specs.Programs.{ordinal, ops_in_first}
+use Rattle.arc_served.specs.Kept.{with_line}
+use Rattle.arc_served.specs.Programs.{ordinal, ops_in_first}
 use Rattle.arc_ops.specs.Thread.{Thread, value, is_held, set_var, put}
-use Rattle.arc_ops.specs.Cells.{global_of, open_begun, set_begun, clear_begun}
+use Rattle.arc_ops.specs.Cells.{cell_of, open_begun, set_begun, clear_begun}
 use Rattle.arc_ops.specs.Plans.{of_hand, make_begun, gain_begun, drop_begun}
+use Rattle.arc_ops.specs.declared.cell.Cell.{Cell}
 use Rattle.arc_ops.specs.declared.gain.Gain.{Gain}
 use Rattle.arc_ops.specs.declared.gain.Gain.TheVariants as gains
 use Rattle.arc_ops.specs.declared.stepper.Held.{Held}
@@ -43,6 +45,16 @@ abbrev pub begun_drop : ℕ → Option Held → Thread → (rest : Thread → Th
 begun_drop v (Some held) t rest = drop_begun held (set_var v None (put answers.Ok (record t { first = true })))
 begun_drop v None t rest = rest (skipped answers.Nil t)
 
+-- a cell is read; through an owner that is nil the destination becomes nil
+abbrev pub begun_get : ℕ → Option Cell → (old : Option Held) → Thread → (rest : Thread → Thread) → Thread
+begun_get to (Some cell) old t rest = open_begun to cell (record t { first = true })
+begun_get to None old t rest = begun_nil to old t rest
+
+-- a cell is written; through an owner that is nil nothing is
+abbrev pub begun_set : ℕ → Option Cell → Thread → (rest : Thread → Thread) → Thread
+begun_set from (Some cell) t rest = set_begun from cell (record t { first = true })
+begun_set from None t rest = rest (skipped answers.Nil t)
+
 -- where the thread goes on that comes to a block at this place: in the block where that is run, else behind it
 abbrev pub block_goes_on : List (Option Held) → ℕ → Op → Option ℕ
 block_goes_on vars i (op.IfNil v to) = Some (if is_held (value vars v) then to else i + 1)
@@ -61,11 +73,16 @@ begun_op (op.Unown to of) t rest = begun_gain gains.Unown to (value t.vars of) (
 begun_op (op.Load to of) t rest = begun_gain gains.Load to (value t.vars of) (value t.vars to) t rest
 begun_op (op.Move to from) t rest = begun_move to from (value t.vars from) (value t.vars to) t rest
 begun_op (op.Drop v) t rest = begun_drop v (value t.vars v) t rest
-begun_op (op.Get to (opcell.Global g)) t rest = open_begun to (global_of t.shape g) (record t { first = true })
-begun_op (op.Set (opcell.Global g) from) t rest = set_begun from (global_of t.shape g) (record t { first = true })
+begun_op (op.Get to cell) t rest = begun_get to (cell_of cell t) (value t.vars to) t rest
+begun_op (op.Set cell from) t rest = begun_set from (cell_of cell t) t rest
 begun_op (op.IfNil v to) t rest = rest (at_place (block_goes_on t.vars t.index (op.IfNil v to)) t)
 begun_op (op.IfSome v to) t rest = rest (at_place (block_goes_on t.vars t.index (op.IfSome v to)) t)
 begun_op _ t rest = rest (skipped answers.Nil t)
+
+-- a cell is there, but through an owner that is nil
+abbrev pub is_there : List (Option Held) → OpCell → Bool
+is_there vars (opcell.Global g) = true
+is_there vars (opcell.Field owner field) = is_held (value vars owner)
 
 -- the operation asks for a step
 abbrev pub asks : List (Option Held) → Op → Bool
@@ -75,8 +92,8 @@ asks vars (op.Unown to of) = is_held (value vars of) || is_held (value vars to)
 asks vars (op.Load to of) = is_held (value vars of) || is_held (value vars to)
 asks vars (op.Move to from) = is_held (value vars to)
 asks vars (op.Drop v) = is_held (value vars v)
-asks vars (op.Get to (opcell.Global g)) = true
-asks vars (op.Set (opcell.Global g) from) = true
+asks vars (op.Get to cell) = is_there vars cell || is_held (value vars to)
+asks vars (op.Set cell from) = is_there vars cell
 asks vars _ = false
 
 abbrev pub AsksAt : List Op → List (Option Held) → ℕ → Type 0

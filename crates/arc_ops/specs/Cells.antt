@@ -1,6 +1,6 @@
 -- The cells that operations name, what their words stand for, and the plans that read and write them, with the first step of each.
-use Rattle.std.specs.Prelude.{ℕ, ◌+◌, ◌-◌, ◌==◌, ◌<◌, if◌then◌else◌, slice_index_or, Option, Some, None}
-use Rattle.arc_model.specs.Shapes.{HeapShape}
+use Rattle.std.specs.Prelude.{ℕ, ◌+◌, ◌-◌, ◌==◌, ◌<◌, if◌then◌else◌, List, slice_index_or, Option, Some, None}
+use Rattle.arc_model.specs.Shapes.{HeapShape, class_at}
 use Rattle.arc_model.specs.declared.event.CellName.{CellName}
 use Rattle.arc_model.specs.declared.event.CellName.TheVariants as cells
 use Rattle.arc_model.specs.declared.event.Origin.TheVariants as origins
@@ -21,6 +21,10 @@ use Rattle.arc_cells.specs.declared.swap.SwapAnswer.{SwapAnswer}
 use Rattle.arc_cells.specs.Begins.{Beginning, begin_turned, begin_answer}
 use Rattle.arc_cells.specs.Ends.{AccessEnd, end_turned, end_answer}
 use Rattle.arc_cells.specs.Swaps.{SwapAttempt, swap_turned, swap_answer}
+use Rattle.arc_script.specs.declared.script.OpCell.{OpCell}
+use Rattle.arc_script.specs.declared.script.OpCell.TheVariants as opcell
+use Rattle.arc_script.specs.Valid.{ref_at}
+use Rattle.arc_served.specs.Programs.{class_of}
 use Rattle.arc_ops.specs.Thread.{Thread, value, asking}
 use Rattle.arc_ops.specs.declared.cell.Cell.{Cell}
 use Rattle.arc_ops.specs.declared.gain.Source.{Source}
@@ -30,6 +34,19 @@ use Rattle.arc_ops.specs.declared.stepper.Doing.TheVariants.{Opening, Closing, S
 -- the global with this number
 abbrev pub global_of : HeapShape → ℕ → Cell
 global_of shape g = record { name = cells.Global g; kind = (slice_index_or shape.globals g (record { kind = Strong; class = 0 })).kind }
+
+-- the field of the object that the owner refers to, whose variable is for this class
+abbrev pub field_of : HeapShape → (class field : ℕ) → (owner : Option Held) → Option Cell
+field_of shape class field None = None
+field_of shape class field (Some owner) = Some (record { name = cells.Field owner.place field; kind = (ref_at (class_at shape class).fields field).kind })
+
+-- the cell that an operation names; through an owner that is nil there is none
+abbrev pub cell_in : HeapShape → (classes : List ℕ) → List (Option Held) → OpCell → Option Cell
+cell_in shape classes vars (opcell.Global g) = Some (global_of shape g)
+cell_in shape classes vars (opcell.Field owner field) = field_of shape (class_of classes owner) field (value vars owner)
+
+abbrev pub cell_of : OpCell → Thread → Option Cell
+cell_of cell t = cell_in t.shape t.classes t.vars cell
 
 -- the cell's word
 abbrev pub place_in : CellName → Place

@@ -1,6 +1,7 @@
 -- The steps of a drop: a reference goes, and with the last one what it kept.
-use Rattle.std.specs.Prelude.{ℕ, true, false, Option, Some, None}
+use Rattle.std.specs.Prelude.{ℕ, ◌+◌, true, false, Option, Some, None}
 use Rattle.arc_model.specs.declared.event.ObjectName.{ObjectName}
+use Rattle.arc_model.specs.declared.event.Act.{Act}
 use Rattle.arc_model.specs.declared.event.Act.TheVariants as acts
 use Rattle.arc_model.specs.declared.answer.Answer.TheVariants as answers
 use Rattle.arc_model.specs.declared.shape.Kind.{Kind}
@@ -14,7 +15,7 @@ use Rattle.arc_side.specs.declared.down.DownAnswer.TheVariants as downs
 use Rattle.arc_side.specs.Downs.{Fall}
 use Rattle.arc_cells.specs.declared.cascade.CascadeNext.{CascadeNext}
 use Rattle.arc_cells.specs.declared.cascade.CascadeNext.TheVariants as says
-use Rattle.arc_cells.specs.BareCascades.{CascadeState, cascade_from, cascade_turned, cascade_answer}
+use Rattle.arc_cells.specs.Cascades.{CascadeState, cascade_behind, cascade_turned, cascade_answer}
 use Rattle.arc_ops.specs.Thread.{Thread, value, set_var, put, asking}
 use Rattle.arc_ops.specs.Plans.{drop_begun, vacate_begun}
 use Rattle.arc_ops.specs.Begins.{next_op}
@@ -37,8 +38,9 @@ abbrev pub dying_asks : CascadeState → CascadeNext → Thread → Thread
 dying_asks c (says.Step s intent) t = asking (Dying c) s intent t
 dying_asks c _ t = t
 
+-- the hands of its deinits, and of those that these bring about, go on behind the thread's
 abbrev pub dies : ℕ → Thread → Thread
-dies slot t = dying_asks (cascade_turned (cascade_from t.layout t.shape slot) None) (cascade_answer (cascade_from t.layout t.shape slot) None) t
+dies slot t = dying_asks (cascade_turned (cascade_behind t.layout t.shape slot t.hands) None) (cascade_answer (cascade_behind t.layout t.shape slot t.hands) None) t
 
 -- the line of a deinit stands, and the cascade goes on
 abbrev pub died_on : CascadeState → ObjectName → Thread → Thread
@@ -48,6 +50,15 @@ abbrev pub dying_on : CascadeState → CascadeNext → Thread → Thread
 dying_on c (says.Step s intent) t = asking (Dying c) s intent t
 dying_on c (says.Died name) t = died_on c name t
 dying_on c says.Done t = next_op t
+
+-- how many references an event takes out of a field
+abbrev pub taken_by : Option Act → ℕ
+taken_by (Some (acts.Take slot field hand)) = 1
+taken_by _ = 0
+
+-- the event of a deinit; a reference that it takes out of a field comes into the thread's hands
+abbrev pub deinit_tells : Option Act → Thread → Thread
+deinit_tells event t = record t { event = event; hands = t.hands + taken_by event; taken = t.taken + taken_by event }
 
 -- ---- the end of a slot
 

@@ -1,6 +1,3 @@
-pub mod Served
-pub mod Kept
-pub mod Programs
 pub mod Thread
 pub mod Cells
 pub mod Plans

@@ -1,12 +1,11 @@
 -- What holds of each stepper.
-use Rattle.std.specs.Prelude.{ℕ, ◌≡◌, ◌≢◌, ◌<◌, ◌≤◌, ◌+◌, ◌-◌, length, All, Option, Some, None, ⊤}
+use Rattle.std.specs.Prelude.{ℕ, ◌≡◌, ◌≢◌, ◌<◌, ◌≤◌, ◌+◌, ◌-◌, ◌^◌, length, All, Option, Some, None, ⊤}
 use Rattle.arc_model.specs.Shapes.{HeapShape}
 use Rattle.arc_model.specs.declared.event.ObjectName.{ObjectName}
 use Rattle.arc_model.specs.declared.event.Origin.{Origin}
 use Rattle.arc_model.specs.declared.event.Origin.TheVariants as origins
 use Rattle.arc_rule.specs.Extents.{Extent}
 use Rattle.arc_rule.specs.Isa.{IsName}
-use Rattle.arc_model.specs.declared.shape.RefShape.{RefShape}
 use Rattle.arc_rule.specs.Places.{IsPlace, extent_of}
 use Rattle.arc_rule.specs.declared.attempt.At.{At}
 use Rattle.arc_rule.specs.declared.attempt.At.TheVariants as attempt
@@ -22,10 +21,10 @@ use Rattle.arc_plan.specs.declared.slots.NewObjectAnswer.{NewObjectAnswer}
 use Rattle.arc_plan.specs.declared.slots.NewObjectAnswer.TheVariants.{Slot, NoSlot, Again}
 use Rattle.arc_plan.specs.Slots.{InSlots}
 use Rattle.arc_side.specs.Inline.{IsCountedInline}
-use Rattle.arc_cells.specs.Cascades.{HasNoFields}
 use Rattle.arc_script.specs.OneList.{in_one_list}
 use Rattle.arc_ops.specs.Cells.{IsCellWord, place_in}
-use Rattle.arc_ops.specs.Programs.{VarsFit, ClassFits, CellFits, BlocksFit}
+use Rattle.arc_served.specs.Programs.{VarsFit, ClassFits, CellFits, BlocksFit}
+use Rattle.arc_served.specs.Served.{IsServedRef, IsServedClass}
 use Rattle.arc_ops.specs.Thread.{Thread}
 use Rattle.arc_ops.specs.declared.cell.Cell.{Cell}
 use Rattle.arc_ops.specs.declared.gain.Source.{Source}
@@ -97,10 +96,10 @@ IsUnderWay layout shape vars (Dropping held plan) = IsHeld layout.slots held
 IsUnderWay layout shape vars (Dying c) = (c.layout ≡ layout) × (c.shape ≡ shape)
 IsUnderWay layout shape vars _ = ⊤
 
--- what came into its hands and what it made is of the operations before and of the globals that were cleared: each brings one reference at
--- most, and an operation makes one object at most
+-- what came into its hands and what it made is of the operations before, of the globals that were cleared, and of the fields that it took
+-- out of: an operation and a global bring one reference at most, and an operation makes one object at most
 abbrev pub FewBefore : Thread → Type 0
-FewBefore t = (t.hands ≤ t.index + t.cleared) × (t.made ≤ t.index)
+FewBefore t = (t.hands ≤ t.index + t.cleared + t.taken) × (t.made ≤ t.index)
 
 -- the object isn't made yet
 abbrev pub MadeBefore : Thread → Search → Type 0
@@ -133,15 +132,16 @@ IsInOperation t _ = ⊤
 
 pub record IsStepper (t : Thread) : Type 0 where
   pub layout : t.layout ≡ extent_of t.shape
-  pub without_fields : HasNoFields t.shape
   pub slots : t.layout.slots ≤ 4096
   pub globals : t.layout.globals ≤ 64
-  pub global_kinds : All (λ (r : RefShape). IsCountedInline r.kind) t.shape.globals
+  pub classes : All IsServedClass t.shape.classes
+  pub global_kinds : All IsServedRef t.shape.globals
   pub strong_cap : t.shape.caps.strong ≤ 1073741823
   pub thread : t.thread ≤ 64
+  pub vars_are : length t.classes ≡ length t.vars
   pub vars_fit : All (VarsFit (length t.vars)) t.program
   pub classes_fit : All (ClassFits (length t.shape.classes)) t.program
-  pub cells_fit : All (CellFits t.layout.globals) t.program
+  pub cells_fit : All (CellFits t.shape t.classes) t.program
   pub whole : t.program ≡ in_one_list 0 t.phases
   pub blocks : BlocksFit t.program t.phases
   pub few : length t.program ≤ 100000
@@ -151,8 +151,11 @@ pub record IsStepper (t : Thread) : Type 0 where
   pub index : t.index ≤ length t.program
   -- no more than there are
   pub cleared : t.cleared ≤ t.layout.globals
-  -- each operation before brings a reference and makes an object at most, and so does the one that is under way; each global brings a reference
-  pub hands : t.hands ≤ t.index + t.cleared + 1
+  -- one more at most than there are hands for
+  pub taken : t.taken ≤ 2 ^ 31
+  -- each operation before brings a reference and makes an object at most, and so does the one that is under way; each global brings a
+  -- reference, and so does each field that it took out of
+  pub hands : t.hands ≤ t.index + t.cleared + t.taken + 1
   pub made : t.made ≤ t.index + 1
   pub under_way : IsUnderWay t.layout t.shape (length t.vars) t.doing
   pub in_operation : IsInOperation t t.doing

@@ -1,9 +1,9 @@
 -- What a stepper may be given. So far counts lie in the inline word and below their caps.
-use Rattle.std.specs.Prelude.{ℕ, true, false, ◌≡◌, ◌<◌, Option, Some, None, ⊤}
+use Rattle.std.specs.Prelude.{ℕ, true, false, ◌≡◌, ◌<◌, ◌^◌, Option, Some, None, ⊤}
 use Rattle.std.specs.Option.{unwrap_or}
 use Rattle.arc_bits.specs.declared.packing.Inline.{Inline}
 use Rattle.arc_bits.specs.declared.packing.Word.{Word}
-use Rattle.arc_bits.specs.declared.packing.Word.TheVariants.{Counts, Immortal}
+use Rattle.arc_bits.specs.declared.packing.Word.TheVariants.{Counts, Slow, Immortal}
 use Rattle.arc_bits.specs.Words.{unpacked}
 use Rattle.arc_model.specs.Shapes.{CapNumbers, HeapShape}
 use Rattle.arc_model.specs.declared.shape.Kind.{Kind}
@@ -20,11 +20,10 @@ use Rattle.arc_side.specs.Downs.{down_takes}
 use Rattle.arc_cells.specs.Begins.{begin_takes}
 use Rattle.arc_cells.specs.Ends.{end_takes}
 use Rattle.arc_cells.specs.Swaps.{swap_takes}
-use Rattle.arc_cells.specs.declared.bare.At.TheVariants as at
+use Rattle.arc_cells.specs.declared.cascade.At.TheVariants as at
 use Rattle.arc_cells.specs.declared.cascade.CascadeNext.{CascadeNext}
 use Rattle.arc_cells.specs.declared.cascade.CascadeNext.TheVariants as says
-use Rattle.arc_cells.specs.BareCascades.{CascadeState, IsInline, cascade_takes}
-use Rattle.arc_cells.specs.Cascades.{NamesClass}
+use Rattle.arc_cells.specs.Cascades.{CascadeState, NamesClass, cascade_takes}
 use Rattle.arc_ops.specs.Cells.{IsCellWord}
 use Rattle.arc_ops.specs.Thread.{Thread}
 use Rattle.arc_ops.specs.declared.gain.Gain.{Gain}
@@ -48,6 +47,11 @@ abbrev pub IsGainWord : Gain → Kind → CapNumbers → Option Word → Type 0
 IsGainWord gain list caps (Some (Counts c)) = HasRoom gain list caps c
 IsGainWord gain list caps (Some Immortal) = ⊤
 IsGainWord gain list caps _ = ⊥
+
+-- a word that has no entry's number
+abbrev pub IsInline : Option Word → Type 0
+IsInline (Some (Slow e)) = ⊥
+IsInline _ = ⊤
 
 -- the count lies in the inline word, and a load of it gives such a word
 abbrev pub IsInlineAt : (Option Word → Type 0) → (entry : Option ℕ) → At → ℕ → Type 0
@@ -78,8 +82,13 @@ takes_at shape last (Dying c) = cascade_takes c last
 takes_at shape last (Vacating slot plan) = vacate_takes plan last
 takes_at shape last Ended = ⊥
 
+-- A thread's hands have numbers below 2 ^ 32. Its operations and globals bring few, and the fields of dying objects fewer than half of
+-- these, since what is taken out of a field was put there by an operation before.
+abbrev pub HasHandLeft : Thread → Type 0
+HasHandLeft t = t.taken < 2 ^ 31
+
 abbrev pub takes : Thread → Option ℕ → Type 0
-takes t last = takes_at t.shape last t.doing
+takes t last = takes_at t.shape last t.doing × HasHandLeft t
 
 -- what a gain answers then
 abbrev pub IsGainAnswer : Gain → Next UpAnswer → Type 0

@@ -11,8 +11,8 @@ use Rattle.arc_rule.specs.declared.step.Step.{Step}
 use Rattle.arc_rule.specs.declared.step.Intent.{Intent}
 use Rattle.arc_script.specs.declared.script.Op.{Op}
 use Rattle.arc_script.specs.declared.script.Script.{Script}
-use Rattle.arc_ops.specs.Kept.{Kept, with_line}
-use Rattle.arc_ops.specs.Programs.{ordinal, phases_of, program_of, vars_of, room_in}
+use Rattle.arc_served.specs.Kept.{Kept, with_line}
+use Rattle.arc_served.specs.Programs.{ordinal, phases_of, program_of, vars_of, classes_of, room_in}
 use Rattle.arc_ops.specs.declared.stepper.Held.{Held}
 use Rattle.arc_ops.specs.declared.stepper.Doing.{Doing}
 use Rattle.arc_ops.specs.declared.stepper.Doing.TheVariants.{Ready, Gaining, Closing, Ended}
@@ -28,6 +28,8 @@ pub record Thread : Type 0 where
   pub phases : List (List Op)
   pub program : List Op
   pub vars : List (Option Held)
+  -- the class that each variable is for
+  pub classes : List ℕ
   -- the phase that is under way, or is next
   pub phase : ℕ
   -- the place in the program of the operation that is under way, or is next
@@ -42,6 +44,8 @@ pub record Thread : Type 0 where
   pub made : ℕ
   -- how many globals it has cleared: thread 0 alone does, behind all others
   pub cleared : ℕ
+  -- how many references it has taken out of the fields of dying objects
+  pub taken : ℕ
   -- the event of the step whose word was given last
   pub event : Option Act
   pub kept : Kept
@@ -55,6 +59,7 @@ stepper_of script thread = record {
   phases = phases_of script thread;
   program = program_of script thread;
   vars = replicate (vars_of script thread) None;
+  classes = classes_of script thread;
   phase = 0;
   index = 0;
   doing = Ready;
@@ -63,6 +68,7 @@ stepper_of script thread = record {
   hands = 0;
   made = 0;
   cleared = 0;
+  taken = 0;
   event = None;
   kept = record { lines = []; room = room_in script thread };
 }

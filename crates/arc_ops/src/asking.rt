@@ -4,16 +4,15 @@ ghost use Rattle.std.specs.Prelude.{ℕ, ◌≡◌, ◌<◌, ◌≤◌, false, A
 ghost use Rattle.arc_model.specs.Shapes.{class_at};
 ghost use Rattle.arc_script.specs.declared.script.Op.{Op};
 ghost use Rattle.arc_script.specs.Valid.{begins_block};
-ghost use Rattle.arc_ops.specs.Programs.{VarsFit, GoesForth};
+ghost use Rattle.arc_served.specs.Programs.{VarsFit, OwnerFits, GoesForth};
 ghost use Rattle.arc_ops.specs.Thread.{Thread, is_held};
-ghost use Rattle.arc_ops.specs.Begins.{AsksAt, asks, block_goes_on, begun, begun_op, phase_end, skipped};
+ghost use Rattle.arc_ops.specs.Begins.{AsksAt, asks, is_there, block_goes_on, begun, begun_op, phase_end, skipped};
 ghost use Rattle.arc_ops.specs.Steppers.{HeldFits};
 
-use crate::kept::Lines;
-use crate::program::Program;
 use crate::stepper::Held;
 use arc_model::Shape;
 use arc_script::{Answer, Line, Op, OpCell};
+use arc_served::{Lines, Program};
 use std::alloc::{AllocError, Global};
 
 /// Whether the class is immortal.
@@ -138,15 +137,20 @@ fn asks(op: Op, vars: &[Option<Held>]) -> bool
         Op::Load { to, of } => is_held(vars[of as usize]) || is_held(vars[to as usize]),
         Op::Move { to, from: _ } => is_held(vars[to as usize]),
         Op::Drop { var } => is_held(vars[var as usize]),
-        Op::Get {
-            to: _,
-            cell: OpCell::Global(_),
-        } => true,
-        Op::Set {
-            cell: OpCell::Global(_),
-            from: _,
-        } => true,
+        Op::Get { to, cell } => is_there(cell, vars) || is_held(vars[to as usize]),
+        Op::Set { cell, from: _ } => is_there(cell, vars),
         _ => false,
+    }
+}
+
+/// Whether the cell is there: through an owner that is nil there is none.
+fn is_there(cell: OpCell, vars: &[Option<Held>]) -> bool
+    requires { OwnerFits (length vars.now) cell }
+    ensures { result ≡ is_there vars.now cell }
+{
+    match cell {
+        OpCell::Global(_) => true,
+        OpCell::Field { owner, field: _ } => is_held(vars[owner as usize]),
     }
 }
 

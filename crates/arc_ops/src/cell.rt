@@ -1,10 +1,13 @@
 //! The cells that operations name, and what their words stand for: 0 where the cell is nil, 1 while it is accessed, and else 2 more than
 //! the slot of the object that it refers to.
 
-ghost use Rattle.std.specs.Prelude.{◌≡◌, ◌≢◌, ◌<◌, ◌≤◌};
+ghost use Rattle.std.specs.Prelude.{◌≡◌, ◌≢◌, ◌<◌, ◌≤◌, Some};
 ghost use Rattle.arc_rule.specs.Places.{IsPlace};
 ghost use Rattle.arc_cells.specs.Swaps.{IsInTable};
-ghost use Rattle.arc_ops.specs.Cells.{global_of, place_in, cell_number, word_of, held_in, hand_in, source_in};
+ghost use Rattle.arc_model.specs.Ranges.{FieldsFit};
+ghost use Rattle.arc_model.specs.Shapes.{class_at};
+ghost use Rattle.arc_script.specs.Valid.{ref_at};
+ghost use Rattle.arc_ops.specs.Cells.{global_of, field_of, place_in, cell_number, word_of, held_in, hand_in, source_in};
 
 use crate::gain::Source;
 use crate::stepper::Held;
@@ -29,6 +32,20 @@ impl Cell {
         Cell {
             name: CellName::Global(global),
             kind,
+        }
+    }
+
+    /// The field of the object that the owner refers to, whose variable is for this class.
+    pub(crate) fn field(shape: &Shape, class: u32, field: u32, owner: Held) -> Cell
+        ensures value { field_of shape.now class field (Some owner) ≡ Some result }
+        ensures few { FieldsFit shape.now.classes }
+    {
+        Cell {
+            name: CellName::Field {
+                slot: owner.place,
+                field,
+            },
+            kind: field_kind(shape, class, field),
         }
     }
 
@@ -60,6 +77,20 @@ impl Cell {
                 place: (word - 2) as u32,
             })
         }
+    }
+}
+
+/// The kind of the references of a field, past the last one strong.
+fn field_kind(shape: &Shape, class: u32, field: u32) -> Kind
+    ensures value { result ≡ (ref_at (class_at shape.now class).fields field).kind }
+    ensures few { FieldsFit shape.now.classes }
+{
+    match shape.classes().get(class as usize) {
+        Some(class) => match class.fields.get(field as usize) {
+            Some(field) => field.kind,
+            None => Kind::Strong,
+        },
+        None => Kind::Strong,
     }
 }
 

@@ -6,13 +6,13 @@ ghost use Rattle.arc_plan.specs.Slots.{one_turned, vacate_takes, vacate_answer};
 ghost use Rattle.arc_side.specs.Downs.{down_takes, down_turned, down_answer};
 ghost use Rattle.arc_ops.specs.Thread.{Thread, asking};
 ghost use Rattle.arc_ops.specs.Plans.{drop_begun, vacate_begun};
-ghost use Rattle.arc_ops.specs.Drops.{replaced, dropped_on, last_gone, dies, dying_on, vacated_on};
-ghost use Rattle.arc_ops.specs.Takes.{DiesAt};
+ghost use Rattle.arc_ops.specs.Drops.{replaced, dropped_on, last_gone, dies, deinit_tells, dying_on, vacated_on};
+ghost use Rattle.arc_ops.specs.Takes.{DiesAt, HasHandLeft};
 ghost use Rattle.arc_ops.specs.Steppers.{IsHeld, HeldFits};
-ghost use Rattle.arc_ops.specs.declared.stepper.Doing.TheVariants.{Dropping};
+ghost use Rattle.arc_ops.specs.declared.stepper.Doing.TheVariants.{Dropping, Ended};
 
 use crate::stepper::{Doing, Held, Stepper};
-use arc_cells::{BareCascade, CascadeNext};
+use arc_cells::{Cascade, CascadeNext};
 use arc_model::{Act, Kind};
 use arc_plan::Vacate;
 use arc_rule::{Intent, Next, Plan, Step};
@@ -94,14 +94,14 @@ impl<'a> Stepper<'a> {
         requires { slot < self.old.layout.slots }
         ensures { self.new ≡ dies slot self.old }
     {
-        let mut cascade = BareCascade::start(&self.layout, self.shape, slot);
+        let mut cascade = Cascade::start_behind(&self.layout, self.shape, slot, self.hands);
         match cascade.next(None) {
             CascadeNext::Step(step, intent) => self.ask(Doing::Dying { cascade }, step, intent),
             _ => unreachable!(),
         }
     }
 
-    pub(crate) fn die_on(&mut self, mut cascade: BareCascade<'a>, next: CascadeNext)
+    pub(crate) fn die_on(&mut self, mut cascade: Cascade<'a>, next: CascadeNext)
         requires layout { cascade.layout ≡ self.old.layout }
         requires shape { cascade.shape ≡ self.old.shape }
         requires died { DiesAt cascade next }
@@ -122,6 +122,19 @@ impl<'a> Stepper<'a> {
             }
             CascadeNext::Done => self.next_op(),
         }
+    }
+
+    /// The event of a deinit. A reference that was taken out of a field has come into the thread's hands.
+    pub(crate) fn tell_deinit(&mut self, event: Option<Act>)
+        requires idle { self.old.doing ≡ Ended }
+        requires left { HasHandLeft self.old }
+        ensures { self.new ≡ deinit_tells event self.old }
+    {
+        if matches!(event, Some(Act::Take { .. })) {
+            self.hands += 1;
+            self.taken += 1;
+        }
+        self.event = event;
     }
 
     fn begin_vacate(&mut self, slot: u32)

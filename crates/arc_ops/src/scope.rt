@@ -1,17 +1,19 @@
 //! The operations of a thread one after the other: where each begins, the end of a phase, and the end of the scope.
 
-ghost use Rattle.std.specs.Prelude.{◌≡◌, true, ◌<◌, ◌||◌, length, slice_get, Some};
+ghost use Rattle.std.specs.Prelude.{◌≡◌, true, ◌<◌, ◌||◌, length, slice_get, Some, IfSome};
 ghost use Rattle.arc_ops.specs.Thread.{Thread, is_held, value};
-ghost use Rattle.arc_ops.specs.Begins.{asks, begun, begun_op, begun_gain, begun_nil, begun_move, phase_over, scope_begun, scope_over, next_op};
-ghost use Rattle.arc_ops.specs.Steppers.{IsHeld, FewBefore};
+ghost use Rattle.arc_ops.specs.Begins.{asks, is_there, begun, begun_op, begun_get, begun_set, begun_gain, begun_nil, begun_move, phase_over, scope_begun, scope_over, next_op};
+ghost use Rattle.arc_served.specs.Programs.{OwnerFits, HasCell};
+ghost use Rattle.arc_ops.specs.Cells.{cell_of};
+ghost use Rattle.arc_ops.specs.Steppers.{IsHeld, IsCell, FewBefore};
 ghost use Rattle.arc_ops.specs.declared.stepper.Doing.TheVariants.{Ended};
 
 use crate::asking::{first_asking, first_held};
 use crate::cell::Cell;
 use crate::gain::{Gain, Source};
-use crate::programs::ops_in_first;
 use crate::stepper::{Doing, Held, Move, Stepper};
 use arc_script::{Answer, Op, OpCell};
+use arc_served::ops_in_first;
 
 impl<'a> Stepper<'a> {
     /// Goes on to the first operation of the phase that asks for a step, or to the end of the phase.
@@ -64,20 +66,8 @@ impl<'a> Stepper<'a> {
             Op::Copy { to, from } => self.begin_from(Gain::Copy, to, from),
             Op::Unown { to, of } => self.begin_from(Gain::Unown, to, of),
             Op::Load { to, of } => self.begin_from(Gain::Load, to, of),
-            Op::Get {
-                to,
-                cell: OpCell::Global(global),
-            } => {
-                let cell = Cell::global(self.shape, global);
-                self.begin_open(to, cell);
-            }
-            Op::Set {
-                cell: OpCell::Global(global),
-                from,
-            } => {
-                let cell = Cell::global(self.shape, global);
-                self.begin_set(from, cell);
-            }
+            Op::Get { to, cell } => self.begin_get(to, cell),
+            Op::Set { cell, from } => self.begin_put(cell, from),
             Op::Move { to, from } => match self.vars[from as usize] {
                 Some(held) => self.begin_move(to, from, held),
                 None => self.begin_nil(to),
@@ -91,6 +81,59 @@ impl<'a> Stepper<'a> {
                 None => unreachable!(),
             },
             _ => unreachable!(),
+        }
+    }
+
+    /// The cell that an operation names; through an owner that is nil there is none.
+    fn cell_of(&self, cell: OpCell) -> Option<Cell>
+        requires owner { OwnerFits (length self.now.vars) cell }
+        requires there { HasCell self.now.shape self.now.classes cell }
+        ensures value { result ≡ cell_of cell self.now }
+        ensures is_cell { IfSome result (λ c. IsCell self.now.layout c) }
+    {
+        match cell {
+            OpCell::Global(global) => Some(Cell::global(self.shape, global)),
+            OpCell::Field { owner, field } => {
+                let class = self.declared[owner as usize].class;
+                match self.vars[owner as usize] {
+                    Some(held) => Some(Cell::field(self.shape, class, field, held)),
+                    None => None,
+                }
+            }
+        }
+    }
+
+    /// A cell is read; through an owner that is nil the destination becomes nil.
+    fn begin_get(&mut self, to: u32, cell: OpCell)
+        requires at { self.old.index < length self.old.program }
+        requires few { FewBefore self.old }
+        requires to { to < length self.old.vars }
+        requires owner { OwnerFits (length self.old.vars) cell }
+        requires there { HasCell self.old.shape self.old.classes cell }
+        requires held { (is_there self.old.vars cell || is_held (value self.old.vars to)) ≡ true }
+        requires first { self.old.first ≡ true }
+        ensures { (rest : Thread → Thread) → self.new ≡ begun_get to (cell_of cell self.old) (value self.old.vars to) self.old rest }
+    {
+        match self.cell_of(cell) {
+            Some(cell) => self.begin_open(to, cell),
+            None => self.begin_nil(to),
+        }
+    }
+
+    /// A cell is written, which is there.
+    fn begin_put(&mut self, cell: OpCell, from: u32)
+        requires at { self.old.index < length self.old.program }
+        requires few { FewBefore self.old }
+        requires from { from < length self.old.vars }
+        requires owner { OwnerFits (length self.old.vars) cell }
+        requires there { HasCell self.old.shape self.old.classes cell }
+        requires held { is_there self.old.vars cell ≡ true }
+        requires first { self.old.first ≡ true }
+        ensures { (rest : Thread → Thread) → self.new ≡ begun_set from (cell_of cell self.old) self.old rest }
+    {
+        match self.cell_of(cell) {
+            Some(cell) => self.begin_set(from, cell),
+            None => unreachable!(),
         }
     }
 

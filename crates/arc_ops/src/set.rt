@@ -84,7 +84,7 @@ impl<'a> Stepper<'a> {
     /// A reference, or nil, was put into the cell, and what was there has come into the thread's hands.
     pub(crate) fn swap(&mut self, cell: CellName, put: Option<u32>, there: Option<Held>)
         requires idle { self.old.doing ≡ Ended }
-        requires few { self.old.hands ≤ self.old.index + self.old.cleared }
+        requires few { self.old.hands ≤ self.old.index + self.old.cleared + self.old.taken }
         ensures { self.new ≡ swapped cell put there self.old }
     {
         let took = hand_in(there);

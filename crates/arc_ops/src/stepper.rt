@@ -3,7 +3,7 @@
 ghost use Rattle.std.specs.Prelude.{◌≡◌, ◌≤◌, length, IfOk};
 ghost use Rattle.arc_rule.specs.Places.{extent_of};
 ghost use Rattle.arc_script.specs.Valid.{IsScript};
-ghost use Rattle.arc_ops.specs.Served.{IsServed};
+ghost use Rattle.arc_served.specs.Served.{IsServed};
 ghost use Rattle.arc_ops.specs.Thread.{stepper_of, number_of, first_of, in_access, in_operation, put, asking};
 ghost use Rattle.arc_ops.specs.Turns.{turned};
 ghost use Rattle.arc_ops.specs.Takes.{takes};
@@ -12,14 +12,12 @@ ghost use Rattle.arc_ops.specs.Steppers.{IsStepper, IsUnderWay, IsInOperation};
 use crate::asking::nil_vars;
 use crate::cell::Cell;
 use crate::gain::{Gain, Source};
-use crate::kept::Lines;
-use crate::program::Program;
-use crate::programs::{new_count, phases_of, vars_of};
-use arc_cells::{BareCascade, Begin, End, Swap};
+use arc_cells::{Begin, Cascade, End, Swap};
 use arc_model::{Act, CellName, Kind, Memory, ObjectName, Origin, Shape};
 use arc_plan::{NameOf, NewObject, Vacate};
 use arc_rule::{Intent, Layout, Plan, Step};
-use arc_script::{Answer, Line, Op, Script};
+use arc_script::{Answer, Line, Op, Script, VarDecl};
+use arc_served::{Lines, Program, new_count, phases_of, vars_of};
 use arc_side::{Down, Up};
 use sqlite_items::Items;
 use std::alloc::Global;
@@ -89,7 +87,7 @@ pub(crate) enum Doing<'a> {
     },
     /// An object is deinited.
     Dying {
-        cascade: BareCascade<'a>,
+        cascade: Cascade<'a>,
     },
     /// A slot ends, whose object has no reference left but weak ones.
     Vacating {
@@ -124,6 +122,7 @@ pub struct Stepper<'a> {
     pub(crate) phases: &'a [Items<Op>],
     pub(crate) program: Program,
     pub(crate) vars: Vec<Option<Held>>,
+    pub(crate) declared: &'a [VarDecl],
     pub(crate) phase: usize,
     pub(crate) index: usize,
     pub(crate) doing: Doing<'a>,
@@ -132,19 +131,22 @@ pub struct Stepper<'a> {
     pub(crate) hands: u32,
     pub(crate) made: u32,
     pub(crate) cleared: u32,
+    pub(crate) taken: u32,
     pub(crate) event: Option<Act>,
     pub(crate) lines: Lines,
 }
 
 impl<'a> Model for Stepper<'a> {
+    ghost use Rattle.std.specs.Prelude.{map};
+    ghost use Rattle.arc_script.specs.declared.script.VarDecl.{VarDecl};
     ghost use Rattle.arc_ops.specs.Thread.{Thread};
     ghost use Rattle.arc_ops.specs.Steppers.{IsStepper};
 
     ghost Value = { Thread };
 
-    ghost view = { λ t. record { layout = t.layout; shape = t.shape.now; thread = t.thread; phases = t.phases.now; program = t.program; vars = t.vars.items; phase = t.phase; index = t.index; doing = t.doing; asked = t.asked; first = t.first; hands = t.hands; made = t.made; cleared = t.cleared; event = t.event; kept = t.lines } };
+    ghost view = { λ t. record { layout = t.layout; shape = t.shape.now; thread = t.thread; phases = t.phases.now; program = t.program; vars = t.vars.items; classes = map (λ (v : VarDecl). v.class) t.declared.now; phase = t.phase; index = t.index; doing = t.doing; asked = t.asked; first = t.first; hands = t.hands; made = t.made; cleared = t.cleared; taken = t.taken; event = t.event; kept = t.lines } };
 
-    ghost invariant = { λ t. IsStepper (record { layout = t.layout; shape = t.shape.now; thread = t.thread; phases = t.phases.now; program = t.program; vars = t.vars.items; phase = t.phase; index = t.index; doing = t.doing; asked = t.asked; first = t.first; hands = t.hands; made = t.made; cleared = t.cleared; event = t.event; kept = t.lines }) };
+    ghost invariant = { λ t. IsStepper (record { layout = t.layout; shape = t.shape.now; thread = t.thread; phases = t.phases.now; program = t.program; vars = t.vars.items; classes = map (λ (v : VarDecl). v.class) t.declared.now; phase = t.phase; index = t.index; doing = t.doing; asked = t.asked; first = t.first; hands = t.hands; made = t.made; cleared = t.cleared; taken = t.taken; event = t.event; kept = t.lines }) };
 }
 
 impl<'a> Stepper<'a> {
@@ -164,7 +166,8 @@ impl<'a> Stepper<'a> {
     {
         let phases = phases_of(script, thread);
         let program = Program::make(alloc, phases)?;
-        let vars = nil_vars(alloc, vars_of(script, thread))?;
+        let declared = vars_of(script, thread);
+        let vars = nil_vars(alloc, declared.len())?;
         let room = program.len() + new_count(script.threads.as_slice());
         let lines = Lines::make(alloc, room)?;
         Ok(Stepper {
@@ -174,6 +177,7 @@ impl<'a> Stepper<'a> {
             phases,
             program,
             vars,
+            declared,
             phase: 0,
             index: 0,
             doing: Doing::Ready,
@@ -182,6 +186,7 @@ impl<'a> Stepper<'a> {
             hands: 0,
             made: 0,
             cleared: 0,
+            taken: 0,
             event: None,
             lines,
         })
@@ -224,7 +229,7 @@ impl<'a> Stepper<'a> {
             Doing::Dropping { held, plan } => self.drop_on(held, plan, last),
             Doing::Dying { mut cascade } => {
                 let next = cascade.next(last);
-                self.event = cascade.event();
+                self.tell_deinit(cascade.event());
                 self.die_on(cascade, next);
             }
             Doing::Vacating { slot, plan } => self.vacate_on(slot, plan, last),

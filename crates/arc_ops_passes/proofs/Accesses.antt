@@ -5,8 +5,8 @@ use Rattle.arc_model.specs.declared.event.Origin.TheVariants as origins
 use Rattle.arc_model.proofs.Basics.{true≢false}
 use Rattle.arc_plan.specs.declared.slots.Making.{Making as Search}
 use Rattle.arc_plan.specs.declared.slots.Making.TheVariants as search
-use Rattle.arc_cells.specs.declared.bare.At.{At as CascadeAt}
-use Rattle.arc_cells.specs.declared.bare.At.TheVariants as ats
+use Rattle.arc_cells.specs.declared.cascade.At.{At as CascadeAt}
+use Rattle.arc_cells.specs.declared.cascade.At.TheVariants as ats
 use Rattle.arc_ops.specs.declared.gain.Source.{Source}
 use Rattle.arc_ops.specs.declared.stepper.Doing.{Doing}
 use Rattle.arc_ops.specs.declared.stepper.Doing.TheVariants as doings
@@ -28,9 +28,13 @@ cascade_accesses s ats.Start = refl
 cascade_accesses s ats.Entering = refl
 cascade_accesses s ats.Naming = refl
 cascade_accesses s (ats.Named name) = refl
+cascade_accesses s (ats.Looking name field) = refl
+cascade_accesses s (ats.Taking name field place) = refl
+cascade_accesses s (ats.Dropping name field drop) = refl
 cascade_accesses s ats.Leaving = refl
-cascade_accesses s (ats.Finishing p) = refl
-cascade_accesses s (ats.Vacating p) = refl
+cascade_accesses s (ats.Finishing parent p) = refl
+cascade_accesses s (ats.Ending parent p) = refl
+cascade_accesses s (ats.Resuming field) = refl
 cascade_accesses s ats.Ended = refl
 
 pub outside_is_no_access : OutsideIsNoAccess

@@ -1,5 +1,5 @@
 -- What the words of cells show, and that a cell that is accessed keeps its object.
-use Rattle.std.proofs.Common.{◌≡◌, ◌≢◌, ◌⊎◌, inl, inr, ⊎_elim, ℕ, ◌+◌, ◌<◌, ◌-◌, true, List, [], ◌∷◌, ◌++◌, Option, Some, None, refl, sym, ap, ◌∙◌, subst, arith}
+use Rattle.std.proofs.Common.{◌≡◌, ◌≢◌, ◌⊎◌, inl, inr, ⊎_elim, ℕ, ◌+◌, ◌<◌, true, List, [], ◌∷◌, ◌++◌, Option, Some, None, refl, sym, ap, ◌∙◌, subst, arith}
 use Rattle.std.specs.Prelude.{All, slice_get}
 use Rattle.std.proofs.lemmas.List.Elements.{All-get_or}
 use Rattle.std.proofs.lemmas.Option.{slice_get_within, get_or_from_slice_get}
@@ -25,6 +25,7 @@ use Rattle.arc_rule.specs.Shown.{Says, cell_word}
 use Rattle.arc_rule.specs.declared.layout.Place.TheVariants as places
 use Rattle.arc_side.specs.Inline.{IsCountedInline}
 use Rattle.arc_script.specs.Valid.{ref_at}
+use Rattle.arc_served.specs.Served.{IsServedRef}
 use Rattle.arc_ops.specs.Cells.{IsCellWord}
 use Rattle.arc_view.specs.Holding.{At}
 use Rattle.arc_view.specs.Rule.{InShape, IsWithin, CellStays, FitsCell}
@@ -68,7 +69,7 @@ global_named shape h g at within is = go (subst (λ m. FitsCell (heap_after h) m
     go : FitsCell (heap_after h) (Some at) (slice_get shape.globals g) → slice_get shape.globals g ≡ Some (ref_at shape.globals g)
     go (o, r, here, named, same) = named ∙ ap Some (sym (ref_is shape.globals g r named))
 
-pub global_read : (shape : HeapShape) (h : History) (g found : ℕ) → IsLegal shape h → InShape shape h → All (λ (r : RefShape). IsCountedInline r.kind) shape.globals → Says shape (heap_after h) (places.Global g) found → GlobalIsNil h g found ⊎ GlobalLeads shape h g found
+pub global_read : (shape : HeapShape) (h : History) (g found : ℕ) → IsLegal shape h → InShape shape h → All IsServedRef shape.globals → Says shape (heap_after h) (places.Global g) found → GlobalIsNil h g found ⊎ GlobalLeads shape h g found
 global_read shape h g found legal within served says = by (spot (holders.Global g) (heap_after h)) refl
   where
     z : Holder
@@ -80,7 +81,7 @@ global_read shape h g found legal within served says = by (spot (holders.Global 
         let n = named_kind s.kind (slice_get shape.globals g) ((cell_kinds_after shape h legal).globals g s at) in
         let r : ref_at shape.globals g ≡ n.0 = ref_is shape.globals g n.0 n.1 in
         let kind : s.kind ≡ (ref_at shape.globals g).kind = sym n.2 ∙ ap (λ (x : RefShape). x.kind) (sym r) in
-        let counted : IsCountedInline (ref_at shape.globals g).kind = All-get_or (λ (x : RefShape). IsCountedInline x.kind) shape.globals g (record { kind = Strong; class = 0 }) (slice_get_within shape.globals g n.0 n.1) served in
+        let counted : IsCountedInline (ref_at shape.globals g).kind = All-get_or IsServedRef shape.globals g (record { kind = Strong; class = 0 }) (slice_get_within shape.globals g n.0 n.1) served in
         let t = stands_at (holders.Global g) (heap_after h).objects s at in
         let word : found ≡ cell_word (reference_to (ref_at shape.globals g).kind t.object.slot) =
         says ∙ (ap (λ m. cell_word (reference_in (holders.Global g) m)) t.found ∙ (ap (λ k. cell_word (reference_to k (place_of k t.object))) (t.kind ∙ kind) ∙ ap (λ m. cell_word (reference_to (ref_at shape.globals g).kind m)) (place_slot (ref_at shape.globals g).kind counted t.object))) in
@@ -106,7 +107,7 @@ global_read shape h g found legal within served says = by (spot (holders.Global 
         })
 
 -- so it is a word that a cell may have
-pub read_word : (shape : HeapShape) (h : History) (g found : ℕ) → IsLegal shape h → InShape shape h → All (λ (r : RefShape). IsCountedInline r.kind) shape.globals → (found ≢ 1 → Says shape (heap_after h) (places.Global g) found) → IsCellWord shape.slots found
+pub read_word : (shape : HeapShape) (h : History) (g found : ℕ) → IsLegal shape h → InShape shape h → All IsServedRef shape.globals → (found ≢ 1 → Says shape (heap_after h) (places.Global g) found) → IsCellWord shape.slots found
 read_word shape h g found legal within served says = dite (ℕ_discrete found 1) (λ e. omega arith) (λ ne.
     ⊎_elim (λ (r : GlobalIsNil h g found). let z = r.word in omega arith) (λ (r : GlobalLeads shape h g found). let z = r.word in let b = r.below in omega arith)
     (global_read shape h g found legal within served (says ne)))

@@ -1,8 +1,6 @@
 -- A stepper whose last reference to an object has gone: the object dies.
-use Rattle.std.proofs.Common.{◌≡◌, ◌≢◌, inl, inr, ℕ, ◌<◌, ◌≤◌, ◌==◌, Bool, true, false, cond, List, [], ◌∷◌, ◌++◌, length, option_map, get_or, zero, suc, Option, Some, None, refl, sym, ap, ◌∙◌, subst, arith, eq-eqb, ne_eqb}
+use Rattle.std.proofs.Common.{◌≡◌, ◌≢◌, inl, inr, ℕ, ◌+◌, ◌<◌, ◌≤◌, ◌==◌, Bool, true, false, cond, ltb, List, [], ◌∷◌, ◌++◌, length, option_map, Option, Some, None, refl, sym, ap, ◌∙◌, subst, arith, eq-eqb, ne_eqb}
 use Rattle.std.specs.Prelude.{slice_get}
-use Rattle.std.proofs.lemmas.List.Elements.{recursion_from_All}
-use Rattle.std.specs.List.{AllByRecursion}
 use mathlib.Core.Logic.{dite}
 use native.Mathlib.Decide.{ℕ_discrete}
 use Rattle.arc_bits.specs.declared.packing.Inline.{Inline}
@@ -10,13 +8,13 @@ use Rattle.arc_bits.specs.declared.packing.Word.{Word}
 use Rattle.arc_bits.specs.declared.packing.Word.TheVariants.{Counts}
 use Rattle.arc_bits.specs.Words.{IsWordOf, counts_word, unpacked}
 use Rattle.arc_bits.specs.Moves.{unowned_less}
+use Rattle.arc_model.specs.declared.answer.Answer.TheVariants as answers
 use Rattle.arc_model.specs.declared.event.Act.{Act}
 use Rattle.arc_model.specs.declared.event.Act.TheVariants as acts
 use Rattle.arc_model.specs.declared.event.Event.{Event}
 use Rattle.arc_model.specs.declared.shape.Kind.{Kind}
 use Rattle.arc_model.specs.declared.shape.Kind.TheVariants.{Unowned}
 use Rattle.arc_model.specs.declared.shape.RefShape.{RefShape}
-use Rattle.arc_model.specs.Shapes.{ObjectClass}
 use Rattle.arc_model.specs.Heaps.{Field, Deinit, Vacating, Object}
 use Rattle.arc_model.specs.Holders.{at_slot, in_slot}
 use Rattle.arc_model.specs.Cells.{are_all_nil, each_below, is_nil}
@@ -26,11 +24,12 @@ use Rattle.arc_model.specs.Needs.{passes}
 use Rattle.arc_model.proofs.Duties.{own_duties}
 use Rattle.arc_model.specs.SpellingTies.Causes.{Judged}
 use Rattle.arc_rule.specs.Extents.{Extent}
+use Rattle.arc_rule.specs.Isa.{isa_name_of}
 use Rattle.arc_rule.specs.Places.{IsPlace, extent_of, number, place_at}
 use Rattle.arc_rule.specs.Shown.{ShowsCounts}
 use Rattle.arc_rule.proofs.Places.{place_at-number}
 use Rattle.arc_rule.specs.declared.layout.Place.{Place}
-use Rattle.arc_rule.specs.declared.layout.Place.TheVariants.{Count, Isa, Next}
+use Rattle.arc_rule.specs.declared.layout.Place.TheVariants.{Count, Isa, Next, Field as FieldPlace}
 use Rattle.arc_rule.specs.declared.step.Step.{Step}
 use Rattle.arc_rule.specs.declared.step.Step.TheVariants.{Load, Exchange, Store}
 use Rattle.arc_rule.specs.declared.step.Intent.{Intent}
@@ -40,25 +39,29 @@ use Rattle.arc_rule.specs.declared.attempt.At.{At as AttemptAt}
 use Rattle.arc_rule.specs.declared.attempt.At.TheVariants as attempt
 use Rattle.arc_rule.specs.declared.attempt.Choice.{Choice}
 use Rattle.arc_rule.specs.declared.attempt.Choice.TheVariants.{Write}
-use Rattle.arc_plan.specs.declared.slots.Once.TheVariants as once
-use Rattle.arc_plan.specs.declared.unowned.UnownedDownAnswer.{UnownedDownAnswer}
-use Rattle.arc_plan.specs.declared.unowned.UnownedDownAnswer.TheVariants as downs
-use Rattle.arc_plan.specs.Attempts.{Attempt, IsCountWord}
-use Rattle.arc_rule.specs.Attempts.{exchanging, chosen}
+use Rattle.arc_plan.specs.declared.unowned.UnownedDownAnswer.TheVariants as unowneds
+use Rattle.arc_plan.specs.Attempts.{IsCountWord}
+use Rattle.arc_rule.specs.Attempts.{exchanging, chosen, told_as, turned_by, answer_by}
 use Rattle.arc_plan.specs.Unowned.{unowned_down_row, unowned_down_end}
-use Rattle.arc_cells.specs.declared.bare.At.{At as CascadeAt}
-use Rattle.arc_cells.specs.declared.bare.At.TheVariants as ats
-use Rattle.arc_cells.specs.BareCascades.{CascadeState, IsInline, finish_turned, finish_says}
+use Rattle.arc_side.specs.declared.down.DownAnswer.{DownAnswer}
+use Rattle.arc_side.specs.declared.down.DownAnswer.TheVariants as downs
+use Rattle.arc_side.specs.declared.slot_end.At.TheVariants as slot_ends
+use Rattle.arc_side.specs.Inline.{entry_named}
+use Rattle.arc_side.specs.Downs.{Fall, of_unowned_down, down_choice_at, down_end_at, down_in, down_moved, down_place}
+use Rattle.arc_side.specs.SlotEnds.{SlotEnding}
+use Rattle.arc_cells.specs.declared.cascade.At.{At as CascadeAt}
+use Rattle.arc_cells.specs.declared.cascade.At.TheVariants as ats
+use Rattle.arc_cells.specs.Chains.{parent_in, IsNextWord}
+use Rattle.arc_cells.specs.Cascades.{CascadeState, CascadeTurn, asks as cascade_asks, looks, finishes}
 use Rattle.arc_ops.specs.declared.stepper.Held.{Held}
 use Rattle.arc_ops.specs.declared.stepper.Doing.{Doing}
 use Rattle.arc_ops.specs.declared.stepper.Doing.TheVariants as doings
-use Rattle.arc_ops.specs.Thread.{Thread}
+use Rattle.arc_ops.specs.Thread.{Thread, put}
 use Rattle.arc_ops.specs.Begins.{next_op}
-use Rattle.arc_ops.specs.Drops.{dying_on}
+use Rattle.arc_ops.specs.Drops.{dying_asks, dying_on, deinit_tells}
 use Rattle.arc_ops.specs.Turns.{turned_at}
-use Rattle.arc_ops.specs.Takes.{takes_at}
+use Rattle.arc_ops.specs.Takes.{takes_at, IsInline}
 use Rattle.arc_spelled.specs.StepperStands.{Work}
-use Rattle.arc_spelled.specs.Spelled.{WordsHold}
 use Rattle.arc_view.specs.declared.view.Working.{Working}
 use Rattle.arc_view.specs.declared.view.View.{View}
 use Rattle.arc_view.specs.Views.{Each, idle, private_words}
@@ -79,29 +82,29 @@ use Rattle.arc_view_laws.proofs.Entries.{entry_kept}
 use Rattle.arc_view_laws.proofs.DyingWords.{ShowsDying, counts, slow, shows_dying}
 use Rattle.arc_ops_passes.specs.References.{in_vars, references, LeadsTo, Owns}
 use Rattle.arc_ops_passes.specs.Drives.{Asks, UnderWay, IsDying, OwesOne, entered, AreOfClasses, ComesOfClass}
+use Rattle.arc_ops_passes.proofs.Fields.{no_fields, AllHold}
 use Rattle.arc_ops_passes.proofs.Walks.{next_walks}
 use Rattle.arc_ops_passes.proofs.Owed.{slot_is, not_in, owed_still}
 use Rattle.arc_ops_passes.proofs.Counts.{inline_unpacked}
 use Rattle.arc_ops_passes.proofs.Names.{NameRead, name_read, name_shown, no_entry_shown}
 use Rattle.arc_ops_passes.proofs.Goes.{quiet, Facts, Comes, knows_none, told_by, fresh_under, fresh_coming, classed_still, classed_on, claims_still, claims_on, owns_still, owns_on, nothing_shown, count_no_name, next_no_name}
 
-abbrev pub dying : Work → ℕ → CascadeAt → Option Act → Doing
-dying w s a e = doings.Dying (record { layout = extent_of w.shape; shape = w.shape; slot = s; at = a; event = e })
-
-no-fields : (classes : List ObjectClass) (i : ℕ) → AllByRecursion (λ (c : ObjectClass). c.fields ≡ []) classes → (get_or classes i (record { fields = []; immortal = false })).fields ≡ []
-no-fields [] i bare = refl
-no-fields (c ∷ classes) zero bare = bare.0
-no-fields (c ∷ classes) (suc i) bare = no-fields classes i bare.1
-
-cond-same : (b : Bool) (x : Working) → cond b x x ≡ x
-cond-same true x = refl
-cond-same false x = refl
+-- n: how many hands the thread had before, and how many references the cascade has taken
+abbrev pub dying : Work → ℕ → ℕ × ℕ → CascadeAt → Option Act → Doing
+dying w s n a e = doings.Dying (record { layout = extent_of w.shape; shape = w.shape; slot = s; before = n.0; taken = n.1; at = a; event = e })
 
 -- without the slot's next word nothing is under way
 left_idle : (at : Place → ℕ) (s : ℕ) → without_next at s (entered s) ≡ idle
 left_idle at s = ap (λ b. record idle { entered = cond b [] (record { slot = s; parent = None; next_field = 0 } ∷ []) }) (eq-eqb s s refl)
 
-module _ (w : Work) (t : Thread) (v : View) (s : ℕ) (a : CascadeAt) (e : Option Act) (f : Facts w t v (dying w s a e)) where
+pub plus_none : (n : ℕ) → n + 0 ≡ n
+plus_none n = omega arith
+
+-- a thread whose cascade has made this of a word
+abbrev pub cascaded : CascadeTurn → Thread → Thread
+cascaded c t = dying_on c.after c.says (deinit_tells c.after.event t)
+
+module _ (w : Work) (t : Thread) (v : View) (s : ℕ) (n : ℕ × ℕ) (a : CascadeAt) (e : Option Act) (f : Facts w t v (dying w s n a e)) where
   abbrev l : Extent
   l = extent_of w.shape
 
@@ -118,7 +121,7 @@ module _ (w : Work) (t : Thread) (v : View) (s : ℕ) (a : CascadeAt) (e : Optio
 
     all_nil : are_all_nil w.shape (heap_of v) owes.object ≡ true
     all_nil = ap (λ (xs : List RefShape). each_below (length xs) (λ g. is_nil (heap_of v) (Field owes.object.id g)))
-        (no-fields w.shape.classes owes.object.class (recursion_from_All (λ (c : ObjectClass). c.fields ≡ []) w.shape.classes f.served.without_fields))
+        (no_fields w.shape owes.object.class f.bare)
 
     has_entered : v.working ≡ entered s → HasEntered v s
     has_entered is = (record { slot = s; parent = None; next_field = 0 }, 0, ap (λ (x : Working). slice_get x.entered 0) is, refl)
@@ -171,34 +174,35 @@ module _ (w : Work) (t : Thread) (v : View) (s : ℕ) (a : CascadeAt) (e : Optio
           )
 
       -- the cascade goes on to this
-      on : (u : Thread) (b : CascadeAt) → takes_at w.shape (Some found) (dying w s a e) → u.event ≡ None → u.hands ≡ t.hands → u.vars ≡ t.vars → u.doing ≡ dying w s b None → Asks w.shape u (dying w s b None) → IsDying w.shape v' (record { layout = extent_of w.shape; shape = w.shape; slot = s; at = b; event = None })
-          → WordsHold Judged w.shape (extent_of w.shape) (Some (step, deinit)) (Some found) w.thread None None h → Comes w t v step deinit found v' h (dying w s a e) u
-      on u b takes event hands vars doing asks under holds =
-          let same : (g : Held → ℕ) → references u.vars u.hands u.doing g ≡ references t.vars t.hands (dying w s a e) g = λ g. (λ j. references (vars j) (hands j) (doing j) g) in record {
+      on : (u : Thread) (b : CascadeAt) → takes_at w.shape (Some found) (dying w s n a e) → u.event ≡ None → u.hands ≡ t.hands → u.vars ≡ t.vars → u.doing ≡ dying w s n b None → u.taken ≡ t.taken → Asks w.shape u (dying w s n b None) → IsDying w.shape v' (record { layout = extent_of w.shape; shape = w.shape; slot = s; before = n.0; taken = n.1; at = b; event = None })
+          → AllHold Judged w.shape (extent_of w.shape) (Some (step, deinit)) (Some found) w.thread None None h → Comes w t v step deinit found v' h (dying w s n a e) u
+      on u b takes event hands vars doing taken asks under holds =
+          let same : (g : Held → ℕ) → references u.vars u.hands u.doing g ≡ references t.vars t.hands (dying w s n a e) g = λ g. (λ j. references (vars j) (hands j) (doing j) g) in record {
             takes_it = takes;
             event = none ∙ sym event;
-            holds = subst (λ (x : Option Act). WordsHold Judged w.shape (extent_of w.shape) (Some (step, deinit)) (Some found) w.thread x None h) (sym event) holds;
+            holds = subst (λ (x : Option Act). AllHold Judged w.shape (extent_of w.shape) (Some (step, deinit)) (Some found) w.thread x None h) (sym event) holds;
             knows = knows_none v';
             count = ap length vars ∙ f.count;
             classed = subst (AreOfClasses w.classes v') (sym vars) (classed_still w.shape 1 w.classes v v' t.vars called f.classed);
             coming = subst (ComesOfClass w.classes v') (sym doing) tt;
-            owns = subst (λ n. Owns v' n (references u.vars u.hands u.doing)) (sym hands) (owns_still w.shape 1 v v' t.hands (references t.vars t.hands (dying w s a e)) (references u.vars u.hands u.doing) called f.owns same);
+            owns = subst (λ n. Owns v' n (references u.vars u.hands u.doing)) (sym hands) (owns_still w.shape 1 v v' t.hands (references t.vars t.hands (dying w s n a e)) (references u.vars u.hands u.doing) called f.owns same);
             no_claim = claims_still w.shape 1 v v' called f.no_claim;
             asks = subst (Asks w.shape u) (sym doing) asks;
             under_way = subst (UnderWay w.shape v') (sym doing) under;
+            untaken = taken ∙ f.is_for.2;
           }
 
     -- ---- it enters
     pub enters : (found : ℕ) (v' : View) (told : Told w.shape deinit (Store (number (extent_of w.shape) (Next s)) 0) v found v') → a ≡ ats.Entering → v.working ≡ idle
-        → Comes w t v (Store (number (extent_of w.shape) (Next s)) 0) deinit found v' (told.between ++ v.seen) (dying w s ats.Entering e) (turned_at (Some found) (dying w s ats.Entering e) (quiet t))
+        → Comes w t v (Store (number (extent_of w.shape) (Next s)) 0) deinit found v' (told.between ++ v.seen) (dying w s n ats.Entering e) (turned_at (Some found) (dying w s n ats.Entering e) (quiet t))
     enters found v' told at is =
         let st = Store (number (extent_of w.shape) (Next s)) 0 in
         let none : act_of w.shape v st deinit found ≡ None = ap (λ (pl : Place). stored_act v pl deinit) (place_at-number (extent_of w.shape) (Next s) below) in
         let works : v'.working ≡ entered s = ap (λ (x : View). x.working) told.after ∙ (ap (λ (pl : Place). working_stored (number (extent_of w.shape)) v.working pl 0 deinit) (place_at-number (extent_of w.shape) (Next s) below)
         ∙ ap (λ (x : Working). record x { stored = but_at (number (extent_of w.shape)) (number (extent_of w.shape) (Next s)) x.stored; entered = record { slot = s; parent = None; next_field = 0 } ∷ x.entered }) is) in
-        subst (λ (b : CascadeAt). Comes w t v st deinit found v' (told.between ++ v.seen) (dying w s b e) (turned_at (Some found) (dying w s ats.Entering e) (quiet t))) at
-        (on st found v' told none (turned_at (Some found) (dying w s ats.Entering e) (quiet t)) ats.Naming (subst (λ b. takes_at w.shape (Some found) (dying w s b e)) (sym at) (λ x. cc)) refl refl refl refl (refl, refl)
-        (record { working = works; duty = owes_then st found v' told none; rests = tt }) (nothing_shown w.shape (extent_of w.shape) st deinit found w.thread None (told.between ++ v.seen) tt tt))
+        subst (λ (b : CascadeAt). Comes w t v st deinit found v' (told.between ++ v.seen) (dying w s n b e) (turned_at (Some found) (dying w s n ats.Entering e) (quiet t))) at
+        (on st found v' told none (turned_at (Some found) (dying w s n ats.Entering e) (quiet t)) ats.Naming (subst (λ b. takes_at w.shape (Some found) (dying w s n b e)) (sym at) (λ x. cc)) refl (plus_none t.hands) refl refl (plus_none t.taken) (refl, refl)
+        (record { working = works; duty = owes_then st found v' told none; rests = tt }) (nothing_shown w.shape f.bare (extent_of w.shape) st deinit found w.thread None (told.between ++ v.seen) tt tt))
 
     -- ---- it reads the name
     abbrev ReadName : Step
@@ -217,84 +221,100 @@ module _ (w : Work) (t : Thread) (v : View) (s : ℕ) (a : CascadeAt) (e : Optio
       read : NameRead w.shape s found h_name
       read = name_read w.shape h_name (owes_then ReadName found v' told refl).place s found met_name.0 f.sized met_name.4 met_name.5 met_name.1 met_name.2 ((told.read (Isa s) tt below refl).says (λ u. u))
 
-      pub names : a ≡ ats.Naming → v.working ≡ entered s → Comes w t v ReadName deinit found v' h_name (dying w s a e) (turned_at (Some found) (dying w s ats.Naming e) (quiet t))
+      -- behind the name the next word is read at once
+      abbrev named : CascadeState
+      named = record { layout = extent_of w.shape; shape = w.shape; slot = s; before = n.0; taken = n.1; at = ats.Ended; event = None }
+
+      abbrev told_name : Thread
+      told_name = put (answers.Deinit (isa_name_of found)) (deinit_tells None (quiet t))
+
+      abbrev GoesBehind : CascadeTurn → Type 0
+      GoesBehind c = Comes w t v ReadName deinit found v' h_name (dying w s n a e) (dying_asks c.after c.says told_name)
+
+      looks_behind : looks named (isa_name_of found) 0 ≡ cascade_asks named ats.Leaving (Load (number (extent_of w.shape) (Next s)))
+      looks_behind = ap (λ (xs : List RefShape). cond (ltb 0 (length xs)) (cascade_asks named (ats.Looking (isa_name_of found) 0) (Load (number (extent_of w.shape) (FieldPlace s 0)))) (cascade_asks named ats.Leaving (Load (number (extent_of w.shape) (Next s)))))
+          (no_fields w.shape (isa_name_of found).class f.bare)
+
+      pub names : a ≡ ats.Naming → v.working ≡ entered s → Comes w t v ReadName deinit found v' h_name (dying w s n a e) (turned_at (Some found) (dying w s n ats.Naming e) (quiet t))
       names at is =
-          on ReadName found v' told refl (turned_at (Some found) (dying w s ats.Naming e) (quiet t)) ats.Leaving (subst (λ b. takes_at w.shape (Some found) (dying w s b e)) (sym at) read.takes) refl refl refl refl (refl, refl)
-          (record { working = works_on (Isa s) found v' told below (λ x. refl) ∙ is; duty = owes_then ReadName found v' told refl; rests = tt }) (name_shown w.shape (extent_of w.shape) s found w.thread deinit h_name read.named)
+          let c : CascadeTurn = cascade_asks named ats.Leaving (Load (number (extent_of w.shape) (Next s))) in
+          subst GoesBehind (sym looks_behind)
+          (on ReadName found v' told refl (dying_asks c.after c.says told_name) ats.Leaving (subst (λ b. takes_at w.shape (Some found) (dying w s n b e)) (sym at) read.takes) refl (plus_none t.hands) refl refl (plus_none t.taken) (refl, refl)
+          (record { working = works_on (Isa s) found v' told below (λ x. refl) ∙ is; duty = owes_then ReadName found v' told refl; rests = tt }) (name_shown w.shape f.bare (extent_of w.shape) s found w.thread deinit h_name read.named))
 
     -- ---- it reads the next word
     abbrev ReadNext : Step
     ReadNext = Load (number (extent_of w.shape) (Next s))
 
+    abbrev plan : AttemptAt → Fall
+    plan b = record { layout = extent_of w.shape; slot = s; list = Unowned; entry = None; at = b }
+
     abbrev fin : AttemptAt → CascadeAt
-    fin b = ats.Finishing (record { layout = extent_of w.shape; slot = s; at = b })
+    fin b = ats.Finishing None (plan b)
+
+    -- no deinit waits
+    pub next_none : (found : ℕ) (v' : View) (told : Told w.shape deinit ReadNext v found v') → v.working ≡ entered s → found ≡ 0
+    next_none found v' told is =
+        let kept : Each (IsKeptAt w.shape (Next s) found) (private_words (entered s)) = subst (λ (x : Working). Each (IsKeptAt w.shape (Next s) found) (private_words x)) is (told.read (Next s) tt below refl).private in
+        kept.0 refl
 
     pub leaves : (found : ℕ) (v' : View) (told : Told w.shape deinit ReadNext v found v') → a ≡ ats.Leaving → v.working ≡ entered s
-        → Comes w t v ReadNext deinit found v' (told.between ++ v.seen) (dying w s a e) (turned_at (Some found) (dying w s ats.Leaving e) (quiet t))
+        → Comes w t v ReadNext deinit found v' (told.between ++ v.seen) (dying w s n a e) (turned_at (Some found) (dying w s n ats.Leaving e) (quiet t))
     leaves found v' told at is =
-        let kept : Each (IsKeptAt w.shape (Next s) found) (private_words (entered s)) = subst (λ (x : Working). Each (IsKeptAt w.shape (Next s) found) (private_words x)) is (told.read (Next s) tt below refl).private in
-        on ReadNext found v' told refl (turned_at (Some found) (dying w s ats.Leaving e) (quiet t)) (fin attempt.Loading) (subst (λ b. takes_at w.shape (Some found) (dying w s b e)) (sym at) (ap Some (kept.0 refl))) refl refl refl refl (refl, (refl, refl))
-        (record { working = works_on (Next s) found v' told below (λ x. refl) ∙ is; duty = owes_then ReadNext found v' told refl; rests = tt }) (nothing_shown w.shape (extent_of w.shape) ReadNext deinit found w.thread None (told.between ++ v.seen) (next_no_name (extent_of w.shape) s s) tt)
+        let zero_is : found ≡ 0 = next_none found v' told is in
+        on ReadNext found v' told refl (turned_at (Some found) (dying w s n ats.Leaving e) (quiet t)) (fin attempt.Loading)
+        (subst (λ b. takes_at w.shape (Some found) (dying w s n b e)) (sym at) (subst (λ (x : ℕ). IsNextWord (extent_of w.shape) (Some x)) (sym zero_is) tt)) refl (plus_none t.hands) refl
+        (ap (λ (x : ℕ). dying w s n (ats.Finishing (parent_in x) (plan attempt.Loading)) None) zero_is) (plus_none t.taken) (refl, (refl, refl))
+        (record { working = works_on (Next s) found v' told below (λ x. refl) ∙ is; duty = owes_then ReadNext found v' told refl; rests = tt }) (nothing_shown w.shape f.bare (extent_of w.shape) ReadNext deinit found w.thread None (told.between ++ v.seen) (next_no_name (extent_of w.shape) s s) tt)
 
     -- ---- it loads the count
     abbrev ReadCount : Step
     ReadCount = Load (number (extent_of w.shape) (Count s))
 
-    -- the cascade, and it as its turn is worked out
-    abbrev here_at : CascadeAt → CascadeState
-    here_at b = record { layout = extent_of w.shape; shape = w.shape; slot = s; at = b; event = e }
-
+    -- the cascade as its turn is worked out
     abbrev turning : CascadeState
-    turning = record { layout = extent_of w.shape; shape = w.shape; slot = s; at = ats.Ended; event = None }
-
-    abbrev plan : AttemptAt → Attempt
-    plan b = record { layout = extent_of w.shape; slot = s; at = b }
+    turning = record { layout = extent_of w.shape; shape = w.shape; slot = s; before = n.0; taken = n.1; at = ats.Ended; event = None }
 
     module _ (found : ℕ) (v' : View) (told : Told w.shape deinit ReadCount v found v') (at : a ≡ fin attempt.Loading) (is : v.working ≡ entered s) where
-      abbrev Turned : Choice UnownedDownAnswer → CascadeState
-      Turned r = finish_turned turning (plan (exchanging found r)) (chosen (number (extent_of w.shape) (Count s)) found r)
+      abbrev Loaded : Option ℕ × Choice DownAnswer → Type 0
+      Loaded x = Comes w t v ReadCount deinit found v' (told.between ++ v.seen) (dying w s n a e)
+          (cascaded (finishes turning None (turned_by down_moved (plan attempt.Loading) (down_in (plan attempt.Loading) x.0) (exchanging found x.1)) (answer_by down_place (down_in (plan attempt.Loading) x.0) (chosen (number (extent_of w.shape) (Count s)) found x.1))) (quiet t))
 
-      abbrev Loaded : Choice UnownedDownAnswer → Type 0
-      Loaded r = Comes w t v ReadCount deinit found v' (told.between ++ v.seen) (dying w s a e) (dying_on (Turned r) (finish_says (here_at (fin attempt.Loading)) (chosen (number (extent_of w.shape) (Count s)) found r)) (record (quiet t) { event = (Turned r).event }))
-
-      pub loads : IsInline (unpacked found) → Loaded (unowned_down_row (unpacked found))
+      pub loads : IsInline (unpacked found) → Loaded (entry_named (unpacked found), down_choice_at None Unowned found)
       loads served =
           let m = met ReadCount found v' told refl in
           by m.0 (shows_dying w.shape (told.between ++ v.seen) v.number (owes_then ReadCount found v' told refl).place s found m.0 f.sized m.4 m.5 m.1 m.3 m.2 ((told.read (Count s) tt below refl).says (λ u. u)))
         where
-          by : (o : Object) → ShowsDying w.shape o found → Loaded (unowned_down_row (unpacked found))
-          by o (slow n some entry lt) = absurd (subst IsInline some served)
+          by : (o : Object) → ShowsDying w.shape o found → Loaded (entry_named (unpacked found), down_choice_at None Unowned found)
+          by o (slow k some entry lt) = absurd (subst IsInline some served)
           by o (counts c some word ends unowned none) =
-              let row : unowned_down_row (unpacked found) ≡ Write (counts_word (unowned_less c)) = ap unowned_down_row some in
+              let row : down_choice_at None Unowned found ≡ Write (counts_word (unowned_less c)) = ap (λ m. told_as of_unowned_down (unowned_down_row m)) some in
               let fits : IsCountWord w.shape.entries (λ c. c.deiniting ≡ false → 2 ≤ c.unowned) (unpacked found) = subst (IsCountWord w.shape.entries (λ c. c.deiniting ≡ false → 2 ≤ c.unowned)) (sym some) (unowned, λ live. absurd (true≢false (sym ends ∙ live))) in
-              let takes : takes_at w.shape (Some found) (dying w s a e) = subst (λ b. takes_at w.shape (Some found) (dying w s b e)) (sym at) (fits, served) in
+              let takes : takes_at w.shape (Some found) (dying w s n a e) = subst (λ b. takes_at w.shape (Some found) (dying w s n b e)) (sym at) fits in
               let new = counts_word (unowned_less c) in
-              let u : Thread = dying_on (Turned (Write new)) (finish_says (here_at (fin attempt.Loading)) (chosen (number (extent_of w.shape) (Count s)) found (Write new))) (record (quiet t) { event = (Turned (Write new)).event }) in
-              let done : Loaded (Write new) = on ReadCount found v' told refl u (fin (attempt.Exchanging found new)) takes refl refl refl refl (refl, (refl, refl))
-              (record { working = works_on (Count s) found v' told below (λ x. refl) ∙ is; duty = owes_then ReadCount found v' told refl; rests = (c, word, unowned, refl) }) (nothing_shown w.shape (extent_of w.shape) ReadCount deinit found w.thread None (told.between ++ v.seen) (count_no_name (extent_of w.shape) s s) tt) in
-              subst Loaded (sym row) done
+              let u : Thread = cascaded (finishes turning None (plan (attempt.Exchanging found new)) (nexts.Step (Exchange (number (extent_of w.shape) (Count s)) found new))) (quiet t) in
+              let done : Loaded (None, Write new) = on ReadCount found v' told refl u (fin (attempt.Exchanging found new)) takes refl (plus_none t.hands) refl refl (plus_none t.taken) (refl, (refl, refl))
+              (record { working = works_on (Count s) found v' told below (λ x. refl) ∙ is; duty = owes_then ReadCount found v' told refl; rests = (c, word, unowned, refl) }) (nothing_shown w.shape f.bare (extent_of w.shape) ReadCount deinit found w.thread None (told.between ++ v.seen) (count_no_name (extent_of w.shape) s s) tt) in
+              subst Loaded (λ j. (sym (ap entry_named some) j, sym row j)) done
 
     -- ---- it exchanges it
     module _ (seen new : ℕ) (found : ℕ) (v' : View) (told : Told w.shape deinit (Swap seen new) v found v') (at : a ≡ fin (attempt.Exchanging seen new)) (is : v.working ≡ entered s) where
       abbrev h_swap : History
       h_swap = told.between ++ v.seen
 
-      abbrev TurnedTo : UnownedDownAnswer → CascadeState
-      TurnedTo answer = finish_turned turning (plan attempt.Ended) (nexts.Done answer)
+      abbrev Swapped : DownAnswer → Type 0
+      Swapped answer = Comes w t v (Swap seen new) deinit found v' h_swap (dying w s n a e) (cascaded (finishes turning None (plan attempt.Ended) (nexts.Done answer)) (quiet t))
 
-      abbrev Swapped : UnownedDownAnswer → Type 0
-      Swapped answer = Comes w t v (Swap seen new) deinit found v' h_swap (dying w s a e) (dying_on (TurnedTo answer) (finish_says (here_at (fin (attempt.Exchanging seen new))) (nexts.Done answer)) (record (quiet t) { event = (TurnedTo answer).event }))
-
-      takes_swap : takes_at w.shape (Some found) (dying w s a e)
-      takes_swap = subst (λ b. takes_at w.shape (Some found) (dying w s b e)) (sym at) ((λ x. cc), tt)
+      takes_swap : takes_at w.shape (Some found) (dying w s n a e)
+      takes_swap = subst (λ b. takes_at w.shape (Some found) (dying w s n b e)) (sym at) (λ x. cc)
 
       missed : found ≢ seen → Swapped (downs.Again (record { seen = seen; found = found }))
       missed ne =
           let none : act_of w.shape v (Swap seen new) deinit found ≡ None = ap (λ b. cond b (hit_act v (place_at (extent_of w.shape) (number (extent_of w.shape) (Count s))) seen new deinit) None) (ne_eqb found seen ne) in
           let works : v'.working ≡ v.working = ap (λ (x : View). x.working) told.after ∙ ap (λ b. cond b (working_hit (number (extent_of w.shape)) v.working (place_at (extent_of w.shape) (number (extent_of w.shape) (Count s))) seen new deinit) v.working) (ne_eqb found seen ne) in
           let answer = downs.Again (record { seen = seen; found = found }) in
-          on (Swap seen new) found v' told none (dying_on (TurnedTo answer) (finish_says (here_at (fin (attempt.Exchanging seen new))) (nexts.Done answer)) (record (quiet t) { event = (TurnedTo answer).event })) (fin attempt.Loading) takes_swap refl refl refl refl (refl, (refl, refl))
-          (record { working = works ∙ is; duty = owes_then (Swap seen new) found v' told none; rests = tt }) (nothing_shown w.shape (extent_of w.shape) (Swap seen new) deinit found w.thread None h_swap tt tt)
+          on (Swap seen new) found v' told none (cascaded (finishes turning None (plan attempt.Ended) (nexts.Done answer)) (quiet t)) (fin attempt.Loading) takes_swap refl (plus_none t.hands) refl refl (plus_none t.taken) (refl, (refl, refl))
+          (record { working = works ∙ is; duty = owes_then (Swap seen new) found v' told none; rests = tt }) (nothing_shown w.shape f.bare (extent_of w.shape) (Swap seen new) deinit found w.thread None h_swap tt tt)
 
       -- the deinit ends
       module _ (same : found ≡ seen) (last : Bool) (act : act_of w.shape v (Swap seen new) deinit found ≡ Some (acts.Finish s last)) where
@@ -343,7 +363,7 @@ module _ (w : Work) (t : Thread) (v : View) (s : ℕ) (a : CascadeAt) (e : Optio
             ∙ (ap (without_next (number (extent_of w.shape)) s) is ∙ left_idle (number (extent_of w.shape)) s))
 
         owns_end : (n : ℕ) (M : (Held → ℕ) → ℕ) → n ≡ t.hands → ((g : Held → ℕ) → M g ≡ in_vars t.vars g) → Owns v' n M
-        owns_end n M hands is = subst (λ k. Owns v' k M) (sym hands) (owns_on w.shape 1 ended v v' t.hands (references t.vars t.hands (dying w s a e)) M called_end (λ k. refl) refl f.owns (λ g. let x = is g in omega arith))
+        owns_end m M hands is = subst (λ k. Owns v' k M) (sym hands) (owns_on w.shape 1 ended v v' t.hands (references t.vars t.hands (dying w s n a e)) M called_end (λ k. refl) refl f.owns (λ g. let x = is g in omega arith))
 
         classed_end : AreOfClasses w.classes v' t.vars
         classed_end = classed_on w.shape 1 ended w.classes v v' t.vars called_end (λ x held e. refl) f.classed
@@ -351,41 +371,46 @@ module _ (w : Work) (t : Thread) (v : View) (s : ℕ) (a : CascadeAt) (e : Optio
         no_claim_end : (n : ℕ) → HasClaim v' n → ⊥
         no_claim_end = claims_on w.shape 1 ended v v' called_end (λ m n. refl) f.no_claim
 
-      more : found ≡ seen → act_of w.shape v (Swap seen new) deinit found ≡ Some (acts.Finish s false) → Swapped downs.More
+      more : found ≡ seen → act_of w.shape v (Swap seen new) deinit found ≡ Some (acts.Finish s false) → Swapped (downs.More None)
       more same act =
-          let q : Thread = record (quiet t) { event = Some (acts.Finish s false) } in
+          let q : Thread = deinit_tells (Some (acts.Finish s false)) (quiet t) in
           let u : Thread = next_op q in
-          let walk = next_walks w (LeadsTo v') q f.is_for f.fit (classed_end same false act) in record {
+          let walk = next_walks w (LeadsTo v') q (f.is_for.0, f.is_for.1, plus_none t.taken ∙ f.is_for.2) f.fit (classed_end same false act) in record {
+            untaken = walk.untaken;
             takes_it = takes_swap;
             event = act ∙ sym walk.event;
-            holds = subst (λ (x : Option Act). WordsHold Judged w.shape (extent_of w.shape) (Some (Swap seen new, deinit)) (Some found) w.thread x None h_swap) (sym walk.event)
-                (nothing_shown w.shape (extent_of w.shape) (Swap seen new) deinit found w.thread (Some (acts.Finish s false)) h_swap tt tt);
+            holds = subst (λ (x : Option Act). AllHold Judged w.shape (extent_of w.shape) (Some (Swap seen new, deinit)) (Some found) w.thread x None h_swap) (sym walk.event)
+                (nothing_shown w.shape f.bare (extent_of w.shape) (Swap seen new) deinit found w.thread (Some (acts.Finish s false)) h_swap tt tt);
             knows = knows_none v';
             count = walk.count ∙ f.count;
             classed = walk.classed;
             coming = fresh_coming w.classes v' u.doing walk.fresh;
-            owns = owns_end same false act u.hands (references u.vars u.hands u.doing) walk.hands walk.same;
+            owns = owns_end same false act u.hands (references u.vars u.hands u.doing) (walk.hands ∙ plus_none t.hands) walk.same;
             no_claim = no_claim_end same false act;
             asks = walk.asks;
             under_way = fresh_under w.shape v' u.doing walk.fresh (works_end same false act) (λ j. dite (ℕ_discrete j owes.place) (λ e. ap (λ k. duty_of v'.number k (heap_of v')) e ∙ its_duty same false act) (λ ne. others_duty same false act j ne));
           }
 
       -- the slot is to be vacated: the counts that were there show that the object has no entry
-      last_one : found ≡ seen → (c : Inline) → IsWordOf (Counts c) seen → act_of w.shape v (Swap seen new) deinit found ≡ Some (acts.Finish s true) → Swapped downs.Last
+      last_one : found ≡ seen → (c : Inline) → IsWordOf (Counts c) seen → act_of w.shape v (Swap seen new) deinit found ≡ Some (acts.Finish s true) → Swapped (downs.Last None)
       last_one same c word act = record {
+        untaken = plus_none t.taken ∙ f.is_for.2;
         takes_it = takes_swap;
         event = act;
-        holds = no_entry_shown w.shape (extent_of w.shape) s seen new found w.thread deinit (acts.Finish s true) h_swap entry_none;
+        holds = no_entry_shown w.shape f.bare (extent_of w.shape) s seen new found w.thread deinit (acts.Finish s true) h_swap below entry_none;
         knows = knows_none v';
         count = f.count;
         classed = classed_end same true act;
         coming = tt;
-        owns = owns_end same true act t.hands (references t.vars t.hands (dying w s (ats.Vacating (record { layout = extent_of w.shape; slot = s; at = once.Asked })) (Some (acts.Finish s true)))) refl (λ g. omega arith);
+        owns = owns_end same true act (t.hands + 0) (references t.vars (t.hands + 0) (dying w s n (ats.Ending None vacating) (Some (acts.Finish s true)))) (plus_none t.hands) (λ g. omega arith);
         no_claim = no_claim_end same true act;
         asks = (refl, (refl, refl));
         under_way = record { working = works_end same true act; duty = duty; rests = tt };
       }
         where
+          vacating : SlotEnding
+          vacating = record { layout = extent_of w.shape; slot = s; entry = None; at = slot_ends.Vacating; event = None }
+
           m : OwedLater owes.place owes.object h_swap
           m = met_end same true act
 
@@ -426,20 +451,20 @@ module _ (w : Work) (t : Thread) (v : View) (s : ℕ) (a : CascadeAt) (e : Optio
               (ap (option_map (λ (o : Object). o.entry)) (slot_found w.shape (event same true act ∷ h_swap) owes.place s r.q (legal same true act) r.here slot_then) ∙ ap Some bare_then)
 
       -- by the counts that it found
-      hit : found ≡ seen → IsDown Unowned (Count s) seen new → Swapped (unowned_down_end (unpacked seen))
+      hit : found ≡ seen → IsDown Unowned (Count s) seen new → Swapped (down_end_at None Unowned seen)
       hit same down =
           let c : Inline = down.0 in
           let some = inline_unpacked c seen down.1 in
           let act : act_of w.shape v (Swap seen new) deinit found ≡ Some (acts.Finish s (c.unowned == 1)) =
           (λ j. cond (eq-eqb found seen same j) (Some (acts.Finish s (is_last Unowned (place_at-number (extent_of w.shape) (Count s) below j) seen))) None) ∙ ap (λ (m : Option Word). Some (acts.Finish s (is_last_in Unowned m))) some in
-          subst (λ (m : Option Word). Swapped (unowned_down_end m)) (sym some) (go c down.1 (c.unowned == 1) act)
+          subst (λ (m : Option Word). Swapped (of_unowned_down (unowned_down_end m))) (sym some) (go c down.1 (c.unowned == 1) act)
         where
-          go : (c : Inline) → IsWordOf (Counts c) seen → (b : Bool) → act_of w.shape v (Swap seen new) deinit found ≡ Some (acts.Finish s b) → Swapped (cond b downs.Last downs.More)
+          go : (c : Inline) → IsWordOf (Counts c) seen → (b : Bool) → act_of w.shape v (Swap seen new) deinit found ≡ Some (acts.Finish s b) → Swapped (of_unowned_down (cond b unowneds.Last unowneds.More))
           go c word true act = last_one same c word act
           go c word false act = more same act
 
-      abbrev answer_by : Bool → UnownedDownAnswer
-      answer_by b = cond b (unowned_down_end (unpacked seen)) (downs.Again (record { seen = seen; found = found }))
+      abbrev answer_if : Bool → DownAnswer
+      answer_if b = cond b (down_end_at None Unowned seen) (downs.Again (record { seen = seen; found = found }))
 
-      pub swaps : IsDown Unowned (Count s) seen new → Swapped (answer_by (found == seen))
-      swaps down = dite (ℕ_discrete found seen) (λ x. subst (λ b. Swapped (answer_by b)) (sym (eq-eqb found seen x)) (hit x down)) (λ ne. subst (λ b. Swapped (answer_by b)) (sym (ne_eqb found seen ne)) (missed ne))
+      pub swaps : IsDown Unowned (Count s) seen new → Swapped (answer_if (found == seen))
+      swaps down = dite (ℕ_discrete found seen) (λ x. subst (λ b. Swapped (answer_if b)) (sym (eq-eqb found seen x)) (hit x down)) (λ ne. subst (λ b. Swapped (answer_if b)) (sym (ne_eqb found seen ne)) (missed ne))

@@ -13,8 +13,7 @@ use Rattle.arc_model.specs.Needs.{passes}
 use Rattle.arc_model.specs.Holders.{is_in, at_slot, is_claimed_by, has_entry, kind_in, held_by, list_of}
 use Rattle.arc_model.specs.History.{History, heap_after, IsLegal}
 use Rattle.arc_model.proofs.Others.{lookup_after, others_leave}
-use Rattle.arc_cells.specs.declared.bare.At.TheVariants as ats
-use Rattle.arc_cells.specs.BareCascades.{IsInline}
+use Rattle.arc_cells.specs.declared.cascade.At.TheVariants as ats
 use Rattle.arc_view_laws.specs.Hands.{Moves}
 use Rattle.arc_rule.specs.declared.layout.Place.TheVariants as places
 use Rattle.arc_model.specs.SpellingTies.Causes.{Judged}
@@ -45,6 +44,7 @@ use Rattle.arc_view.specs.declared.view.View.{View}
 use Rattle.arc_view.specs.Steps.{Told}
 use Rattle.arc_view.specs.Calls.{Called}
 use Rattle.arc_ops_passes.specs.References.{in_vars, references, one_if, has_hand, Leads, LeadsTo, Owns}
+use Rattle.arc_ops_passes.proofs.Fields.{AllHold}
 use Rattle.arc_ops_passes.proofs.Walks.{next_walks, drops_again, vars-least}
 use Rattle.std.proofs.Common.{◌≡◌, ◌≢◌, inl, ℕ, ◌/◌, ◌≤◌, ◌<◌, ◌==◌, ◌&&◌, ◌||◌, Bool, true, false, cond, [], ◌∷◌, ◌++◌, length, option_map, Option, Some, None, refl, sym, ap, ◌∙◌, subst, arith, eq-eqb, ne_eqb}
 use Rattle.arc_bits.specs.Words.{IsWordOf, counts_word, unpacked}
@@ -68,8 +68,7 @@ use Rattle.arc_side.specs.Inline.{IsCountedInline, entry_named}
 use Rattle.arc_side.specs.Downs.{Fall, of_strong_down, of_unowned_down, down_choice_at, down_end_at, down_in, down_moved, down_place}
 use Rattle.arc_ops.specs.Plans.{drop_begun}
 use Rattle.arc_ops.specs.Drops.{dropped_on, last_gone}
-use Rattle.arc_ops.specs.Takes.{takes_at}
-use Rattle.arc_spelled.specs.Spelled.{WordsHold}
+use Rattle.arc_ops.specs.Takes.{takes_at, IsInline}
 use Rattle.arc_view.specs.Holding.{heap_of}
 use Rattle.arc_view.specs.Kinds.{act_of, event_list, object_at, is_forever, is_last, is_last_in, when, loaded_act, working_loaded, hit_act, working_after}
 use Rattle.arc_view.specs.Admission.{Admits, IsDown}
@@ -269,14 +268,15 @@ module _ (w : Work) (t : Thread) (v : View) (held : Held) (a : AttemptAt) (f : F
         let c = called false act in record {
           takes_it = takes;
           event = act ∙ sym walk.event;
-          holds = subst (λ e. WordsHold Judged w.shape (extent_of w.shape) (Some (step, drop)) (Some found) w.thread e None met) (sym walk.event)
-              (nothing_shown w.shape (extent_of w.shape) step drop found w.thread (Some (acts.Drop held.hand false)) met reads tt);
+          holds = subst (λ e. AllHold Judged w.shape (extent_of w.shape) (Some (step, drop)) (Some found) w.thread e None met) (sym walk.event)
+              (nothing_shown w.shape f.bare (extent_of w.shape) step drop found w.thread (Some (acts.Drop held.hand false)) met reads tt);
           knows = knows_none v';
           count = walk.count ∙ f.count;
           classed = walk.classed;
           coming = fresh_coming w.classes v' u.doing walk.fresh;
           owns = subst (λ n. Owns v' n (references u.vars u.hands u.doing)) (sym walk.hands) (owns_then false act (references u.vars u.hands u.doing) walk.same);
           no_claim = claims_on w.shape 1 (acts.Drop held.hand false) v v' c (λ m e. refl) f.no_claim;
+          untaken = walk.untaken;
           asks = walk.asks;
           under_way = fresh_under w.shape v' u.doing walk.fresh (works ∙ f.under_way.0.working) (owes_on w.shape 1 (acts.Drop held.hand false) v v' c (λ i h. refl) f.under_way.0.none);
         }
@@ -314,7 +314,7 @@ module _ (w : Work) (t : Thread) (v : View) (held : Held) (a : AttemptAt) (f : F
             let u : Thread = record (quiet t) { doing = dropping w held (attempt.Exchanging found new); asked = moves.Step (Exchange at found new) drop } in
             by_word (Some (Counts c)) (Write new) some (choice_less held.kind c found counted some) refl
             (stays w t v (Load at) drop found v' (dropping w held attempt.Loading) u told fact_at (takes_counts w held held.kind c found some unowned fact served) refl act refl tt refl refl (λ g. refl) (classed_still w.shape 1 w.classes v v' t.vars c_none f.classed) tt (refl, refl)
-            (record { working = ap (λ (x : View). x.working) told.after ∙ (load_same found ∙ f.under_way.0.working); none = owes_still w.shape 1 v v' c_none f.under_way.0.none }, is_down held.kind c held.place found word_is unowned fact))
+            (record { working = ap (λ (x : View). x.working) told.after ∙ (load_same found ∙ f.under_way.0.working); none = owes_still w.shape 1 v v' c_none f.under_way.0.none }, is_down held.kind c held.place found word_is unowned fact) f.is_for.2)
 
   -- ---- it exchanges it
   module _ (seen new : ℕ) (found : ℕ) (v' : View) (told : Told w.shape drop (Exchange at seen new) v found v') (is : a ≡ attempt.Exchanging seen new) where
@@ -344,7 +344,7 @@ module _ (w : Work) (t : Thread) (v : View) (held : Held) (a : AttemptAt) (f : F
         let c_none = told_by w.shape drop (Exchange at seen new) v found v' None act told in
         let walk = drops_again w (LeadsTo v') held (quiet t) f.is_for (classed_still w.shape 1 w.classes v v' t.vars c_none f.classed) in
         stays w t v (Exchange at seen new) drop found v' d (drop_begun held (quiet t)) told fact ((λ e. cc), tt) refl act walk.event tt walk.hands walk.count walk.same walk.classed (fresh_coming w.classes v' (drop_begun held (quiet t)).doing walk.fresh) walk.asks
-        (fresh_under w.shape v' (drop_begun held (quiet t)).doing walk.fresh (swap_works ∙ f.under_way.0.working) (owes_still w.shape 1 v v' c_none f.under_way.0.none))
+        (fresh_under w.shape v' (drop_begun held (quiet t)).doing walk.fresh (swap_works ∙ f.under_way.0.working) (owes_still w.shape 1 v v' c_none f.under_way.0.none)) walk.untaken
 
     -- ---- the last one of its list: the object, as the event met it and as it left it
     module _ (same : found ≡ seen) (c : Inline) (word_is : IsWordOf (Counts c) seen) (act : act_of w.shape v (Exchange at seen new) drop found ≡ Some (acts.Drop held.hand true)) where
@@ -424,12 +424,12 @@ module _ (w : Work) (t : Thread) (v : View) (held : Held) (a : AttemptAt) (f : F
       q = record (quiet t) { event = Some (acts.Drop held.hand true) }
 
       leaves : (u : Thread) → u.event ≡ Some (acts.Drop held.hand true) → u.hands ≡ t.hands → u.vars ≡ t.vars → ((g : Held → ℕ) → references u.vars u.hands u.doing g ≡ in_vars t.vars g) → ComesOfClass w.classes v' u.doing → Asks w.shape u u.doing → UnderWay w.shape v' u.doing
-          → Comes w t v (Exchange at seen new) drop found v' h d u
-      leaves u event_is hands vars all coming asks under = record {
+          → u.taken ≡ 0 → Comes w t v (Exchange at seen new) drop found v' h d u
+      leaves u event_is hands vars all coming asks under untaken = record {
         takes_it = ((λ e. cc), tt);
         event = act ∙ sym event_is;
-        holds = subst (λ e. WordsHold Judged w.shape (extent_of w.shape) (Some (Exchange at seen new, drop)) (Some found) w.thread e None h) (sym event_is)
-            (no_entry_shown w.shape (extent_of w.shape) held.place seen new found w.thread drop (acts.Drop held.hand true) h entry_none);
+        holds = subst (λ e. AllHold Judged w.shape (extent_of w.shape) (Some (Exchange at seen new, drop)) (Some found) w.thread e None h) (sym event_is)
+            (no_entry_shown w.shape f.bare (extent_of w.shape) held.place seen new found w.thread drop (acts.Drop held.hand true) h below entry_none);
         knows = knows_none v';
         count = ap length vars ∙ f.count;
         classed = subst (AreOfClasses w.classes v') (sym vars) (classed_then (Exchange at seen new) found v' told true act);
@@ -438,6 +438,7 @@ module _ (w : Work) (t : Thread) (v : View) (held : Held) (a : AttemptAt) (f : F
         no_claim = claims_on w.shape 1 (acts.Drop held.hand true) v v' (called (Exchange at seen new) found v' told true act) no_entry f.no_claim;
         asks = asks;
         under_way = under;
+        untaken = untaken;
       }
 
       last_one : Swapped (downs.Last None)
@@ -448,13 +449,13 @@ module _ (w : Work) (t : Thread) (v : View) (held : Held) (a : AttemptAt) (f : F
 
           go : (kind : Kind) → IsCountedInline kind → OwesOne v' (duty_after kind) held.place → Comes w t v (Exchange at seen new) drop found v' h d (last_gone kind held.place q)
           go Strong counted_is owes = leaves (last_gone Strong held.place q) refl refl refl (λ g. omega arith) tt (
-            (λ j. record { layout = f.is_for.0 j; shape = f.is_for.1 j; slot = held.place; at = ats.Entering; event = None }),
+            (λ j. record { layout = f.is_for.0 j; shape = f.is_for.1 j; slot = held.place; before = t.hands; taken = 0; at = ats.Entering; event = None }),
             ap (λ (l : Extent). moves.Step (Store (number l (places.Next held.place)) 0) (intents.Deinit held.place)) f.is_for.0,
-          ) (record { working = works; duty = owes; rests = tt })
+          ) (record { working = works; duty = owes; rests = tt }) f.is_for.2
           go Unowned counted_is owes = leaves (last_gone Unowned held.place q) refl refl refl (λ g. omega arith) tt (
             (λ j. record { layout = f.is_for.0 j; slot = held.place; at = once.Asked }),
             ap (λ (l : Extent). moves.Step (And (number l (SlotBits (held.place / 64))) (but_bit_of held.place)) intents.Vacate) f.is_for.0,
-          ) (works, owes)
+          ) (works, owes) f.is_for.2
           go Weak counted_is owes = absurd counted_is
 
     -- by the counts that it found

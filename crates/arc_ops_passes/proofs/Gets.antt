@@ -1,5 +1,5 @@
 -- A stepper that reads a global: an access to it begins, and ends once the global's reference was copied.
-use Rattle.std.proofs.Common.{◌≡◌, ◌≢◌, ◌⊎◌, ⊎_elim, ℕ, ◌+◌, ◌-◌, ◌<◌, ◌==◌, ◌&&◌, Bool, true, false, cond, [], ◌∷◌, ◌++◌, length, Option, Some, None, refl, sym, ap, ◌∙◌, subst, arith, eq-eqb, ne_eqb}
+use Rattle.std.proofs.Common.{◌≡◌, ◌≢◌, ◌⊎◌, ⊎_elim, ℕ, ◌+◌, ◌-◌, ◌<◌, ◌==◌, ◌&&◌, Bool, true, false, cond, List, [], ◌∷◌, ◌++◌, length, Option, Some, None, refl, sym, ap, ◌∙◌, subst, arith, eq-eqb, ne_eqb}
 use Rattle.std.specs.Prelude.{slice_get}
 use mathlib.Core.Logic.{dite}
 use native.Mathlib.Decide.{ℕ_discrete}
@@ -12,6 +12,7 @@ use Rattle.arc_model.specs.declared.event.Origin.TheVariants as origins
 use Rattle.arc_model.specs.Heaps as holders
 use Rattle.arc_model.specs.History.{History, heap_after, IsLegal}
 use Rattle.arc_model.specs.Lookup.{spot}
+use Rattle.arc_model.specs.Spelling.{Note}
 use Rattle.arc_model.specs.SpellingTies.Causes.{Judged}
 use Rattle.arc_rule.specs.Extents.{Extent}
 use Rattle.arc_rule.specs.Places.{extent_of, number}
@@ -34,8 +35,7 @@ use Rattle.arc_cells.specs.declared.begin.BeginAnswer.{BeginAnswer}
 use Rattle.arc_cells.specs.declared.begin.BeginAnswer.TheVariants as begins
 use Rattle.arc_cells.specs.Begins.{Beginning, begin_row}
 use Rattle.arc_cells.specs.Ends.{AccessEnd}
-use Rattle.arc_script.specs.declared.script.Op.TheVariants as op
-use Rattle.arc_script.specs.declared.script.OpCell.TheVariants as opcell
+use Rattle.arc_programs.specs.ProgramsTied.{hands_in}
 use Rattle.arc_ops.specs.declared.cell.Cell.{Cell}
 use Rattle.arc_ops.specs.declared.gain.Gain.TheVariants as gains
 use Rattle.arc_ops.specs.declared.stepper.Held.{Held}
@@ -43,16 +43,15 @@ use Rattle.arc_ops.specs.declared.stepper.Doing.{Doing}
 use Rattle.arc_ops.specs.declared.stepper.Doing.TheVariants as doings
 use Rattle.arc_ops.specs.declared.stepper.Move.TheVariants as moves
 use Rattle.arc_ops.specs.Cells.{IsCellWord, global_of, source_in, open_begun}
-use Rattle.arc_ops.specs.Programs.{CellFits, class_of}
+use Rattle.arc_served.specs.Programs.{class_of}
 use Rattle.arc_ops.specs.Thread.{Thread, put}
 use Rattle.arc_ops.specs.Plans.{gain_begun}
 use Rattle.arc_ops.specs.Gets.{opened_on}
 use Rattle.arc_ops.specs.Drops.{replaced}
 use Rattle.arc_ops.specs.Takes.{takes_at}
 use Rattle.arc_ops.specs.Turns.{turned_at}
-use Rattle.arc_spelled.specs.StepperStands.{Work}
-use Rattle.arc_spelled.specs.Spelled.{WordsHold}
-use Rattle.arc_spelled.proofs.KindsKept.{holds-at}
+use Rattle.arc_spelled.specs.StepperStands.{Work, IsGetting}
+use Rattle.arc_spelled.proofs.StepperKeeps.{served-too}
 use Rattle.arc_view.specs.declared.view.Working.{Working}
 use Rattle.arc_view.specs.declared.view.View.{View}
 use Rattle.arc_view.specs.Views.{idle}
@@ -63,10 +62,11 @@ use Rattle.arc_view.specs.Calls.{Called}
 use Rattle.arc_view_laws.proofs.Moving.{legal_tail}
 use Rattle.arc_ops_passes.specs.References.{in_vars, references, LeadsTo, LeadsFrom, Owns}
 use Rattle.arc_ops_passes.specs.Drives.{MayBegin, IsFree, accessing}
+use Rattle.arc_ops_passes.proofs.Fields.{AllHold, IsGettingGlobal, getting_global}
 use Rattle.arc_ops_passes.proofs.Walks.{open_walks, replaced_walks, new-some, new-none}
 use Rattle.arc_ops_passes.proofs.Owned.{to_still}
 use Rattle.arc_ops_passes.proofs.Cells.{GlobalIsNil, GlobalLeads, global_read, read_word}
-use Rattle.arc_ops_passes.proofs.Goes.{quiet, Facts, Comes, knows_none, attempt_asked, once_asked, told_by, fresh_under, fresh_coming, owes_still, owes_on, owns_on, claims_on, classed_still, classed_on, nothing_shown, stays}
+use Rattle.arc_ops_passes.proofs.Goes.{quiet, known, Facts, Comes, knows_none, attempt_asked, once_asked, told_by, fresh_under, fresh_coming, owes_still, owes_on, owns_on, claims_on, classed_still, classed_on, nothing_shown, stays}
 
 -- ---- an access begins
 
@@ -143,8 +143,8 @@ module _ (w : Work) (t : Thread) (v : View) (to g : ℕ) (a : AttemptAt) (f : Fa
           let walk = replaced_walks w (LeadsTo v') q to None f.is_for f.fit f.fits.0 (classed_on w.shape 1 (acts.Look (cells.Global g)) w.classes v v' t.vars c (λ x held e. refl) f.classed) (new-none (LeadsTo v') (class_of w.classes to)) in record {
             takes_it = takes;
             event = act ∙ sym walk.event;
-            holds = subst (λ (e : Option Act). WordsHold Judged w.shape (extent_of w.shape) (Some (Load at, why)) (Some found) w.thread e None h) (sym walk.event)
-                (nothing_shown w.shape (extent_of w.shape) (Load at) why found w.thread (Some (acts.Look (cells.Global g))) h tt tt);
+            holds = subst (λ (e : Option Act). AllHold Judged w.shape (extent_of w.shape) (Some (Load at, why)) (Some found) w.thread e None h) (sym walk.event)
+                (nothing_shown w.shape f.bare (extent_of w.shape) (Load at) why found w.thread (Some (acts.Look (cells.Global g))) h tt tt);
             knows = knows_none v';
             count = walk.count ∙ f.count;
             owns = subst (λ n. Owns v' n (references u.vars u.hands u.doing)) (sym walk.hands)
@@ -152,6 +152,7 @@ module _ (w : Work) (t : Thread) (v : View) (to g : ℕ) (a : AttemptAt) (f : Fa
             classed = walk.classed;
             coming = fresh_coming w.classes v' u.doing walk.fresh;
             no_claim = claims_on w.shape 1 (acts.Look (cells.Global g)) v v' c (λ n e. refl) f.no_claim;
+            untaken = walk.untaken;
             asks = walk.asks;
             under_way = fresh_under w.shape v' u.doing walk.fresh (load_works ∙ is_free.working) (owes_on w.shape 1 (acts.Look (cells.Global g)) v v' c (λ i k. refl) is_free.none);
           }
@@ -170,14 +171,14 @@ module _ (w : Work) (t : Thread) (v : View) (to g : ℕ) (a : AttemptAt) (f : Fa
           let walk = open_walks w (LeadsTo v') to (global_of w.shape g) (quiet t) (quiet t) (in_vars t.vars) f.is_for refl refl refl (λ x. refl) (classed_still w.shape 1 w.classes v v' t.vars c f.classed) in
           let u : Thread = open_begun to (global_of w.shape g) (quiet t) in
           stays w t v (Load at) why found v' (opening w to g attempt.Loading) u told fact takes refl (none_act ne) walk.event tt walk.hands walk.count (λ x. let e = walk.same x in omega arith) walk.classed (fresh_coming w.classes v' u.doing walk.fresh) walk.asks
-          (fresh_under w.shape v' u.doing walk.fresh (load_works ∙ is_free.working) (owes_still w.shape 1 v v' c is_free.none))
+          (fresh_under w.shape v' u.doing walk.fresh (load_works ∙ is_free.working) (owes_still w.shape 1 v v' c is_free.none)) walk.untaken
 
       opens_on : found ≢ 0 → found ≢ 1 → Opened (Write 1)
       opens_on ne unmarked =
           let c = called_none ne in
           let u : Thread = record (quiet t) { doing = opening w to g (attempt.Exchanging found 1); asked = moves.Step (Exchange at found 1) why } in
           stays w t v (Load at) why found v' (opening w to g attempt.Loading) u told fact takes refl (none_act ne) refl tt refl refl (λ x. refl) (classed_still w.shape 1 w.classes v v' t.vars c f.classed) tt (refl, refl)
-          (record { working = load_works ∙ is_free.working; none = owes_still w.shape 1 v v' c is_free.none }, (omega (arith, ne, unmarked), refl))
+          (record { working = load_works ∙ is_free.working; none = owes_still w.shape 1 v v' c is_free.none }, (omega (arith, ne, unmarked), refl)) f.is_for.2
 
       pub load_comes : Opened (begin_row found)
       load_comes = dite (ℕ_discrete found 0)
@@ -227,7 +228,7 @@ module _ (w : Work) (t : Thread) (v : View) (to g : ℕ) (a : AttemptAt) (f : Fa
         let u : Thread = open_begun to (global_of w.shape g) (quiet t) in
         let works = works_if ∙ ap (λ b. cond b (record v.working { access = Some (record { cell = cells.Global g; value = seen }) }) v.working) (ne_eqb found seen ne) in
         stays w t v (Exchange at seen new) why found v' d u told fact_swap ((λ e. cc), tt) refl act_none walk.event tt walk.hands walk.count (λ x. let e = walk.same x in omega arith) walk.classed (fresh_coming w.classes v' u.doing walk.fresh) walk.asks
-        (fresh_under w.shape v' u.doing walk.fresh (works ∙ is_free.working) (owes_still w.shape 1 v v' c_none is_free.none))
+        (fresh_under w.shape v' u.doing walk.fresh (works ∙ is_free.working) (owes_still w.shape 1 v v' c_none is_free.none)) walk.untaken
 
     -- the access has begun
     hit : found ≡ seen → Swapped true
@@ -236,7 +237,7 @@ module _ (w : Work) (t : Thread) (v : View) (to g : ℕ) (a : AttemptAt) (f : Fa
         stays w t v (Exchange at seen new) why found v' d u told fact_swap ((λ e. cc), tt) refl act_none refl tt refl refl (λ x. refl) (classed_still w.shape 1 w.classes v v' t.vars c_none f.classed) tt (
           (λ j. record { layout = f.is_for.0 j; slot = seen - 2; list = (global_of w.shape g).kind; caps = (f.is_for.1 j).caps; entry = None; at = attempt.Loading }),
           ap (λ (l : Extent). moves.Step (Load (number l (Count (seen - 2)))) (intents.Copy (origins.Cell (cells.Global g)))) f.is_for.0,
-        ) (record { working = works; none = owes_still w.shape 1 v v' c_none is_free.none; source = leads }, tt)
+        ) (record { working = works; none = owes_still w.shape 1 v v' c_none is_free.none; source = leads }, tt) f.is_for.2
       where
         back : seen ≡ seen - 2 + 2
         back = let m = may.0 in omega arith
@@ -267,8 +268,12 @@ module _ (w : Work) (t : Thread) (v : View) (to g : ℕ) (a : AttemptAt) (f : Fa
 
 -- ---- by where the attempt is
 
+-- the cell that the operation reads is a global
+cell_got : (w : Work) (t : Thread) (v : View) (d : Doing) (to : ℕ) (c : Cell) (now : List Note) → Facts w t v d → IsGetting (known v w) t.index to c t.vars now → IsGettingGlobal (known v w) t.index to c
+cell_got w t v d to c now f got = getting_global (known v w) t.index to c t.vars now (served-too w (hands_in v.number v.seen) f.served) f.bare got
+
 pub opens_allowed : (w : Work) (t : Thread) (v : View) (to : ℕ) (c : Cell) (plan : Beginning) (step : Step) (intent : Intent) → Facts w t v (doings.Opening to c plan) → t.asked ≡ moves.Step step intent → Admits w.shape v step intent
-opens_allowed w t v to c plan step intent f asked = go f.up_to.global (subst (λ (x : Cell). Facts w t v (doings.Opening to x plan)) f.up_to.cell_is f)
+opens_allowed w t v to c plan step intent f asked = let k = cell_got w t v (doings.Opening to c plan) to c f.notes f f.up_to in go k.global (subst (λ (x : Cell). Facts w t v (doings.Opening to x plan)) k.cell_is f)
   where
     go : (g : ℕ) → Facts w t v (doings.Opening to (global_of w.shape g) plan) → Admits w.shape v step intent
     go g f =
@@ -279,7 +284,8 @@ opens_allowed w t v to c plan step intent f asked = go f.up_to.global (subst (λ
 pub opens_come : (w : Work) (t : Thread) (v : View) (to : ℕ) (c : Cell) (plan : Beginning) (step : Step) (intent : Intent) (found : ℕ) (v' : View) → Facts w t v (doings.Opening to c plan) → t.asked ≡ moves.Step step intent
     → (told : Told w.shape intent step v found v') → Comes w t v step intent found v' (told.between ++ v.seen) (doings.Opening to c plan) (turned_at (Some found) (doings.Opening to c plan) (quiet t))
 opens_come w t v to c plan step intent found v' f asked =
-    subst (λ (x : Cell). Case x plan) (sym f.up_to.cell_is) (go f.up_to.global (subst (λ (x : Cell). Facts w t v (doings.Opening to x plan)) f.up_to.cell_is f))
+    let k = cell_got w t v (doings.Opening to c plan) to c f.notes f f.up_to in
+    subst (λ (x : Cell). Case x plan) (sym k.cell_is) (go k.global (subst (λ (x : Cell). Facts w t v (doings.Opening to x plan)) k.cell_is f))
   where
     Case : Cell → Beginning → Type 0
     Case x p = (told : Told w.shape intent step v found v') → Comes w t v step intent found v' (told.between ++ v.seen) (doings.Opening to x p) (turned_at (Some found) (doings.Opening to x p) (quiet t))
@@ -329,20 +335,14 @@ module _ (w : Work) (t : Thread) (v : View) (to g : ℕ) (held : Held) (inside :
         let here = to_still w.shape 1 v v' held (class_of w.classes to) c f.coming in
         let walk = replaced_walks w (LeadsTo v') done to (Some held) f.is_for f.fit f.fits.0 (classed_still w.shape 1 w.classes v v' t.vars c f.classed) (new-some (LeadsTo v') (class_of w.classes to) held here) in
         stays w t v GivesBack ends found v' (closing w to g held once.Asked) u told f tt refl close_act walk.event tt walk.hands walk.count walk.same walk.classed (fresh_coming w.classes v' u.doing walk.fresh) walk.asks
-        (fresh_under w.shape v' u.doing walk.fresh close_works (owes_still w.shape 1 v v' c f.under_way.1))
+        (fresh_under w.shape v' u.doing walk.fresh close_works (owes_still w.shape 1 v v' c f.under_way.1)) walk.untaken
 
 -- ---- by where the plan is
 
--- the global is one of the heap's, since it is one that an operation names
-cell_there : (w : Work) (t : Thread) (v : View) (d : Doing) (to g : ℕ) → Facts w t v d → slice_get w.program t.index ≡ Some (op.Get to (opcell.Global g)) → g < length w.shape.globals
-cell_there w t v d to g f there =
-    let at : slice_get t.program t.index ≡ Some (op.Get to (opcell.Global g)) = ap (λ ops. slice_get ops t.index) f.program ∙ there in
-    subst (λ (l : Extent). g < l.globals) f.is_for.0 (holds-at (CellFits t.layout.globals) t.program t.index (op.Get to (opcell.Global g)) f.stepper.cells_fit at)
-
 pub closes_allowed : (w : Work) (t : Thread) (v : View) (to : ℕ) (c : CellName) (held : Held) (plan : AccessEnd) (step : Step) (intent : Intent) → Facts w t v (doings.Closing to c held plan) → t.asked ≡ moves.Step step intent → Admits w.shape v step intent
 closes_allowed w t v to c held plan step intent f asked =
-    let got = f.up_to.getting in
-    go got.global (cell_there w t v (doings.Closing to c held plan) to got.global f got.begun.there) (subst (λ (x : CellName). Facts w t v (doings.Closing to x held plan)) (ap (λ (x : Cell). x.name) got.cell_is) f)
+    let k = cell_got w t v (doings.Closing to c held plan) to (record { name = c; kind = held.kind }) f.up_to.before f f.up_to.getting in
+    go k.global k.inside (subst (λ (x : CellName). Facts w t v (doings.Closing to x held plan)) (ap (λ (x : Cell). x.name) k.cell_is) f)
   where
     go : (g : ℕ) → g < length w.shape.globals → Facts w t v (doings.Closing to (cells.Global g) held plan) → Admits w.shape v step intent
     go g inside f =
@@ -352,9 +352,9 @@ closes_allowed w t v to c held plan step intent f asked =
 pub closes_come : (w : Work) (t : Thread) (v : View) (to : ℕ) (c : CellName) (held : Held) (plan : AccessEnd) (step : Step) (intent : Intent) (found : ℕ) (v' : View) → Facts w t v (doings.Closing to c held plan) → t.asked ≡ moves.Step step intent
     → (told : Told w.shape intent step v found v') → Comes w t v step intent found v' (told.between ++ v.seen) (doings.Closing to c held plan) (turned_at (Some found) (doings.Closing to c held plan) (quiet t))
 closes_come w t v to c held plan step intent found v' f asked =
-    let got = f.up_to.getting in
-    let name_is : c ≡ cells.Global got.global = ap (λ (x : Cell). x.name) got.cell_is in
-    subst (λ (x : CellName). Case x plan) (sym name_is) (go got.global (cell_there w t v (doings.Closing to c held plan) to got.global f got.begun.there) (subst (λ (x : CellName). Facts w t v (doings.Closing to x held plan)) name_is f))
+    let k = cell_got w t v (doings.Closing to c held plan) to (record { name = c; kind = held.kind }) f.up_to.before f f.up_to.getting in
+    let name_is : c ≡ cells.Global k.global = ap (λ (x : Cell). x.name) k.cell_is in
+    subst (λ (x : CellName). Case x plan) (sym name_is) (go k.global k.inside (subst (λ (x : CellName). Facts w t v (doings.Closing to x held plan)) name_is f))
   where
     Case : CellName → AccessEnd → Type 0
     Case x p = (told : Told w.shape intent step v found v') → Comes w t v step intent found v' (told.between ++ v.seen) (doings.Closing to x held p) (turned_at (Some found) (doings.Closing to x held p) (quiet t))

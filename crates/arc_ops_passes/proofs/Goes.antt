@@ -31,10 +31,15 @@ use Rattle.arc_plan.specs.declared.slots.Once.{Once}
 use Rattle.arc_plan.specs.declared.slots.Once.TheVariants as once
 use Rattle.arc_plan.specs.declared.slots.Making.{Making as Search}
 use Rattle.arc_plan.specs.declared.slots.Making.TheVariants as search
+use Rattle.arc_cells.specs.declared.cascade.At.{At as CascadeAt}
+use Rattle.arc_cells.specs.declared.cascade.At.TheVariants as ats
+use Rattle.arc_cells.specs.Cascades.{HasNoFields}
+use Rattle.arc_cells.specs.Chains.{Frame}
+use Rattle.arc_deinits.specs.Stands.{chained_at}
 use Rattle.arc_programs.specs.Programs.{made_of, makes}
 use Rattle.arc_programs.specs.ProgramsTied.{hands_in}
 use Rattle.arc_script.specs.declared.script.Op.{Op}
-use Rattle.arc_ops.specs.Programs.{VarsFit, ClassesFit, class_of}
+use Rattle.arc_served.specs.Programs.{VarsFit, ClassesFit, class_of}
 use Rattle.arc_ops.specs.declared.stepper.Held.{Held}
 use Rattle.arc_ops.specs.declared.stepper.Doing.{Doing}
 use Rattle.arc_ops.specs.declared.stepper.Doing.TheVariants as doings
@@ -42,13 +47,13 @@ use Rattle.arc_ops.specs.declared.stepper.Move.{Move}
 use Rattle.arc_ops.specs.declared.stepper.Move.TheVariants as moves
 use Rattle.arc_ops.specs.Thread.{Thread, value}
 use Rattle.arc_ops.specs.Turns.{turned}
-use Rattle.arc_ops.specs.Takes.{takes_at, takes}
+use Rattle.arc_ops.specs.Takes.{takes_at, takes, HasHandLeft}
 use Rattle.arc_ops.specs.Steppers.{IsStepper, IsUnderWay, IsInOperation}
-use Rattle.arc_spelled.specs.StepperStands.{Work, IsServedWork, AreOfKinds, StepperUpTo, step_in}
+use Rattle.arc_spelled.specs.StepperStands.{Work, IsServedWork, AreOfKinds, StepperUpTo, step_in, StandsFor, chain_at, FitsChain}
 use Rattle.arc_ops.specs.Plans.{list_of}
 use Rattle.arc_spelled.specs.Came.{Extends, CameOut, came_out_at, came_out, knowing}
 use Rattle.arc_spelled.specs.Shown.{Adds, IsNamedFor, deinit, line, TakesLast, finish, drop}
-use Rattle.arc_spelled.specs.Spelled.{with_event_of, WordsHold}
+use Rattle.arc_spelled.specs.Spelled.{with_event_of}
 use Rattle.arc_spelled.proofs.StepperKeeps.{stepper_goes_on, served-too}
 use Rattle.arc_spelled.proofs.SteppersSpell.{added_notes_are_tied}
 use Rattle.arc_view.specs.declared.view.View.{View}
@@ -63,8 +68,9 @@ use Rattle.arc_view_laws.specs.Hands.{Moves}
 use Rattle.arc_view_laws.proofs.Growing.{acts_of, told_called}
 use Rattle.arc_view_laws.proofs.Moving.{moved, moved_none}
 use Rattle.arc_ops_passes.specs.References.{references, Owns}
-use Rattle.arc_ops_passes.specs.Drives.{Asks, AttemptAsks, OnceAsks, MayGoUp, MayGoDown, MayBegin, MaySwap, search_works, OwesNothing, Searched, GainsFrom, UnderWay, AreOfClasses, ComesOfClass, Drives}
+use Rattle.arc_ops_passes.specs.Drives.{Asks, AttemptAsks, OnceAsks, CascadeAsks, MayGoUp, MayGoDown, MayBegin, MaySwap, search_works, OwesNothing, Searched, GainsFrom, UnderWay, AreOfClasses, ComesOfClass, Drives}
 use Rattle.arc_ops_passes.specs.Laws.{GoesOn}
+use Rattle.arc_ops_passes.proofs.Fields.{AllHold, no_field}
 use Rattle.arc_ops_passes.proofs.Walks.{IsFor, IsFresh, IsFreshSearch, IsOfHand, Fits}
 use Rattle.arc_ops_passes.proofs.Hands.{seen_extends}
 use Rattle.arc_ops_passes.proofs.Owned.{leads_still, leads_on, to_still, to_on, owns_stay}
@@ -80,11 +86,12 @@ known v w = knowing (hands_in v.number v.seen) w
 -- the operations of a stepper for this work fit it
 pub ops_fit : (w : Work) (n : ℕ) (program : List Op) → IsServedWork w → All (VarsFit n) program → program ≡ w.program → All (Fits w n) program
 ops_fit w n program served fits is =
-    let classes : All (ClassesFit w.shape.globals w.classes) program = subst (All (ClassesFit w.shape.globals w.classes)) (sym is) served.classes_fit in
+    let classes : All (ClassesFit w.shape w.classes) program = subst (All (ClassesFit w.shape w.classes)) (sym is) served.classes_fit in
     λ k d lt. (fits k d lt, classes k d lt)
 
 pub record Facts (w : Work) (t : Thread) (v : View) (d : Doing) : Type 0 where
   pub served : IsServedWork w
+  pub bare : HasNoFields w.shape
   pub sized : IsSized w.shape
   pub stepper : IsStepper t
   pub is_for : IsFor w.shape t
@@ -101,7 +108,7 @@ pub record Facts (w : Work) (t : Thread) (v : View) (d : Doing) : Type 0 where
   pub in_op : IsInOperation t d
   pub notes : List Note
   pub made_is : t.made ≡ made_of notes
-  pub up_to : StepperUpTo (known v w) t.index t.vars t.cleared t.asked notes d
+  pub up_to : StepperUpTo (known v w) t.index t.vars t.cleared [] t.asked notes d
   pub owns : Owns v t.hands (references t.vars t.hands d)
   pub classed : AreOfClasses w.classes v t.vars
   pub coming : ComesOfClass w.classes v d
@@ -121,7 +128,7 @@ knows_none v x e = absurd (None≢Some x e)
 pub record Comes (w : Work) (t : Thread) (v : View) (step : Step) (intent : Intent) (found : ℕ) (v' : View) (h : History) (d : Doing) (u : Thread) : Type 0 where
   pub takes_it : takes_at w.shape (Some found) d
   pub event : act_of w.shape v step intent found ≡ u.event
-  pub holds : WordsHold Judged w.shape (extent_of w.shape) (Some (step, intent)) (Some found) w.thread u.event (came_out_at t (Some found) d) h
+  pub holds : AllHold Judged w.shape (extent_of w.shape) (Some (step, intent)) (Some found) w.thread u.event (came_out_at t (Some found) d) h
   pub knows : KnowsOf v' (came_out_at t (Some found) d)
   pub count : length u.vars ≡ w.count
   pub owns : Owns v' u.hands (references u.vars u.hands u.doing)
@@ -130,6 +137,7 @@ pub record Comes (w : Work) (t : Thread) (v : View) (step : Step) (intent : Inte
   pub no_claim : (e : ℕ) → HasClaim v' e → ⊥
   pub asks : Asks w.shape u u.doing
   pub under_way : UnderWay w.shape v' u.doing
+  pub untaken : u.taken ≡ 0
 
 -- ---- the objects that a thread's notes made are those of its history
 
@@ -180,12 +188,13 @@ made_are causes shape p ns h (noted {n = n} {ns = ms} t x) = made_are causes sha
 
 -- ---- from a stepper that drives
 
-pub facts : (w : Work) (t : Thread) (v : View) → IsServedWork w → IsStepper t → IsSized w.shape → Drives w t v → Facts w t v t.doing
-facts w t v served stepper sized d = record {
+pub facts : (w : Work) (t : Thread) (v : View) → IsServedWork w → HasNoFields w.shape → IsStepper t → IsSized w.shape → Drives w t v → Facts w t v t.doing
+facts w t v served bare stepper sized d = record {
   served = served;
+  bare = bare;
   sized = sized;
   stepper = stepper;
-  is_for = (d.stands.works.layout_is, d.stands.works.shape_is);
+  is_for = (d.stands.works.layout_is, d.stands.works.shape_is, d.untaken);
   thread = d.stands.works.thread_is;
   program = d.stands.works.program_is;
   legal = d.legal;
@@ -213,24 +222,57 @@ pub event_is : (p : ℕ) (e : Option Act) (h : History) → with_event_of p e h 
 event_is p None h = refl
 event_is p (Some a) h = refl
 
+-- no reference was taken out of a field, so there are hands left
+pub has_hand_left : (t : Thread) → t.taken ≡ 0 → HasHandLeft t
+has_hand_left t none = omega (arith, none)
+
+-- no deinit waits for another
+pub chain_none : (shape : HeapShape) (t : Thread) (last : Option ℕ) (d : Doing) → Asks shape t d → chain_at last [] d ≡ []
+chain_none shape t last doings.Ready asks = refl
+chain_none shape t last (doings.Making to name plan) asks = refl
+chain_none shape t last (doings.Gaining gain to from plan) asks = refl
+chain_none shape t last (doings.Naming to held plan) asks = refl
+chain_none shape t last (doings.Opening to cell plan) asks = refl
+chain_none shape t last (doings.Closing to cell held plan) asks = refl
+chain_none shape t last (doings.Setting from cell plan) asks = refl
+chain_none shape t last (doings.Clearing plan) asks = refl
+chain_none shape t last (doings.Dropping held plan) asks = refl
+chain_none shape t last (doings.Dying c) asks = at c.at asks.1
+  where
+    at : (a : CascadeAt) → CascadeAsks shape t.asked c.slot a → chained_at c last a [] ≡ []
+    at ats.Start x = refl
+    at ats.Entering x = refl
+    at ats.Naming x = refl
+    at (ats.Named name) x = refl
+    at (ats.Looking name field) x = refl
+    at (ats.Taking name field place) x = refl
+    at (ats.Dropping name field reference) x = absurd x
+    at ats.Leaving x = refl
+    at (ats.Finishing parent p) x = refl
+    at (ats.Ending parent p) x = refl
+    at (ats.Resuming field) x = refl
+    at ats.Ended x = refl
+chain_none shape t last (doings.Vacating slot plan) asks = refl
+chain_none shape t last doings.Ended asks = refl
+
 -- ---- to what drives on
 
 pub goes_on : (w : Work) (t : Thread) (v : View) (step : Step) (intent : Intent) (found : ℕ) (v' : View) → IsServedWork w → Drives w t v → t.asked ≡ moves.Step step intent → (told : Told w.shape intent step v found v')
-    → Comes w t v step intent found v' (told.between ++ v.seen) t.doing (turned t (Some found)) → GoesOn w t v step intent found v'
-goes_on w t v step intent found v' served d asked told c =
+    → FitsChain t [] (Some found) → Comes w t v step intent found v' (told.between ++ v.seen) t.doing (turned t (Some found)) → GoesOn w t v step intent found v'
+goes_on w t v step intent found v' served d asked told fits c =
     let u : Thread = turned t (Some found) in
     let h = told.between ++ v.seen in
-    let takes_it : takes t (Some found) = subst (λ (s : HeapShape). takes_at s (Some found) t.doing) (sym d.stands.works.shape_is) c.takes_it in
+    let takes_it : takes t (Some found) = (subst (λ (s : HeapShape). takes_at s (Some found) t.doing) (sym d.stands.works.shape_is) c.takes_it, has_hand_left t d.untaken) in
     let seen_is : v'.seen ≡ event_list v.number (act_of w.shape v step intent found) ++ h = ap (λ (x : View). x.seen) told.after in
     let number_is : v'.number ≡ v.number = ap (λ (x : View). x.number) told.after in
     let extends : Extends (hands_in v.number v.seen) (hands_in v'.number v'.seen) = subst (λ (x : ℕ × History). Extends (hands_in v.number v.seen) (hands_in x.0 x.1)) (λ j. (sym number_is j, sym seen_is j))
     (seen_extends w.shape v.number (act_of w.shape v step intent found) told.between v.seen (subst (IsLegal w.shape) seen_is told.legal) told.others) in
-    let g = stepper_goes_on (known v w) (served-too w (hands_in v.number v.seen) served) (hands_in v'.number v'.seen) t (Some found) d.notes d.stands takes_it extends c.knows in
+    let g = stepper_goes_on (known v w) (served-too w (hands_in v.number v.seen) served) (hands_in v'.number v'.seen) t [] (Some found) d.notes d.stands takes_it fits extends c.knows in
     let others : share told.between w.thread ≡ [] = ap (share told.between) (sym d.number) ∙ told.others in
     let before : Ties Judged w.shape w.thread d.notes h = ties_others Judged w.shape w.thread d.notes v.seen told.between others d.tied in
     let out = came_out t (Some found) in
-    let adds : Adds (extent_of w.shape) (Some (step, intent)) (Some found) u.event out d.notes g.after = subst (λ (m : Move). Adds (extent_of w.shape) (step_in m) (Some found) u.event out d.notes g.after) asked g.adds in
-    let tied : Ties Judged w.shape w.thread g.after (with_event_of w.thread u.event h) = added_notes_are_tied Judged w.shape (extent_of w.shape) (Some (step, intent)) (Some found) w.thread u.event out h d.notes g.after adds c.holds before in
+    let adds : Adds w.shape (extent_of w.shape) (Some (step, intent)) (Some found) u.event out d.notes g.after = subst (λ (m : Move). Adds w.shape (extent_of w.shape) (step_in m) (Some found) u.event out d.notes g.after) asked g.adds in
+    let tied : Ties Judged w.shape w.thread g.after (with_event_of w.thread u.event h) = added_notes_are_tied Judged w.shape (extent_of w.shape) (Some (step, intent)) (Some found) w.thread u.event out h d.notes g.after adds (c.holds d.notes) before in
     let seen : v'.seen ≡ with_event_of w.thread u.event h =
     ap (λ (x : View). x.seen) told.after ∙ ((λ j. event_list (d.number j) (c.event j) ++ h) ∙ sym (event_is w.thread u.event h)) in record {
       takes_it = takes_it;
@@ -240,8 +282,9 @@ goes_on w t v step intent found v' served d asked told c =
         legal = told.legal;
         in_shape = told.in_shape;
         notes = g.after;
-        stands = g.stands;
+        stands = subst (λ (fs : List Frame). StandsFor (known v' w) (turned t (Some found)) fs g.after) (chain_none w.shape t (Some found) t.doing d.asks) g.stands;
         tied = subst (Ties Judged w.shape w.thread g.after) (sym seen) tied;
+        untaken = c.untaken;
         count = c.count;
         owns = c.owns;
         classed = c.classed;
@@ -380,17 +423,19 @@ no_last slot act intent finish none = none
 no_last slot act intent drop none = none
 
 -- the words show at most what a cell refers to that is copied
-pub cell_shown : (shape : HeapShape) (l : Extent) (asked : Step) (intent : Intent) (last p : ℕ) (event : Option Act) (out : Option CameOut) (h : History) → ReadsNoName l asked intent → TakesNoLast event
-    → ((x : CameOut) → out ≡ Some x → event ≡ Some (acts.Copy (origins.Cell x.cell) x.hand) → Holds Judged shape (heap_after h) (Refers x.cell x.kind x.place)) → WordsHold Judged shape l (Some (asked, intent)) (Some last) p event out h
-cell_shown shape l asked intent last p event out h no_name_read no_end refers = record {
+pub cell_shown : (shape : HeapShape) → HasNoFields shape → (l : Extent) (asked : Step) (intent : Intent) (last p : ℕ) (event : Option Act) (out : Option CameOut) (h : History) → ReadsNoName l asked intent → TakesNoLast event
+    → ((x : CameOut) → out ≡ Some x → event ≡ Some (acts.Copy (origins.Cell x.cell) x.hand) → Holds Judged shape (heap_after h) (Refers x.cell x.kind x.place)) → AllHold Judged shape l (Some (asked, intent)) (Some last) p event out h
+cell_shown shape bare l asked intent last p event out h no_name_read no_end refers now = record {
   names = λ slot w i a named is. absurd (no_name l slot i named (subst (λ (x : Step × Intent). ReadsNoName l x.0 x.1) (Some-inj a) no_name_read));
   refers = refers;
-  entries = λ slot w new act i c e a takes is counts. absurd (no_last slot act i takes (subst TakesNoLast e no_end));
+  nil_fields = λ slot field of a is name lt. no_field shape of.class field bare lt;
+  fields = λ slot field w of a is some name lt. no_field shape of.class field bare lt;
+  entries = λ slot w new act i entry e a takes is counts. absurd (no_last slot act i takes (subst TakesNoLast e no_end));
 }
 
-pub nothing_shown : (shape : HeapShape) (l : Extent) (asked : Step) (intent : Intent) (last p : ℕ) (event : Option Act) (h : History) → ReadsNoName l asked intent → TakesNoLast event
-    → WordsHold Judged shape l (Some (asked, intent)) (Some last) p event None h
-nothing_shown shape l asked intent last p event h no_name_read no_end = cell_shown shape l asked intent last p event None h no_name_read no_end (λ x e. absurd (None≢Some x e))
+pub nothing_shown : (shape : HeapShape) → HasNoFields shape → (l : Extent) (asked : Step) (intent : Intent) (last p : ℕ) (event : Option Act) (h : History) → ReadsNoName l asked intent → TakesNoLast event
+    → AllHold Judged shape l (Some (asked, intent)) (Some last) p event None h
+nothing_shown shape bare l asked intent last p event h no_name_read no_end = cell_shown shape bare l asked intent last p event None h no_name_read no_end (λ x e. absurd (None≢Some x e))
 
 pub count_no_name : (l : Extent) (s i : ℕ) → ReadsNoName l (steps.Load (number l (Count s))) (intents.Deinit i)
 count_no_name l s i x e = omega arith
@@ -402,13 +447,13 @@ next_no_name l s i x e = omega arith
 
 -- the word that is read shows this
 pub stays_shown : (w : Work) (t : Thread) (v : View) (step : Step) (intent : Intent) (found : ℕ) (v' : View) (d : Doing) (u : Thread) (told : Told w.shape intent step v found v') → Facts w t v d → takes_at w.shape (Some found) d → came_out_at t (Some found) d ≡ None → act_of w.shape v step intent found ≡ None
-    → u.event ≡ None → WordsHold Judged w.shape (extent_of w.shape) (Some (step, intent)) (Some found) w.thread None None (told.between ++ v.seen) → u.hands ≡ t.hands → length u.vars ≡ length t.vars → ((f : Held → ℕ) → references u.vars u.hands u.doing f ≡ references t.vars t.hands d f)
-    → AreOfClasses w.classes v' u.vars → ComesOfClass w.classes v' u.doing → Asks w.shape u u.doing → UnderWay w.shape v' u.doing → Comes w t v step intent found v' (told.between ++ v.seen) d u
-stays_shown w t v step intent found v' d u told f takes out act event holds hands count same classed coming asks under =
+    → u.event ≡ None → AllHold Judged w.shape (extent_of w.shape) (Some (step, intent)) (Some found) w.thread None None (told.between ++ v.seen) → u.hands ≡ t.hands → length u.vars ≡ length t.vars → ((f : Held → ℕ) → references u.vars u.hands u.doing f ≡ references t.vars t.hands d f)
+    → AreOfClasses w.classes v' u.vars → ComesOfClass w.classes v' u.doing → Asks w.shape u u.doing → UnderWay w.shape v' u.doing → u.taken ≡ 0 → Comes w t v step intent found v' (told.between ++ v.seen) d u
+stays_shown w t v step intent found v' d u told f takes out act event holds hands count same classed coming asks under untaken =
     let c = told_by w.shape intent step v found v' None act told in record {
       takes_it = takes;
       event = act ∙ sym event;
-      holds = subst (λ (x : Option Act × Option CameOut). WordsHold Judged w.shape (extent_of w.shape) (Some (step, intent)) (Some found) w.thread x.0 x.1 (told.between ++ v.seen)) (λ j. (sym event j, sym out j)) holds;
+      holds = subst (λ (x : Option Act × Option CameOut). AllHold Judged w.shape (extent_of w.shape) (Some (step, intent)) (Some found) w.thread x.0 x.1 (told.between ++ v.seen)) (λ j. (sym event j, sym out j)) holds;
       knows = subst (KnowsOf v') (sym out) (knows_none v');
       count = count ∙ f.count;
       owns = subst (λ n. Owns v' n (references u.vars u.hands u.doing)) (sym hands) (owns_still w.shape 1 v v' t.hands (references t.vars t.hands d) (references u.vars u.hands u.doing) c f.owns same);
@@ -417,11 +462,12 @@ stays_shown w t v step intent found v' d u told f takes out act event holds hand
       no_claim = claims_still w.shape 1 v v' c f.no_claim;
       asks = asks;
       under_way = under;
+      untaken = untaken;
     }
 
 -- it shows no name
 pub stays : (w : Work) (t : Thread) (v : View) (step : Step) (intent : Intent) (found : ℕ) (v' : View) (d : Doing) (u : Thread) (told : Told w.shape intent step v found v') → Facts w t v d → takes_at w.shape (Some found) d → came_out_at t (Some found) d ≡ None → act_of w.shape v step intent found ≡ None
     → u.event ≡ None → ReadsNoName (extent_of w.shape) step intent → u.hands ≡ t.hands → length u.vars ≡ length t.vars → ((f : Held → ℕ) → references u.vars u.hands u.doing f ≡ references t.vars t.hands d f) → AreOfClasses w.classes v' u.vars → ComesOfClass w.classes v' u.doing
-    → Asks w.shape u u.doing → UnderWay w.shape v' u.doing → Comes w t v step intent found v' (told.between ++ v.seen) d u
+    → Asks w.shape u u.doing → UnderWay w.shape v' u.doing → u.taken ≡ 0 → Comes w t v step intent found v' (told.between ++ v.seen) d u
 stays w t v step intent found v' d u told f takes out act event no_name_read =
-    stays_shown w t v step intent found v' d u told f takes out act event (nothing_shown w.shape (extent_of w.shape) step intent found w.thread None (told.between ++ v.seen) no_name_read tt)
+    stays_shown w t v step intent found v' d u told f takes out act event (nothing_shown w.shape f.bare (extent_of w.shape) step intent found w.thread None (told.between ++ v.seen) no_name_read tt)

@@ -4,6 +4,8 @@ use Rattle.std.proofs.lemmas.List.{append-nil, length-replicate}
 use Rattle.std.specs.Prelude.{All}
 use Rattle.std.proofs.lemmas.List.Sums.{sum_by-cons}
 use Rattle.arc_model.specs.declared.event.Act.{Act}
+use Rattle.arc_model.specs.declared.event.Act.TheVariants as acts
+use Rattle.arc_model.specs.declared.shape.Kind.TheVariants.{Unowned}
 use Rattle.arc_model.specs.Heaps.{Hand}
 use Rattle.arc_model.specs.Holders.{is_claimed_by}
 use Rattle.arc_model.specs.History.{History, heap_after, IsLegal}
@@ -23,14 +25,15 @@ use Rattle.arc_rule.specs.declared.step.Intent.{Intent}
 use Rattle.arc_rule.specs.declared.step.Intent.TheVariants as intents
 use Rattle.arc_rule.specs.declared.attempt.At.{At as AttemptAt}
 use Rattle.arc_rule.specs.declared.attempt.At.TheVariants as attempt
-use Rattle.arc_plan.specs.declared.slots.Once.{Once}
-use Rattle.arc_plan.specs.declared.slots.Once.TheVariants as once
-use Rattle.arc_plan.specs.Attempts.{Attempt}
-use Rattle.arc_plan.specs.Slots.{OneStep}
 use Rattle.arc_rule.specs.Bits.{but_bit_of}
-use Rattle.arc_cells.specs.declared.bare.At.{At as CascadeAt}
-use Rattle.arc_cells.specs.declared.bare.At.TheVariants as ats
-use Rattle.arc_cells.specs.BareCascades.{CascadeState}
+use Rattle.arc_side.specs.declared.slot_end.At.TheVariants as slot_ends
+use Rattle.arc_side.specs.Downs.{Fall}
+use Rattle.arc_side.specs.SlotEnds.{SlotEnding}
+use Rattle.arc_cells.specs.declared.cascade.At.{At as CascadeAt}
+use Rattle.arc_cells.specs.declared.cascade.At.TheVariants as ats
+use Rattle.arc_cells.specs.Chains.{parent_in}
+use Rattle.arc_cells.specs.Cascades.{CascadeState}
+use Rattle.arc_deinits.specs.Stands.{ChainFitsAt}
 use Rattle.arc_ops.specs.declared.stepper.Held.{Held}
 use Rattle.arc_ops.specs.declared.stepper.Doing.{Doing}
 use Rattle.arc_ops.specs.declared.stepper.Doing.TheVariants as doings
@@ -39,14 +42,14 @@ use Rattle.arc_ops.specs.declared.stepper.Move.TheVariants as moves
 use Rattle.arc_script.specs.declared.script.Op.{Op}
 use Rattle.arc_programs.specs.Programs.{OpsDone}
 use Rattle.arc_programs.specs.ProgramsTied.{hands_in}
-use Rattle.arc_ops.specs.Programs.{phases_of, program_of, ops_in_first, vars_of, VarsFit}
+use Rattle.arc_served.specs.Programs.{phases_of, program_of, ops_in_first, vars_of, VarsFit}
 use Rattle.arc_ops.proofs.Made.{is_stepper}
 use Rattle.arc_ops.specs.Thread.{Thread, value}
-use Rattle.arc_ops.specs.Begins.{begun}
+use Rattle.arc_ops.specs.Begins.{begun, next_op}
 use Rattle.arc_ops.specs.Turns.{turned_at}
-use Rattle.arc_ops.specs.Takes.{takes_at}
+use Rattle.arc_ops.specs.Takes.{takes_at, HasHandLeft}
 use Rattle.arc_spelled.specs.Came.{came_out_at}
-use Rattle.arc_spelled.specs.StepperStands.{Work, StandsFor, IsStep, step_in, variables}
+use Rattle.arc_spelled.specs.StepperStands.{Work, StandsFor, IsStep, step_in, variables, chain_at, FitsChainAt}
 use Rattle.arc_spelled.specs.StepperStands as spelled
 use Rattle.arc_spelled.specs.Shown.{Adds}
 use Rattle.arc_model.specs.Spelling.{Note}
@@ -63,7 +66,7 @@ use Rattle.arc_ops_passes.specs.References.{weigh, in_vars, references, is_ref, 
 use Rattle.arc_ops_passes.specs.Drives.{Asks, UnderWay, Drives}
 use Rattle.arc_ops_passes.specs.Laws.{NewSteppersDrive, ScriptsNameVariables, PhasesAreDone, PhasesBegin, StepsAreAllowed, SteppersDriveOn, EndedSteppersHoldNothing, IsServedWord}
 use Rattle.arc_ops_passes.proofs.Walks.{begins_walks}
-use Rattle.arc_ops_passes.proofs.Goes.{quiet, known, ops_fit, Facts, Comes, facts, goes_on, as_asked, fresh_under, fresh_coming}
+use Rattle.arc_ops_passes.proofs.Goes.{quiet, known, ops_fit, Facts, Comes, facts, has_hand_left, goes_on, as_asked, fresh_under, fresh_coming}
 use Rattle.arc_ops_passes.proofs.Owned.{owns_same}
 use Rattle.arc_ops_passes.proofs.Makes.{makes_allowed, makes_come}
 use Rattle.arc_ops_passes.proofs.Gains.{gains_allowed, gains_come}
@@ -74,47 +77,67 @@ use Rattle.arc_ops_passes.proofs.Vacates as vacates
 use Rattle.arc_ops_passes.proofs.Vacates.{vacating_allowed, vacating_comes}
 use Rattle.arc_ops_passes.proofs.Drops.{drops_allowed, drops_come}
 use Rattle.arc_ops_passes.proofs.Dies as dies
-use Rattle.arc_ops_passes.proofs.Dies.{dying}
+use Rattle.arc_ops_passes.proofs.Dies.{dying, plus_none}
 
 -- ---- an object dies: by where the cascade is
 
 may : (w : Work) (v : View) (m : Move) (step other : Step) (intent its : Intent) → m ≡ moves.Step other its → m ≡ moves.Step step intent → Admits w.shape v other its → Admits w.shape v step intent
 may w v m = as_asked m (λ p. Admits w.shape v p.0 p.1)
 
+-- the plan by which it finishes, and the end of its slot
+abbrev finish_at : Work → ℕ → AttemptAt → CascadeAt
+finish_at w s b = ats.Finishing None (record { layout = extent_of w.shape; slot = s; list = Unowned; entry = None; at = b })
+
+abbrev end_of : Work → ℕ → CascadeAt
+end_of w s = ats.Ending None (record { layout = extent_of w.shape; slot = s; entry = None; at = slot_ends.Vacating; event = None })
+
 dies_allowed : (w : Work) (t : Thread) (v : View) (c : CascadeState) (step : Step) (intent : Intent) → Facts w t v (doings.Dying c) → t.asked ≡ moves.Step step intent → Admits w.shape v step intent
 dies_allowed w t v c step intent f asked = at c.at (subst (λ (d : CascadeState). Facts w t v (doings.Dying d)) f.asks.0 f)
   where
-    s : ℕ
-    s = c.slot
+    FactsAt : CascadeAt → Type 0
+    FactsAt a = Facts w t v (dying w c.slot (c.before, c.taken) a c.event)
 
-    finishing : (b : AttemptAt) → Facts w t v (dying w c.slot (ats.Finishing (record { layout = extent_of w.shape; slot = c.slot; at = b })) c.event) → Admits w.shape v step intent
+    finishing : (b : AttemptAt) → FactsAt (finish_at w c.slot b) → Admits w.shape v step intent
     finishing attempt.Start g = absurd g.asks.1.1
-    finishing attempt.Loading g = may w v t.asked step (Load (number (extent_of w.shape) (Count c.slot))) intent (intents.Deinit c.slot) g.asks.1.1 asked (dies.load_allowed w t v c.slot (ats.Finishing (record { layout = extent_of w.shape; slot = c.slot; at = attempt.Loading })) c.event g g.under_way.duty g.under_way.working)
+    finishing attempt.Loading g = may w v t.asked step (Load (number (extent_of w.shape) (Count c.slot))) intent (intents.Deinit c.slot) g.asks.1.1 asked (dies.load_allowed w t v c.slot (c.before, c.taken) (finish_at w c.slot attempt.Loading) c.event g g.under_way.duty g.under_way.working)
     finishing (attempt.Exchanging seen new) g =
         may w v t.asked step (Exchange (number (extent_of w.shape) (Count c.slot)) seen new) intent (intents.Deinit c.slot) g.asks.1.1 asked
-        (dies.swap_allowed w t v c.slot (ats.Finishing (record { layout = extent_of w.shape; slot = c.slot; at = attempt.Exchanging seen new })) c.event g g.under_way.duty seen new g.under_way.working g.under_way.rests)
+        (dies.swap_allowed w t v c.slot (c.before, c.taken) (finish_at w c.slot (attempt.Exchanging seen new)) c.event g g.under_way.duty seen new g.under_way.working g.under_way.rests)
     finishing attempt.Ended g = absurd g.asks.1.1
 
-    vacating : (n : Once) → Facts w t v (dying w c.slot (ats.Vacating (record { layout = extent_of w.shape; slot = c.slot; at = n })) c.event) → Admits w.shape v step intent
-    vacating once.Start g = absurd g.asks.1.1
-    vacating once.Asked g = may w v t.asked step (And (number (extent_of w.shape) (SlotBits (c.slot / 64))) (but_bit_of c.slot)) intent intents.Vacate g.asks.1.1 asked (vacates.vacate_allowed w t v c.slot (dying w c.slot (ats.Vacating (record { layout = extent_of w.shape; slot = c.slot; at = once.Asked })) c.event) g (λ x. omega arith) (λ found. refl) g.under_way.duty g.under_way.working)
-    vacating once.Ended g = absurd g.asks.1.1
+    ending : FactsAt (end_of w c.slot) → Admits w.shape v step intent
+    ending g = may w v t.asked step (And (number (extent_of w.shape) (SlotBits (c.slot / 64))) (but_bit_of c.slot)) intent intents.Vacate g.asks.1.1 asked
+        (vacates.vacate_allowed w t v c.slot (dying w c.slot (c.before, c.taken) (end_of w c.slot) c.event) g (λ x. omega arith) (λ found. refl) g.under_way.duty g.under_way.working)
 
-    at : (a : CascadeAt) → Facts w t v (dying w c.slot a c.event) → Admits w.shape v step intent
+    at : (a : CascadeAt) → FactsAt a → Admits w.shape v step intent
     at ats.Start g = absurd g.asks.1
-    at ats.Entering g = may w v t.asked step (Store (number (extent_of w.shape) (Next c.slot)) 0) intent (intents.Deinit c.slot) g.asks.1 asked (dies.enter_allowed w t v c.slot ats.Entering c.event g g.under_way.duty g.under_way.working)
-    at ats.Naming g = may w v t.asked step (Load (number (extent_of w.shape) (Isa c.slot))) intent (intents.Deinit c.slot) g.asks.1 asked (dies.name_allowed w t v c.slot ats.Naming c.event g g.under_way.duty g.under_way.working)
+    at ats.Entering g = may w v t.asked step (Store (number (extent_of w.shape) (Next c.slot)) 0) intent (intents.Deinit c.slot) g.asks.1 asked (dies.enter_allowed w t v c.slot (c.before, c.taken) ats.Entering c.event g g.under_way.duty g.under_way.working)
+    at ats.Naming g = may w v t.asked step (Load (number (extent_of w.shape) (Isa c.slot))) intent (intents.Deinit c.slot) g.asks.1 asked (dies.name_allowed w t v c.slot (c.before, c.taken) ats.Naming c.event g g.under_way.duty g.under_way.working)
     at (ats.Named name) g = absurd g.asks.1
-    at ats.Leaving g = may w v t.asked step (Load (number (extent_of w.shape) (Next c.slot))) intent (intents.Deinit c.slot) g.asks.1 asked (dies.leave_allowed w t v c.slot ats.Leaving c.event g g.under_way.duty g.under_way.working)
-    at (ats.Finishing p) g = finishing p.at (subst (λ (q : Attempt). Facts w t v (dying w c.slot (ats.Finishing q) c.event)) g.asks.1.0 g)
-    at (ats.Vacating p) g = vacating p.at (subst (λ (q : OneStep). Facts w t v (dying w c.slot (ats.Vacating q) c.event)) g.asks.1.0 g)
+    at (ats.Looking name field) g = absurd g.asks.1
+    at (ats.Taking name field place) g = absurd g.asks.1
+    at (ats.Dropping name field reference) g = absurd g.asks.1
+    at ats.Leaving g = may w v t.asked step (Load (number (extent_of w.shape) (Next c.slot))) intent (intents.Deinit c.slot) g.asks.1 asked (dies.leave_allowed w t v c.slot (c.before, c.taken) ats.Leaving c.event g g.under_way.duty g.under_way.working)
+    at (ats.Finishing None p) g = finishing p.at (subst (λ (q : Fall). FactsAt (ats.Finishing None q)) g.asks.1.0 g)
+    at (ats.Finishing (Some q) p) g = absurd g.asks.1
+    at (ats.Ending None p) g = ending (subst (λ (q : SlotEnding). FactsAt (ats.Ending None q)) g.asks.1.0 g)
+    at (ats.Ending (Some q) p) g = absurd g.asks.1
+    at (ats.Resuming field) g = absurd g.asks.1
     at ats.Ended g = absurd g.asks.1
 
-abbrev DyingCase : Work → Thread → View → ℕ → View → ℕ → Option Act → CascadeAt → Step × Intent → Type 0
-DyingCase w t v found v' s e a x = IsServedWord w.shape x.0 x.1 found → (told : Told w.shape x.1 x.0 v found v') → Comes w t v x.0 x.1 found v' (told.between ++ v.seen) (dying w s a e) (turned_at (Some found) (dying w s a e) (quiet t))
+abbrev DyingCase : Work → Thread → View → ℕ → View → ℕ → ℕ × ℕ → Option Act → CascadeAt → Step × Intent → Type 0
+DyingCase w t v found v' s n e a x = IsServedWord w.shape x.0 x.1 found → (told : Told w.shape x.1 x.0 v found v') → Comes w t v x.0 x.1 found v' (told.between ++ v.seen) (dying w s n a e) (turned_at (Some found) (dying w s n a e) (quiet t))
 
-come : (w : Work) (t : Thread) (v : View) (found : ℕ) (v' : View) (s : ℕ) (e : Option Act) (a : CascadeAt) (step other : Step) (intent its : Intent) → t.asked ≡ moves.Step other its → t.asked ≡ moves.Step step intent → DyingCase w t v found v' s e a (other, its) → DyingCase w t v found v' s e a (step, intent)
-come w t v found v' s e a = as_asked t.asked (DyingCase w t v found v' s e a)
+come : (w : Work) (t : Thread) (v : View) (found : ℕ) (v' : View) (s : ℕ) (n : ℕ × ℕ) (e : Option Act) (a : CascadeAt) (step other : Step) (intent its : Intent) → t.asked ≡ moves.Step other its → t.asked ≡ moves.Step step intent → DyingCase w t v found v' s n e a (other, its) → DyingCase w t v found v' s n e a (step, intent)
+come w t v found v' s n e a = as_asked t.asked (DyingCase w t v found v' s n e a)
+
+-- its slot is vacated
+vacates_it : (w : Work) (t : Thread) (v : View) (s : ℕ) (n : ℕ × ℕ) (e : Option Act) (found : ℕ) (v' : View) → Facts w t v (dying w s n (end_of w s) e) → (told : Told w.shape intents.Vacate (And (number (extent_of w.shape) (SlotBits (s / 64))) (but_bit_of s)) v found v')
+    → Comes w t v (And (number (extent_of w.shape) (SlotBits (s / 64))) (but_bit_of s)) intents.Vacate found v' (told.between ++ v.seen) (dying w s n (end_of w s) e) (turned_at (Some found) (dying w s n (end_of w s) e) (quiet t))
+vacates_it w t v s n e found v' g told =
+    subst (λ (x : ℕ × ℕ). Comes w t v (And (number (extent_of w.shape) (SlotBits (s / 64))) (but_bit_of s)) intents.Vacate found v' (told.between ++ v.seen) (dying w s n (end_of w s) e) (next_op (record (quiet t) { event = Some (acts.Vacate s); hands = x.0; taken = x.1 })))
+    (λ j. (sym (plus_none t.hands) j, sym (plus_none t.taken) j))
+    (vacates.vacates w t v s (dying w s n (end_of w s) e) g (λ x. omega arith) (λ found. refl) g.under_way.duty g.under_way.working found v' told (λ x. cc))
 
 dies_come : (w : Work) (t : Thread) (v : View) (c : CascadeState) (step : Step) (intent : Intent) (found : ℕ) (v' : View) → Facts w t v (doings.Dying c) → t.asked ≡ moves.Step step intent → IsServedWord w.shape step intent found
     → (told : Told w.shape intent step v found v') → Comes w t v step intent found v' (told.between ++ v.seen) (doings.Dying c) (turned_at (Some found) (doings.Dying c) (quiet t))
@@ -122,32 +145,60 @@ dies_come w t v c step intent found v' f asked =
     subst (λ (d : CascadeState). IsServedWord w.shape step intent found → (told : Told w.shape intent step v found v') → Comes w t v step intent found v' (told.between ++ v.seen) (doings.Dying d) (turned_at (Some found) (doings.Dying d) (quiet t))) (sym f.asks.0)
     (at c.at (subst (λ (d : CascadeState). Facts w t v (doings.Dying d)) f.asks.0 f))
   where
-    Case : CascadeAt → Type 0
-    Case a = DyingCase w t v found v' c.slot c.event a (step, intent)
+    FactsAt : CascadeAt → Type 0
+    FactsAt a = Facts w t v (dying w c.slot (c.before, c.taken) a c.event)
 
-    finishing : (b : AttemptAt) → Facts w t v (dying w c.slot (ats.Finishing (record { layout = extent_of w.shape; slot = c.slot; at = b })) c.event) → Case (ats.Finishing (record { layout = extent_of w.shape; slot = c.slot; at = b }))
+    Case : CascadeAt → Type 0
+    Case a = DyingCase w t v found v' c.slot (c.before, c.taken) c.event a (step, intent)
+
+    is : (a : CascadeAt) (other : Step) (its : Intent) → t.asked ≡ moves.Step other its → DyingCase w t v found v' c.slot (c.before, c.taken) c.event a (other, its) → Case a
+    is a other its ask = come w t v found v' c.slot (c.before, c.taken) c.event a step other intent its ask asked
+
+    finishing : (b : AttemptAt) → FactsAt (finish_at w c.slot b) → Case (finish_at w c.slot b)
     finishing attempt.Start g = absurd g.asks.1.1
-    finishing attempt.Loading g = let a = ats.Finishing (record { layout = extent_of w.shape; slot = c.slot; at = attempt.Loading }) in
-        come w t v found v' c.slot c.event a step (Load (number (extent_of w.shape) (Count c.slot))) intent (intents.Deinit c.slot) g.asks.1.1 asked (λ served told. dies.loads w t v c.slot a c.event g g.under_way.duty found v' told refl g.under_way.working (served refl))
-    finishing (attempt.Exchanging seen new) g = let a = ats.Finishing (record { layout = extent_of w.shape; slot = c.slot; at = attempt.Exchanging seen new }) in
-        come w t v found v' c.slot c.event a step (Exchange (number (extent_of w.shape) (Count c.slot)) seen new) intent (intents.Deinit c.slot) g.asks.1.1 asked (λ served told. dies.swaps w t v c.slot a c.event g g.under_way.duty seen new found v' told refl g.under_way.working g.under_way.rests)
+    finishing attempt.Loading g = let a = finish_at w c.slot attempt.Loading in
+        is a (Load (number (extent_of w.shape) (Count c.slot))) (intents.Deinit c.slot) g.asks.1.1 (λ served told. dies.loads w t v c.slot (c.before, c.taken) a c.event g g.under_way.duty found v' told refl g.under_way.working (served refl))
+    finishing (attempt.Exchanging seen new) g = let a = finish_at w c.slot (attempt.Exchanging seen new) in
+        is a (Exchange (number (extent_of w.shape) (Count c.slot)) seen new) (intents.Deinit c.slot) g.asks.1.1 (λ served told. dies.swaps w t v c.slot (c.before, c.taken) a c.event g g.under_way.duty seen new found v' told refl g.under_way.working g.under_way.rests)
     finishing attempt.Ended g = absurd g.asks.1.1
 
-    vacating : (n : Once) → Facts w t v (dying w c.slot (ats.Vacating (record { layout = extent_of w.shape; slot = c.slot; at = n })) c.event) → Case (ats.Vacating (record { layout = extent_of w.shape; slot = c.slot; at = n }))
-    vacating once.Start g = absurd g.asks.1.1
-    vacating once.Asked g = let a = ats.Vacating (record { layout = extent_of w.shape; slot = c.slot; at = once.Asked }) in
-        come w t v found v' c.slot c.event a step (And (number (extent_of w.shape) (SlotBits (c.slot / 64))) (but_bit_of c.slot)) intent intents.Vacate g.asks.1.1 asked (λ served told. vacates.vacates w t v c.slot (dying w c.slot a c.event) g (λ x. omega arith) (λ found. refl) g.under_way.duty g.under_way.working found v' told tt)
-    vacating once.Ended g = absurd g.asks.1.1
+    ending : FactsAt (end_of w c.slot) → Case (end_of w c.slot)
+    ending g = is (end_of w c.slot) (And (number (extent_of w.shape) (SlotBits (c.slot / 64))) (but_bit_of c.slot)) intents.Vacate g.asks.1.1 (λ served told. vacates_it w t v c.slot (c.before, c.taken) c.event found v' g told)
 
-    at : (a : CascadeAt) → Facts w t v (dying w c.slot a c.event) → Case a
+    at : (a : CascadeAt) → FactsAt a → Case a
     at ats.Start g = absurd g.asks.1
-    at ats.Entering g = come w t v found v' c.slot c.event ats.Entering step (Store (number (extent_of w.shape) (Next c.slot)) 0) intent (intents.Deinit c.slot) g.asks.1 asked (λ served told. dies.enters w t v c.slot ats.Entering c.event g g.under_way.duty found v' told refl g.under_way.working)
-    at ats.Naming g = come w t v found v' c.slot c.event ats.Naming step (Load (number (extent_of w.shape) (Isa c.slot))) intent (intents.Deinit c.slot) g.asks.1 asked (λ served told. dies.names w t v c.slot ats.Naming c.event g g.under_way.duty found v' told refl g.under_way.working)
+    at ats.Entering g = is ats.Entering (Store (number (extent_of w.shape) (Next c.slot)) 0) (intents.Deinit c.slot) g.asks.1 (λ served told. dies.enters w t v c.slot (c.before, c.taken) ats.Entering c.event g g.under_way.duty found v' told refl g.under_way.working)
+    at ats.Naming g = is ats.Naming (Load (number (extent_of w.shape) (Isa c.slot))) (intents.Deinit c.slot) g.asks.1 (λ served told. dies.names w t v c.slot (c.before, c.taken) ats.Naming c.event g g.under_way.duty found v' told refl g.under_way.working)
     at (ats.Named name) g = absurd g.asks.1
-    at ats.Leaving g = come w t v found v' c.slot c.event ats.Leaving step (Load (number (extent_of w.shape) (Next c.slot))) intent (intents.Deinit c.slot) g.asks.1 asked (λ served told. dies.leaves w t v c.slot ats.Leaving c.event g g.under_way.duty found v' told refl g.under_way.working)
-    at (ats.Finishing p) g = subst (λ (q : Attempt). Case (ats.Finishing q)) (sym g.asks.1.0) (finishing p.at (subst (λ (q : Attempt). Facts w t v (dying w c.slot (ats.Finishing q) c.event)) g.asks.1.0 g))
-    at (ats.Vacating p) g = subst (λ (q : OneStep). Case (ats.Vacating q)) (sym g.asks.1.0) (vacating p.at (subst (λ (q : OneStep). Facts w t v (dying w c.slot (ats.Vacating q) c.event)) g.asks.1.0 g))
+    at (ats.Looking name field) g = absurd g.asks.1
+    at (ats.Taking name field place) g = absurd g.asks.1
+    at (ats.Dropping name field reference) g = absurd g.asks.1
+    at ats.Leaving g = is ats.Leaving (Load (number (extent_of w.shape) (Next c.slot))) (intents.Deinit c.slot) g.asks.1 (λ served told. dies.leaves w t v c.slot (c.before, c.taken) ats.Leaving c.event g g.under_way.duty found v' told refl g.under_way.working)
+    at (ats.Finishing None p) g = subst (λ (q : Fall). Case (ats.Finishing None q)) (sym g.asks.1.0) (finishing p.at (subst (λ (q : Fall). FactsAt (ats.Finishing None q)) g.asks.1.0 g))
+    at (ats.Finishing (Some q) p) g = absurd g.asks.1
+    at (ats.Ending None p) g = subst (λ (q : SlotEnding). Case (ats.Ending None q)) (sym g.asks.1.0) (ending (subst (λ (q : SlotEnding). FactsAt (ats.Ending None q)) g.asks.1.0 g))
+    at (ats.Ending (Some q) p) g = absurd g.asks.1
+    at (ats.Resuming field) g = absurd g.asks.1
     at ats.Ended g = absurd g.asks.1
+
+-- no deinit waits for another, and the next word says so
+no_chain : (w : Work) (t : Thread) (v : View) (c : CascadeState) (step : Step) (intent : Intent) (found : ℕ) (v' : View) → Facts w t v (doings.Dying c) → t.asked ≡ moves.Step step intent → Told w.shape intent step v found v' → ChainFitsAt [] (Some found) c.at
+no_chain w t v c step intent found v' f asked = at c.at (subst (λ (d : CascadeState). Facts w t v (doings.Dying d)) f.asks.0 f)
+  where
+    at : (a : CascadeAt) → Facts w t v (dying w c.slot (c.before, c.taken) a c.event) → Told w.shape intent step v found v' → ChainFitsAt [] (Some found) a
+    at ats.Start g told = tt
+    at ats.Entering g told = tt
+    at ats.Naming g told = tt
+    at (ats.Named name) g told = tt
+    at (ats.Looking name field) g told = tt
+    at (ats.Taking name field place) g told = tt
+    at (ats.Dropping name field reference) g told = tt
+    at ats.Leaving g told = as_asked t.asked (λ x. Told w.shape x.1 x.0 v found v' → parent_in found ≡ None) step (Load (number (extent_of w.shape) (Next c.slot))) intent (intents.Deinit c.slot) g.asks.1 asked
+        (λ its. ap parent_in (dies.next_none w t v c.slot (c.before, c.taken) ats.Leaving c.event g g.under_way.duty found v' its g.under_way.working)) told
+    at (ats.Finishing parent p) g told = tt
+    at (ats.Ending parent p) g told = tt
+    at (ats.Resuming field) g told = absurd g.asks.1
+    at ats.Ended g told = tt
 
 -- ---- by what the stepper is doing
 
@@ -158,7 +209,7 @@ no_end_step : {X : Type 0} (m : Move) (step : Step) (intent : Intent) → m ≡ 
 no_end_step m step intent e asked = absurd (cc)
 
 pub steps_are_allowed : StepsAreAllowed
-steps_are_allowed w t v step intent served stepper sized d asked = at t.doing (facts w t v served stepper sized d)
+steps_are_allowed w t v step intent served bare stepper sized d asked = at t.doing (facts w t v served bare stepper sized d)
   where
     at : (e : Doing) → Facts w t v e → Admits w.shape v step intent
     at doings.Ready f = no_step t.asked step intent f.asks asked
@@ -175,9 +226,24 @@ steps_are_allowed w t v step intent served stepper sized d asked = at t.doing (f
     at doings.Ended f = no_end_step t.asked step intent f.asks.0 asked
 
 pub steppers_drive_on : SteppersDriveOn
-steppers_drive_on w t v step intent found v' served stepper sized d asked told word =
-    goes_on w t v step intent found v' served d asked told (at t.doing (facts w t v served stepper sized d) word)
+steppers_drive_on w t v step intent found v' served bare stepper sized d asked told word =
+    let f = facts w t v served bare stepper sized d in
+    goes_on w t v step intent found v' served d asked told (chain t.doing f) (at t.doing f word)
   where
+    chain : (e : Doing) → Facts w t v e → FitsChainAt [] (Some found) e
+    chain doings.Ready f = tt
+    chain (doings.Making to name plan) f = tt
+    chain (doings.Gaining gain to from plan) f = tt
+    chain (doings.Naming to held plan) f = tt
+    chain (doings.Opening to cell plan) f = tt
+    chain (doings.Closing to cell held plan) f = tt
+    chain (doings.Setting from cell plan) f = tt
+    chain (doings.Clearing plan) f = tt
+    chain (doings.Dropping held plan) f = tt
+    chain (doings.Dying c) f = no_chain w t v c step intent found v' f asked told
+    chain (doings.Vacating s plan) f = tt
+    chain doings.Ended f = tt
+
     at : (e : Doing) → Facts w t v e → IsServedWord w.shape step intent found → Comes w t v step intent found v' (told.between ++ v.seen) e (turned_at (Some found) e (quiet t))
     at doings.Ready f word = no_step t.asked step intent f.asks asked
     at (doings.Making to name plan) f word = makes_come w t v to name plan step intent found v' f asked told
@@ -212,6 +278,7 @@ new_steppers_drive script p came v n = record {
   notes = [];
   stands = steppers_begin script p (hands_in v.number v.seen);
   tied = subst (Ties Judged script.shape p []) (append-nil v.seen) (ties_others Judged script.shape p [] [] v.seen n.unused start);
+  untaken = refl;
   count = length-replicate (vars_of script p) None;
   owns = record {
     leads = λ h one. let z = zero_of (is_ref h) in absurd (omega arith);
@@ -241,20 +308,21 @@ phases_are_done script p came t v d asked = record {
   notes = d.notes;
   tied = d.tied;
   done = subst (λ q. OpsDone script.shape p (hands_in q v.seen) (program_of script p) (vars_of script p) (ops_in_first t.phase (phases_of script p)) (variables t.vars) d.notes) d.number
-      (ready_steppers_have_done script p (hands_in v.number v.seen) t d.notes d.stands asked);
+      (ready_steppers_have_done script p (hands_in v.number v.seen) t [] d.notes d.stands asked);
 }
 
 pub phases_begin : PhasesBegin
-phases_begin w t v served fits d asked = at t.doing d.stands.asks d.owns d.under_way (λ takes out.
+phases_begin w t v served fits d asked = at t.doing d.stands.asks d.owns d.under_way (λ takes chain out.
     let more = hands_in v.number v.seen in
-    let g = stepper_goes_on (known v w) (served-too w more served) more t None d.notes d.stands takes (λ k r e. e) (λ x e. absurd (None≢Some x (sym out ∙ e))) in
+    let g = stepper_goes_on (known v w) (served-too w more served) more t [] None d.notes d.stands (takes, has_hand_left t d.untaken) chain (λ k r e. e) (λ x e. absurd (None≢Some x (sym out ∙ e))) in
     (g.after, g.adds, g.stands))
   where
     Went : Doing → Type 0
-    Went e = takes_at t.shape None e → came_out_at t None e ≡ None → (after : List Note) × Adds (extent_of w.shape) (step_in t.asked) None (turned_at None e (quiet t)).event (came_out_at t None e) d.notes after × StandsFor (known v w) (turned_at None e (quiet t)) after
+    Went e = takes_at t.shape None e → FitsChainAt [] None e → came_out_at t None e ≡ None
+        → (after : List Note) × Adds w.shape (extent_of w.shape) (step_in t.asked) None (turned_at None e (quiet t)).event (came_out_at t None e) d.notes after × StandsFor (known v w) (turned_at None e (quiet t)) (chain_at None [] e) after
 
     Begins : Doing → Type 0
-    Begins e = takes_at t.shape None e × Drives w (turned_at None e (quiet t)) v × ((turned_at None e (quiet t)).event ≡ None)
+    Begins e = (takes_at t.shape None e × HasHandLeft t) × Drives w (turned_at None e (quiet t)) v × ((turned_at None e (quiet t)).event ≡ None)
 
     -- it asks for no step
     no : (e : Doing) → IsStep t.asked → Begins e
@@ -268,12 +336,12 @@ phases_begin w t v served fits d asked = at t.doing d.stands.asks d.owns d.under
 
     at : (e : Doing) → spelled.Asks e t.asked → Owns v t.hands (references t.vars t.hands e) → UnderWay w.shape v e → Went e → Begins e
     at doings.Ready asks owns under went =
-        let g = went refl refl in
+        let g = went refl tt refl in
         let u : Thread = begun (quiet t) in
-        let walk = begins_walks w (LeadsTo v) (quiet t) (d.stands.works.layout_is, d.stands.works.shape_is) (ops_fit w (length t.vars) t.program served vars_fit d.stands.works.program_is) d.classed in
-        let holds : WordsHold Judged w.shape (extent_of w.shape) (step_in t.asked) None w.thread u.event None v.seen = record { names = λ slot x i a why l. absurd (None≢Some x l); refers = λ x e. absurd (None≢Some x e); entries = λ slot x n act i c e a takes l. absurd (None≢Some x l) } in
+        let walk = begins_walks w (LeadsTo v) (quiet t) (d.stands.works.layout_is, d.stands.works.shape_is, d.untaken) (ops_fit w (length t.vars) t.program served vars_fit d.stands.works.program_is) d.classed in
+        let holds : WordsHold Judged w.shape (extent_of w.shape) (step_in t.asked) None w.thread u.event None v.seen d.notes = record { names = λ slot x i a why l. absurd (None≢Some x l); refers = λ x e. absurd (None≢Some x e); nil_fields = λ slot field of a l. absurd (None≢Some 0 l); fields = λ slot field x of a l. absurd (None≢Some x l); entries = λ slot x n act i entry e a takes l. absurd (None≢Some x l) } in
         let tied = added_notes_are_tied Judged w.shape (extent_of w.shape) (step_in t.asked) None w.thread u.event None v.seen d.notes g.0 g.1 holds d.tied in (
-          refl,
+          (refl, has_hand_left t d.untaken),
           record {
             pass = d.pass;
             number = d.number;
@@ -289,6 +357,7 @@ phases_begin w t v served fits d asked = at t.doing d.stands.asks d.owns d.under
             no_claim = d.no_claim;
             asks = walk.asks;
             under_way = fresh_under w.shape v u.doing walk.fresh under.working under.none;
+            untaken = walk.untaken;
           },
           walk.event,
         )

@@ -5,6 +5,7 @@ use Rattle.std.proofs.lemmas.Bool.{cases_lt}
 use Rattle.std.proofs.lemmas.List.Sums.{sum_by-cons}
 use Rattle.arc_model.specs.declared.event.Act.{Act}
 use Rattle.arc_model.specs.declared.event.ObjectName.{ObjectName}
+use Rattle.arc_model.specs.declared.shape.Kind.TheVariants.{Unowned}
 use Rattle.arc_model.specs.Shapes.{HeapShape}
 use Rattle.arc_model.specs.Heaps.{Object}
 use Rattle.arc_model.specs.Holders.{at_slot, made_by}
@@ -17,15 +18,17 @@ use Rattle.arc_rule.specs.Isa.{IsName, IsIsaWord, isa_word_of, isa_name_of}
 use Rattle.arc_rule.specs.Places.{number}
 use Rattle.arc_rule.specs.Shown.{ShowsName}
 use Rattle.arc_rule.specs.declared.layout.Place.TheVariants.{Count, Isa}
+use Rattle.arc_rule.specs.declared.layout.Place.TheVariants as places
 use Rattle.arc_rule.specs.declared.step.Step.{Step}
 use Rattle.arc_rule.specs.declared.step.Step.TheVariants.{Load, Exchange}
 use Rattle.arc_rule.specs.declared.step.Intent.{Intent}
-use Rattle.arc_cells.specs.Cascades.{NamesClass}
-use Rattle.arc_spelled.specs.Spelled.{WordsHold}
+use Rattle.arc_side.specs.Inline.{counted_at}
+use Rattle.arc_cells.specs.Cascades.{HasNoFields, NamesClass}
 use Rattle.arc_view.specs.Holding.{At}
 use Rattle.arc_view.specs.Rule.{InShape, IsSized, news}
 use Rattle.arc_view.proofs.Classes.{made_named, news_named}
 use Rattle.arc_view.proofs.Strongs.{slot_found}
+use Rattle.arc_ops_passes.proofs.Fields.{AllHold, no_field}
 
 -- ---- the name of an object has its place in an isa word
 
@@ -112,26 +115,42 @@ count_slot l s slot seen new w n e = omega (arith, place e)
     place : Exchange (number l (Count s)) seen new ≡ Exchange (number l (Count slot)) w n → number l (Count s) ≡ number l (Count slot)
     place e = cc
 
+-- the words of slots stand before those of entries
+no_count_of_entry : (l : Extent) (s e seen new w n : ℕ) → s < l.slots → Exchange (number l (Count s)) seen new ≡ Exchange (number l (places.Unowned e)) w n → ⊥
+no_count_of_entry l s e seen new w n below x = omega (arith, below, place x)
+  where
+    place : Exchange (number l (Count s)) seen new ≡ Exchange (number l (places.Unowned e)) w n → number l (Count s) ≡ number l (places.Unowned e)
+    place x = cc
+
 no_exchange : (place other seen new : ℕ) → Load place ≡ Exchange other seen new → ⊥
 no_exchange place other seen new e = cc
 
 -- a load of a name, with no event
-pub name_shown : (shape : HeapShape) (l : Extent) (s found p : ℕ) (intent : Intent) (h : History) → option_map name_of (at_slot s (heap_after h)) ≡ Some (isa_name_of found) → WordsHold Judged shape l (Some (Load (number l (Isa s)), intent)) (Some found) p None None h
-name_shown shape l s found p intent h named = record {
+pub name_shown : (shape : HeapShape) → HasNoFields shape → (l : Extent) (s found p : ℕ) (intent : Intent) (h : History) → option_map name_of (at_slot s (heap_after h)) ≡ Some (isa_name_of found) → AllHold Judged shape l (Some (Load (number l (Isa s)), intent)) (Some found) p None None h
+name_shown shape bare l s found p intent h named now = record {
   names = λ slot w i asked why last.
       let same = isa_slot l s slot (step_is (Load (number l (Isa s))) (Load (number l (Isa slot))) intent i asked) in
       subst (λ (x : ℕ × ℕ). option_map name_of (at_slot x.0 (heap_after h)) ≡ Some (isa_name_of x.1)) (λ j. (same j, Some-inj last j)) named;
   refers = λ x e. absurd (None≢Some x e);
-  entries = λ slot w n act i c event. absurd (None≢Some act event);
+  nil_fields = λ slot field of a is name lt. no_field shape of.class field bare lt;
+  fields = λ slot field w of a is some name lt. no_field shape of.class field bare lt;
+  entries = λ slot w n act i entry event. absurd (None≢Some act event);
 }
 
 -- an exchange of counts whose event takes the last of a list of an object that has no entry
-pub no_entry_shown : (shape : HeapShape) (l : Extent) (s seen new found p : ℕ) (intent : Intent) (act : Act) (h : History) → option_map (λ (o : Object). o.entry) (at_slot s (heap_after (record { thread = p; act = act } ∷ h))) ≡ Some None
-    → WordsHold Judged shape l (Some (Exchange (number l (Count s)) seen new, intent)) (Some found) p (Some act) None h
-no_entry_shown shape l s seen new found p intent act h none = record {
+pub no_entry_shown : (shape : HeapShape) → HasNoFields shape → (l : Extent) (s seen new found p : ℕ) (intent : Intent) (act : Act) (h : History) → s < l.slots → option_map (λ (o : Object). o.entry) (at_slot s (heap_after (record { thread = p; act = act } ∷ h))) ≡ Some None
+    → AllHold Judged shape l (Some (Exchange (number l (Count s)) seen new, intent)) (Some found) p (Some act) None h
+no_entry_shown shape bare l s seen new found p intent act h below none now = record {
   names = λ slot w i asked. absurd (no_exchange (number l (Isa slot)) (number l (Count s)) seen new (sym (step_is (Exchange (number l (Count s)) seen new) (Load (number l (Isa slot))) intent i asked)));
   refers = λ x e. absurd (None≢Some x e);
-  entries = λ slot w n a i c event asked.
-      let same = count_slot l s slot seen new w n (step_is (Exchange (number l (Count s)) seen new) (Exchange (number l (Count slot)) w n) intent i asked) in
-      λ takes last counts. subst (λ (x : ℕ). option_map (λ (o : Object). o.entry) (at_slot x (heap_after (record { thread = p; act = act } ∷ h))) ≡ Some None) same none;
+  nil_fields = λ slot field of a is name lt. no_field shape of.class field bare lt;
+  fields = λ slot field w of a is some name lt. no_field shape of.class field bare lt;
+  entries = λ slot w n a i entry event asked takes last counts. counted_here slot w n i entry asked;
 }
+  where
+    counted_here : (slot w n : ℕ) (i : Intent) (entry : Option ℕ) → Path (Option (Step × Intent)) (Some (Exchange (number l (Count s)) seen new, intent)) (Some (Exchange (number l (counted_at Unowned slot entry)) w n, i))
+        → option_map (λ (o : Object). o.entry) (at_slot slot (heap_after (record { thread = p; act = act } ∷ h))) ≡ Some entry
+    counted_here slot w n i None asked =
+        let same = count_slot l s slot seen new w n (step_is (Exchange (number l (Count s)) seen new) (Exchange (number l (Count slot)) w n) intent i asked) in
+        subst (λ (x : ℕ). option_map (λ (o : Object). o.entry) (at_slot x (heap_after (record { thread = p; act = act } ∷ h))) ≡ Some None) same none
+    counted_here slot w n i (Some e) asked = absurd (no_count_of_entry l s e seen new w n below (step_is (Exchange (number l (Count s)) seen new) (Exchange (number l (places.Unowned e)) w n) intent i asked))

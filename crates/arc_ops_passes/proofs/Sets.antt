@@ -53,16 +53,16 @@ use Rattle.arc_ops.specs.declared.stepper.Doing.{Doing}
 use Rattle.arc_ops.specs.declared.stepper.Doing.TheVariants as doings
 use Rattle.arc_ops.specs.declared.stepper.Move.TheVariants as moves
 use Rattle.arc_ops.specs.Cells.{IsCellWord, global_of, word_of, held_in, hand_in, swapped, set_begun, clear_begun}
-use Rattle.arc_ops.specs.Programs.{KindsFit, ClassesFit, class_of}
+use Rattle.arc_served.specs.Programs.{KindsFit, ClassesFit, class_of}
 use Rattle.arc_ops.specs.Thread.{Thread, value, set_var, put}
 use Rattle.arc_ops.specs.Drops.{replaced_old}
-use Rattle.arc_ops.specs.Sets.{set_on, cleared, cleared_on}
+use Rattle.arc_ops.specs.Sets.{set_on, cleared_on}
 use Rattle.arc_ops.specs.Takes.{takes_at}
 use Rattle.arc_ops.specs.Turns.{turned_at}
 use Rattle.arc_spelled.specs.Came.{CameOut, was_there, swapped_out, came_out_at}
 use Rattle.arc_spelled.specs.StepperStands.{Work}
-use Rattle.arc_spelled.specs.Spelled.{WordsHold}
 use Rattle.arc_spelled.proofs.KindsKept.{holds-at}
+use Rattle.arc_spelled.proofs.StepperKeeps.{served-too}
 use Rattle.arc_view.specs.declared.view.Working.{Working}
 use Rattle.arc_view.specs.declared.view.View.{View}
 use Rattle.arc_view.specs.Views.{idle}
@@ -77,11 +77,12 @@ use Rattle.arc_view_laws.proofs.Hands.{told_hands}
 use Rattle.arc_view_laws.proofs.Moving.{legal_tail}
 use Rattle.arc_ops_passes.specs.References.{weigh, in_vars, references, one_if, has_hand, LeadsTo, Owns}
 use Rattle.arc_ops_passes.specs.Drives.{MaySwap, OwesNothing, IsFree, AreOfClasses}
+use Rattle.arc_ops_passes.proofs.Fields.{AllHold, IsPuttingGlobal, putting_global}
 use Rattle.arc_ops_passes.proofs.Walks.{Fits, IsFor, set_walks, clear_walks, old_walks, set-value, vars-set, vars-least}
 use Rattle.arc_ops_passes.proofs.Hands.{known_new}
 use Rattle.arc_ops_passes.proofs.Owned.{not_weak, leads_on, to_on, to_leads, owns_exchanged}
 use Rattle.arc_ops_passes.proofs.Cells.{GlobalIsNil, GlobalLeads, global_read, read_word, listed}
-use Rattle.arc_ops_passes.proofs.Goes.{quiet, Facts, Comes, KnowsOf, knows_none, attempt_asked, told_by, fresh_under, fresh_coming, owes_still, owes_on, claims_on, classed_still, ReadsNoName, cell_shown, stays}
+use Rattle.arc_ops_passes.proofs.Goes.{quiet, known, Facts, Comes, KnowsOf, knows_none, attempt_asked, told_by, fresh_under, fresh_coming, owes_still, owes_on, claims_on, classed_still, ReadsNoName, cell_shown, stays}
 
 -- what is put in is the word of a reference of the global's kind and class
 pub put_word : (shape : HeapShape) (v : View) (g : ℕ) (held : Held) → g < length shape.globals → held.kind ≡ (ref_at shape.globals g).kind → LeadsTo v held (ref_at shape.globals g).class → IsPut shape v (cells.Global g) (Some held.hand) (held.place + 2)
@@ -248,14 +249,15 @@ module _ (w : Work) (t : Thread) (v : View) (g : ℕ) (put_in : Option Held) (re
           let walk = old_walks w (LeadsTo v') q q there (λ x. in_vars rest x + weigh x there) its fit refl refl refl (λ x. ap (λ l. in_vars l x + weigh x there) vars) (subst (AreOfClasses w.classes v') (sym vars) kept) in record {
             takes_it = takes;
             event = act ∙ (sym event_is ∙ sym walk.event);
-            holds = subst (λ (x : Option Act × Option CameOut). WordsHold Judged w.shape (extent_of w.shape) (Some (step, why)) (Some found) w.thread x.0 x.1 h) (λ j. (sym (walk.event ∙ event_is) j, sym out j))
-                (cell_shown w.shape (extent_of w.shape) step why found w.thread (Some (did there)) (was_there (cells.Global g) there) h tt tt (λ x e is. absurd (no_copy x (Some-inj is))));
+            holds = subst (λ (x : Option Act × Option CameOut). AllHold Judged w.shape (extent_of w.shape) (Some (step, why)) (Some found) w.thread x.0 x.1 h) (λ j. (sym (walk.event ∙ event_is) j, sym out j))
+                (cell_shown w.shape f.bare (extent_of w.shape) step why found w.thread (Some (did there)) (was_there (cells.Global g) there) h tt tt (λ x e is. absurd (no_copy x (Some-inj is))));
             knows = subst (KnowsOf v') (sym out) knows;
             count = walk.count ∙ (ap length vars ∙ (count_is ∙ f.count));
             owns = owns_then u.hands (references u.vars u.hands u.doing) (walk.hands ∙ hands) walk.same;
             classed = walk.classed;
             coming = fresh_coming w.classes v' u.doing walk.fresh;
             no_claim = claims_on w.shape 1 (did there) v v' called (λ n e. refl) f.no_claim;
+            untaken = walk.untaken;
             asks = walk.asks;
             under_way = fresh_under w.shape v' u.doing walk.fresh (works ∙ is_free.working) owes;
           }
@@ -366,8 +368,8 @@ module _ (w : Work) (t : Thread) (v : View) (from g : ℕ) (a : AttemptAt) (op_t
   puts : (m : Option Held) → value t.vars from ≡ m → IsPut w.shape v (cells.Global g) (hand_in m) (word_of m)
   puts None e = refl
   puts (Some held) e =
-      let kind : held.kind ≡ (ref_at w.shape.globals g).kind = f.kinds from held e ∙ holds-at (KindsFit w.shape.globals w.kinds) w.program t.index (op.Set (opcell.Global g) from) f.served.kinds_fit op_there in
-      let class : class_of w.classes from ≡ (ref_at w.shape.globals g).class = holds-at (ClassesFit w.shape.globals w.classes) w.program t.index (op.Set (opcell.Global g) from) f.served.classes_fit op_there in
+      let kind : held.kind ≡ (ref_at w.shape.globals g).kind = f.kinds from held e ∙ (holds-at (KindsFit w.shape w.classes w.kinds) w.program t.index (op.Set (opcell.Global g) from) f.served.kinds_fit op_there).0 in
+      let class : class_of w.classes from ≡ (ref_at w.shape.globals g).class = holds-at (ClassesFit w.shape w.classes) w.program t.index (op.Set (opcell.Global g) from) f.served.classes_fit op_there in
       put_word w.shape v g held there kind (subst (LeadsTo v held) class (f.classed from held e))
 
   pub set_swap_allowed : (seen new : ℕ) → a ≡ attempt.Exchanging seen new → Admits w.shape v (Exchange place seen new) set_why
@@ -382,7 +384,7 @@ module _ (w : Work) (t : Thread) (v : View) (from g : ℕ) (a : AttemptAt) (op_t
       let walk = set_walks w (LeadsTo v') from (global_of w.shape g) (quiet t) (quiet t) (in_vars t.vars) f.is_for refl refl refl (λ x. refl) (classed_still w.shape 1 w.classes v v' t.vars c f.classed) in
       let u : Thread = set_begun from (global_of w.shape g) (quiet t) in
       stays w t v step set_why found v' (setting w t from g b) u told k takes out act walk.event reads walk.hands walk.count (λ x. let e = walk.same x in omega arith) walk.classed (fresh_coming w.classes v' u.doing walk.fresh) walk.asks
-      (fresh_under w.shape v' u.doing walk.fresh works (owes_still w.shape 1 v v' c f.under_way.0.none))
+      (fresh_under w.shape v' u.doing walk.fresh works (owes_still w.shape 1 v v' c f.under_way.0.none)) walk.untaken
 
   -- ---- it loads the word
   module _ (found : ℕ) (v' : View) (told : Told w.shape set_why (Load place) v found v') where
@@ -397,7 +399,7 @@ module _ (w : Work) (t : Thread) (v : View) (from g : ℕ) (a : AttemptAt) (op_t
         (λ ne. subst (λ b. SetLoaded (row b)) (sym (ne_eqb found 1 ne)) (λ out.
         let u : Thread = record (quiet t) { doing = setting w t from g (attempt.Exchanging found (word_of (value t.vars from))); asked = moves.Step (Exchange place found (word_of (value t.vars from))) set_why } in
         stays w t v (Load place) set_why found v' (setting w t from g attempt.Loading) u told fact takes out act refl tt refl refl (λ x. refl) (classed_still w.shape 1 w.classes v v' t.vars c f.classed) tt (refl, refl)
-        (record { working = works; none = owes_still w.shape 1 v v' c f.under_way.0.none }, (ne, refl))))
+        (record { working = works; none = owes_still w.shape 1 v v' c f.under_way.0.none }, (ne, refl)) f.is_for.2))
       where
         row : Bool → Choice SwapAnswer
         row b = cond b (Tell swaps.Busy) (Write (word_of (value t.vars from)))
@@ -464,8 +466,14 @@ module _ (w : Work) (t : Thread) (v : View) (from g : ℕ) (a : AttemptAt) (op_t
     pub set_swap_comes : SetSwapped (found == seen)
     set_swap_comes = dite (ℕ_discrete found seen) (λ e. subst SetSwapped (sym (eq-eqb found seen e)) (hit e)) (λ ne. subst SetSwapped (sym (ne_eqb found seen ne)) (missed ne))
 
+-- the cell that the operation writes is a global
+cell_put : (w : Work) (t : Thread) (v : View) (from : ℕ) (c : Cell) (plan : SwapAttempt) → Facts w t v (doings.Setting from c plan) → IsPuttingGlobal (known v w) t.index from c
+cell_put w t v from c plan f = putting_global (known v w) t.index from c t.vars f.notes (served-too w (hands_in v.number v.seen) f.served) f.bare f.up_to
+
 pub sets_allowed : (w : Work) (t : Thread) (v : View) (from : ℕ) (c : Cell) (plan : SwapAttempt) (step : Step) (intent : Intent) → Facts w t v (doings.Setting from c plan) → t.asked ≡ moves.Step step intent → Admits w.shape v step intent
-sets_allowed w t v from c plan step intent f asked = go f.up_to.global f.up_to.begun.there (subst (λ (x : Cell). Facts w t v (doings.Setting from x plan)) f.up_to.cell_is f)
+sets_allowed w t v from c plan step intent f asked =
+    let k = cell_put w t v from c plan f in
+    go k.global k.there (subst (λ (x : Cell). Facts w t v (doings.Setting from x plan)) k.cell_is f)
   where
     go : (g : ℕ) → slice_get w.program t.index ≡ Some (op.Set (opcell.Global g) from) → Facts w t v (doings.Setting from (global_of w.shape g) plan) → Admits w.shape v step intent
     go g at f =
@@ -476,7 +484,8 @@ sets_allowed w t v from c plan step intent f asked = go f.up_to.global f.up_to.b
 pub sets_come : (w : Work) (t : Thread) (v : View) (from : ℕ) (c : Cell) (plan : SwapAttempt) (step : Step) (intent : Intent) (found : ℕ) (v' : View) → Facts w t v (doings.Setting from c plan) → t.asked ≡ moves.Step step intent
     → (told : Told w.shape intent step v found v') → Comes w t v step intent found v' (told.between ++ v.seen) (doings.Setting from c plan) (turned_at (Some found) (doings.Setting from c plan) (quiet t))
 sets_come w t v from c plan step intent found v' f asked =
-    subst (λ (x : Cell). Case x plan) (sym f.up_to.cell_is) (go f.up_to.global f.up_to.begun.there (subst (λ (x : Cell). Facts w t v (doings.Setting from x plan)) f.up_to.cell_is f))
+    let k = cell_put w t v from c plan f in
+    subst (λ (x : Cell). Case x plan) (sym k.cell_is) (go k.global k.there (subst (λ (x : Cell). Facts w t v (doings.Setting from x plan)) k.cell_is f))
   where
     Case : Cell → SwapAttempt → Type 0
     Case x p = (told : Told w.shape intent step v found v') → Comes w t v step intent found v' (told.between ++ v.seen) (doings.Setting from x p) (turned_at (Some found) (doings.Setting from x p) (quiet t))
@@ -526,7 +535,7 @@ module _ (w : Work) (t : Thread) (v : View) (a : AttemptAt) (f : Facts w t v (cl
       let walk = clear_walks w (LeadsTo v') (quiet t) (quiet t) (in_vars t.vars) f.is_for refl refl refl (λ x. refl) (classed_still w.shape 1 w.classes v v' t.vars c f.classed) in
       let u : Thread = clear_begun (quiet t) in
       stays w t v step clear_why found v' (clearing w t b) u told k takes out act walk.event reads walk.hands walk.count (λ x. let e = walk.same x in omega arith) walk.classed (fresh_coming w.classes v' u.doing walk.fresh) walk.asks
-      (fresh_under w.shape v' u.doing walk.fresh works (owes_still w.shape 1 v v' c f.under_way.0.none))
+      (fresh_under w.shape v' u.doing walk.fresh works (owes_still w.shape 1 v v' c f.under_way.0.none)) walk.untaken
 
   module _ (found : ℕ) (v' : View) (told : Told w.shape clear_why (Load its_place) v found v') where
     abbrev ClearLoaded : Choice SwapAnswer → Type 0
@@ -540,7 +549,7 @@ module _ (w : Work) (t : Thread) (v : View) (a : AttemptAt) (f : Facts w t v (cl
         (λ ne. subst (λ b. ClearLoaded (row b)) (sym (ne_eqb found 1 ne)) (λ out.
         let u : Thread = record (quiet t) { doing = clearing w t (attempt.Exchanging found 0); asked = moves.Step (Exchange its_place found 0) clear_why } in
         stays w t v (Load its_place) clear_why found v' (clearing w t attempt.Loading) u told fact takes out act refl tt refl refl (λ x. refl) (classed_still w.shape 1 w.classes v v' t.vars c f.classed) tt (refl, refl)
-        (record { working = works; none = owes_still w.shape 1 v v' c f.under_way.0.none }, (ne, refl))))
+        (record { working = works; none = owes_still w.shape 1 v v' c f.under_way.0.none }, (ne, refl)) f.is_for.2))
       where
         row : Bool → Choice SwapAnswer
         row b = cond b (Tell swaps.Busy) (Write 0)

@@ -16,6 +16,8 @@ use Rattle.arc_model.proofs.Others.{others_leave}
 use Rattle.arc_rule.specs.declared.step.Step.{Step}
 use Rattle.arc_rule.specs.declared.step.Intent.{Intent}
 use Rattle.arc_side.specs.Inline.{IsCountedInline}
+use Rattle.arc_cells.specs.Cascades.{HasNoFields}
+use Rattle.arc_programs.specs.ProgramsTied.{hands_in}
 use Rattle.arc_script.specs.declared.script.Op.TheVariants as op
 use Rattle.arc_script.specs.declared.script.OpCell.TheVariants as opcell
 use Rattle.arc_script.specs.Valid.{ref_at}
@@ -23,11 +25,12 @@ use Rattle.arc_ops.specs.declared.cell.Cell.{Cell}
 use Rattle.arc_ops.specs.declared.gain.Gain.{Gain}
 use Rattle.arc_ops.specs.declared.gain.Gain.TheVariants as gains
 use Rattle.arc_ops.specs.declared.gain.Source.{Source}
-use Rattle.arc_ops.specs.Programs.{KindsFit, ClassesFit, class_of}
-use Rattle.arc_ops.specs.Thread.{Thread, value}
+use Rattle.arc_served.specs.Programs.{KindsFit, ClassesFit, class_of}
+use Rattle.arc_ops.specs.Thread.{Thread}
 use Rattle.arc_ops.specs.Plans.{op_of, hand_of}
 use Rattle.arc_spelled.specs.StepperStands.{Work, IsServedWork, AreOfKinds, GainsUpTo}
 use Rattle.arc_spelled.proofs.KindsKept.{holds-at}
+use Rattle.arc_spelled.proofs.StepperKeeps.{served-too}
 use Rattle.arc_view.specs.declared.view.Begun.{Begun}
 use Rattle.arc_view.specs.declared.view.Working.{Working}
 use Rattle.arc_view.specs.declared.view.View.{View}
@@ -38,6 +41,7 @@ use Rattle.arc_view.proofs.AtCell.{cell_own}
 use Rattle.arc_view.proofs.Held.{held_stays}
 use Rattle.arc_ops_passes.specs.References.{LeadsTo, LeadsFrom}
 use Rattle.arc_ops_passes.specs.Drives.{OwesNothing, AreOfClasses, GainsFrom}
+use Rattle.arc_ops_passes.proofs.Fields.{getting_global}
 use Rattle.arc_ops_passes.proofs.Cells.{class_is, cell_holds, global_named}
 use Rattle.arc_ops_passes.proofs.Goes.{known}
 use Rattle.arc_ops_passes.proofs.Owned.{not_weak}
@@ -90,14 +94,17 @@ own_origin heap p (origins.Cell c) = cell_own heap c
 is_hand : (o : Origin) (h : ℕ) → o ≡ origins.Hand h → o ≡ origins.Hand (hand_of o)
 is_hand o h e = e ∙ ap (λ x. origins.Hand (hand_of x)) (sym e)
 
-module _ (w : Work) (t : Thread) (v : View) (gain : Gain) (to : ℕ) (from : Source) (notes : List Note) (served : IsServedWork w) where
+module _ (w : Work) (t : Thread) (v : View) (gain : Gain) (to : ℕ) (from : Source) (notes : List Note) (served : IsServedWork w) (bare : HasNoFields w.shape) where
   abbrev UpTo : Origin → Type 0
   UpTo o = GainsUpTo (known v w) t.index gain to o from.kind from.place t.vars notes
 
+  served_too : IsServedWork (known v w)
+  served_too = served-too w (hands_in v.number v.seen) served
+
   pub gain_is_of : AreOfKinds w.kinds t.vars → (o : Origin) → from.origin ≡ o → UpTo o → IsGainOf gain from
-  gain_is_of kinds (origins.Hand hand) e up = at gain (holds-at (KindsFit w.shape.globals w.kinds) w.program t.index (op_of gain to up.of) served.kinds_fit up.begun.there)
+  gain_is_of kinds (origins.Hand hand) e up = at gain (holds-at (KindsFit w.shape w.classes w.kinds) w.program t.index (op_of gain to up.of) served.kinds_fit up.begun.there)
     where
-      at : (g : Gain) → KindsFit w.shape.globals w.kinds (op_of g to up.of) → IsGainOf g from
+      at : (g : Gain) → KindsFit w.shape w.classes w.kinds (op_of g to up.of) → IsGainOf g from
       at gains.Copy fit = tt
       at gains.Unown fit = (is_hand from.origin hand e, kinds up.of (record { hand = hand; kind = from.kind; place = from.place }) up.source ∙ fit.1)
       at gains.Load fit = (is_hand from.origin hand e, kinds up.of (record { hand = hand; kind = from.kind; place = from.place }) up.source ∙ fit.1)
@@ -107,19 +114,20 @@ module _ (w : Work) (t : Thread) (v : View) (gain : Gain) (to : ℕ) (from : Sou
   pub has_source : AreOfClasses w.classes v t.vars → InShape w.shape v.seen → (o : Origin) → from.origin ≡ o → UpTo o → GainsFrom v o from → HasSource v from (class_of w.classes to)
   has_source classed within (origins.Hand hand) e up under =
       let r : LeadsTo v (record { hand = hand; kind = from.kind; place = from.place }) (class_of w.classes up.of) = classed up.of (record { hand = hand; kind = from.kind; place = from.place }) up.source in
-      record { counted = r.0; place = r.1; object = r.2; source = subst (λ o. IsSource v o from.kind r.1) (sym e) (r.3, tt); here = r.4; slot = r.5; is_class = r.6 ∙ sym (one_class gain (holds-at (ClassesFit w.shape.globals w.classes) w.program t.index (op_of gain to up.of) served.classes_fit up.begun.there)) }
+      record { counted = r.0; place = r.1; object = r.2; source = subst (λ o. IsSource v o from.kind r.1) (sym e) (r.3, tt); here = r.4; slot = r.5; is_class = r.6 ∙ sym (one_class gain (holds-at (ClassesFit w.shape w.classes) w.program t.index (op_of gain to up.of) served.classes_fit up.begun.there)) }
     where
-      one_class : (g : Gain) → ClassesFit w.shape.globals w.classes (op_of g to up.of) → class_of w.classes to ≡ class_of w.classes up.of
+      one_class : (g : Gain) → ClassesFit w.shape w.classes (op_of g to up.of) → class_of w.classes to ≡ class_of w.classes up.of
       one_class gains.Copy fit = fit
       one_class gains.Unown fit = fit
       one_class gains.Load fit = fit
   has_source classed within (origins.Cell cell) e up copying =
-      let g = up.1.global in
-      let is : cell ≡ cells.Global g = ap (λ (c : Cell). c.name) up.1.cell_is in
+      let k = getting_global (known v w) t.index to (record { name = cell; kind = from.kind }) t.vars notes served_too bare up.1 in
+      let g = k.global in
+      let is : cell ≡ cells.Global g = ap (λ (c : Cell). c.name) k.cell_is in
       let r = copying.source in
       let at : spot (holders.Global g) (heap_of v) ≡ Some (record { place = r.1; kind = from.kind }) = subst (λ o. spot (origin (heap_of v) v.number o) (heap_of v) ≡ Some (record { place = r.1; kind = from.kind })) (e ∙ ap (λ c. origins.Cell c) is) r.3.0 in
       let named = global_named w.shape v.seen g (record { place = r.1; kind = from.kind }) within at in
-      let fit : class_of w.classes to ≡ (ref_at w.shape.globals g).class = holds-at (ClassesFit w.shape.globals w.classes) w.program t.index (op.Get to (opcell.Global g)) served.classes_fit up.1.begun.there in
+      let fit : class_of w.classes to ≡ (ref_at w.shape.globals g).class = holds-at (ClassesFit w.shape w.classes) w.program t.index (op.Get to (opcell.Global g)) served.classes_fit k.there in
       record {
         counted = r.0;
         place = r.1;
@@ -145,8 +153,9 @@ module _ (w : Work) (t : Thread) (v : View) (gain : Gain) (to : ℕ) (from : Sou
         is_class = q.class ∙ s.is_class;
       }
   met_source step intent found v' told legal class s (origins.Cell cell) e up copying =
-      let g = up.1.global in
-      let is : cell ≡ cells.Global g = ap (λ (c : Cell). c.name) up.1.cell_is in
+      let k = getting_global (known v w) t.index to (record { name = cell; kind = from.kind }) t.vars notes served_too bare up.1 in
+      let g = k.global in
+      let is : cell ≡ cells.Global g = ap (λ (c : Cell). c.name) k.cell_is in
       let to_global : from.origin ≡ origins.Cell (cells.Global g) = e ∙ ap (λ c. origins.Cell c) is in
       let at : spot (holders.Global g) (heap_of v) ≡ Some (record { place = s.place; kind = from.kind }) = subst (λ o. spot (origin (heap_of v) v.number o) (heap_of v) ≡ Some (record { place = s.place; kind = from.kind })) to_global s.source.0 in
       let h = told.between ++ v.seen in

@@ -33,7 +33,6 @@ use Rattle.arc_ops.specs.Turns.{turned_at}
 use Rattle.arc_ops.specs.Takes.{takes_at}
 use Rattle.arc_spelled.specs.StepperStands.{Work}
 use Rattle.arc_spelled.specs.Came.{CameOut, came_out_at}
-use Rattle.arc_spelled.specs.Spelled.{WordsHold}
 use Rattle.arc_view.specs.declared.view.Working.{Working}
 use Rattle.arc_view.specs.declared.view.View.{View}
 use Rattle.arc_view.specs.Views.{idle}
@@ -49,6 +48,7 @@ use Rattle.arc_model.proofs.Others.{others_leave}
 use Rattle.arc_view_laws.proofs.Entries.{none_stays}
 use Rattle.arc_ops_passes.specs.References.{in_vars, references, LeadsTo, Owns}
 use Rattle.arc_ops_passes.specs.Drives.{OwesOne}
+use Rattle.arc_ops_passes.proofs.Fields.{AllHold}
 use Rattle.arc_ops_passes.proofs.Walks.{next_walks}
 use Rattle.arc_ops_passes.proofs.Owed.{slot_is, not_in}
 use Rattle.arc_ops_passes.proofs.Goes.{quiet, Facts, Comes, KnowsOf, knows_none, told_by, fresh_under, fresh_coming, classed_on, claims_on, owns_on, nothing_shown, once_asked}
@@ -119,13 +119,14 @@ module _ (w : Work) (t : Thread) (v : View) (s : ℕ) (d : Doing) (f : Facts w t
         let walk = next_walks w (LeadsTo v') q f.is_for f.fit (classed_on w.shape 1 left w.classes v v' t.vars called_left (λ x held e. refl) f.classed) in record {
           takes_it = takes;
           event = act_is ∙ sym walk.event;
-          holds = subst (λ (x : Option Act × Option CameOut). WordsHold Judged w.shape (extent_of w.shape) (Some (Clear, intents.Vacate)) (Some found) w.thread x.0 x.1 h_left) (λ j. (sym walk.event j, sym (brings_none found) j)) (nothing_shown w.shape (extent_of w.shape) Clear intents.Vacate found w.thread (Some left) h_left tt tt);
+          holds = subst (λ (x : Option Act × Option CameOut). AllHold Judged w.shape (extent_of w.shape) (Some (Clear, intents.Vacate)) (Some found) w.thread x.0 x.1 h_left) (λ j. (sym walk.event j, sym (brings_none found) j)) (nothing_shown w.shape f.bare (extent_of w.shape) Clear intents.Vacate found w.thread (Some left) h_left tt tt);
           knows = subst (KnowsOf v') (sym (brings_none found)) (knows_none v');
           count = walk.count ∙ f.count;
           owns = subst (λ n. Owns v' n (references u.vars u.hands u.doing)) (sym walk.hands) (owns_on w.shape 1 left v v' t.hands (references t.vars t.hands d) (references u.vars u.hands u.doing) called_left (λ k. refl) refl f.owns (λ g. walk.same g ∙ sym (in_vars_all g)));
           classed = walk.classed;
           coming = fresh_coming w.classes v' u.doing walk.fresh;
           no_claim = claims_on w.shape 1 left v v' called_left (λ m n. refl) f.no_claim;
+          untaken = walk.untaken;
           asks = walk.asks;
           under_way = fresh_under w.shape v' u.doing walk.fresh (ap (λ (x : View). x.working) told.after ∙ (ap (λ (u : Place). working_and (number (extent_of w.shape)) v.working u (but_bit_of s) intents.Vacate) (place_at-number (extent_of w.shape) (SlotBits (s / 64)) word_in) ∙ is)) none_left;
         }

@@ -28,20 +28,19 @@ use Rattle.arc_plan.specs.declared.slots.Making.TheVariants as search
 use Rattle.arc_plan.specs.Slots.{looking}
 use Rattle.arc_script.specs.declared.script.Op.{Op}
 use Rattle.arc_script.specs.declared.script.Op.TheVariants as op
-use Rattle.arc_script.specs.declared.script.OpCell.TheVariants as opcell
 use Rattle.arc_ops.specs.declared.stepper.Held.{Held}
 use Rattle.arc_ops.specs.declared.stepper.Doing.{Doing}
 use Rattle.arc_ops.specs.declared.stepper.Doing.TheVariants as doings
 use Rattle.arc_ops.specs.declared.stepper.Move.TheVariants as moves
-use Rattle.arc_ops.specs.Programs.{VarsFit, ClassesFit, class_of}
+use Rattle.arc_served.specs.Programs.{VarsFit, ClassesFit, class_of}
 use Rattle.arc_ops.specs.declared.cell.Cell.{Cell}
 use Rattle.arc_ops.specs.declared.gain.Source.{Source}
-use Rattle.arc_ops.specs.Cells.{cell_number, global_of, word_of, hand_in, open_begun, set_begun, clear_begun}
+use Rattle.arc_ops.specs.Cells.{cell_number, cell_of, word_of, hand_in, open_begun, set_begun, clear_begun}
 use Rattle.arc_ops.specs.Thread.{Thread, value, is_held, set_var, put}
 use Rattle.arc_ops.specs.declared.gain.Gain.{Gain}
 use Rattle.arc_ops.specs.declared.gain.Gain.TheVariants as gains
 use Rattle.arc_ops.specs.Plans.{of_hand, list_of, intent_of, gain_begun, drop_begun, make_begun_as}
-use Rattle.arc_ops.specs.Begins.{skipped, moved, phase_end, phase_over, block_goes_on, at_place, begun, begun_at, begun_op, begun_nil, begun_gain, begun_move, begun_drop, scope_at, scope_begun, scope_drop, scope_over, has_globals, next_op}
+use Rattle.arc_ops.specs.Begins.{skipped, moved, phase_end, phase_over, block_goes_on, at_place, begun, begun_at, begun_op, begun_nil, begun_gain, begun_move, begun_drop, begun_get, begun_set, scope_at, scope_begun, scope_drop, scope_over, has_globals, next_op}
 use Rattle.arc_ops.specs.Drops.{replaced, replaced_old}
 use Rattle.arc_spelled.specs.Work.{Work}
 use Rattle.arc_ops_passes.specs.References.{weigh, in_vars, references}
@@ -119,9 +118,9 @@ IsFresh (doings.Dying c) = ⊥
 IsFresh (doings.Vacating slot plan) = ⊥
 IsFresh doings.Ended = ⊤
 
--- a stepper for this heap
+-- a stepper for this heap, which has taken no reference out of a field
 abbrev pub IsFor : HeapShape → Thread → Type 0
-IsFor shape t = (t.layout ≡ extent_of shape) × (t.shape ≡ shape)
+IsFor shape t = (t.layout ≡ extent_of shape) × (t.shape ≡ shape) × (t.taken ≡ 0)
 
 -- what a variable has fits the variable's class
 abbrev pub AreOf : List ℕ → (Held → ℕ → Type 0) → List (Option Held) → Type 0
@@ -164,7 +163,7 @@ moved-count vars to from new = length-set (set vars to new) from None ∙ length
 
 -- an operation names variables that there are, and fits their classes
 abbrev pub Fits : Work → ℕ → Op → Type 0
-Fits w n o = VarsFit n o × ClassesFit w.shape.globals w.classes o
+Fits w n o = VarsFit n o × ClassesFit w.shape w.classes o
 
 module _ (w : Work) (Q : Held → ℕ → Type 0) where
   -- it went on from t to u without a step, has these references, and asks for the first step of a plan, or for the next phase
@@ -176,6 +175,7 @@ module _ (w : Work) (Q : Held → ℕ → Type 0) where
     pub classed : AreOf w.classes Q u.vars
     pub asks : Asks w.shape u u.doing
     pub fresh : IsFresh u.doing
+    pub untaken : u.taken ≡ 0
 
   abbrev pub Fit : List (Option Held) → List Op → Type 0
   Fit vars ops = All (Fits w (length vars)) ops
@@ -184,7 +184,8 @@ module _ (w : Work) (Q : Held → ℕ → Type 0) where
 
   drop_walks : (held : Held) (t u : Thread) (most : (Held → ℕ) → ℕ) → IsFor w.shape u → u.hands ≡ t.hands → u.event ≡ t.event → length u.vars ≡ length t.vars → ((f : Held → ℕ) → in_vars u.vars f + f held ≡ most f) → AreOf w.classes Q u.vars
       → Walks t (drop_begun held u) most
-  drop_walks held t u most (layout, is) hands event count same classed = record {
+  drop_walks held t u most (layout, is, untaken) hands event count same classed = record {
+    untaken = untaken;
     hands = hands;
     event = event;
     count = count;
@@ -203,7 +204,8 @@ module _ (w : Work) (Q : Held → ℕ → Type 0) where
 
   gain_walks : (gain : Gain) (to : ℕ) (from : Source) (t u : Thread) (most : (Held → ℕ) → ℕ) → IsOfHand from.origin → IsFor w.shape u → u.hands ≡ t.hands → u.event ≡ t.event → length u.vars ≡ length t.vars → ((f : Held → ℕ) → in_vars u.vars f ≡ most f) → AreOf w.classes Q u.vars
       → Walks t (gain_begun gain to from u) most
-  gain_walks gain to from t u most of (layout, is) hands event count same classed = record {
+  gain_walks gain to from t u most of (layout, is, untaken) hands event count same classed = record {
+    untaken = untaken;
     hands = hands;
     event = event;
     count = count;
@@ -218,7 +220,8 @@ module _ (w : Work) (Q : Held → ℕ → Type 0) where
 
   pub make_walks : (to : ℕ) (name : ObjectName) (t u : Thread) (most : (Held → ℕ) → ℕ) → IsFor w.shape u → u.hands ≡ t.hands → u.event ≡ t.event → length u.vars ≡ length t.vars → ((f : Held → ℕ) → in_vars u.vars f ≡ most f) → AreOf w.classes Q u.vars
       → Walks t (make_begun_as to name u) most
-  make_walks to name t u most (layout, is) hands event count same classed = record {
+  make_walks to name t u most (layout, is, untaken) hands event count same classed = record {
+    untaken = untaken;
     hands = hands;
     event = event;
     count = count;
@@ -233,7 +236,8 @@ module _ (w : Work) (Q : Held → ℕ → Type 0) where
 
   pub open_walks : (to : ℕ) (cell : Cell) (t u : Thread) (most : (Held → ℕ) → ℕ) → IsFor w.shape u → u.hands ≡ t.hands → u.event ≡ t.event → length u.vars ≡ length t.vars → ((f : Held → ℕ) → in_vars u.vars f ≡ most f) → AreOf w.classes Q u.vars
       → Walks t (open_begun to cell u) most
-  open_walks to cell t u most (layout, is) hands event count same classed = record {
+  open_walks to cell t u most (layout, is, untaken) hands event count same classed = record {
+    untaken = untaken;
     hands = hands;
     event = event;
     count = count;
@@ -248,7 +252,8 @@ module _ (w : Work) (Q : Held → ℕ → Type 0) where
 
   pub set_walks : (from : ℕ) (cell : Cell) (t u : Thread) (most : (Held → ℕ) → ℕ) → IsFor w.shape u → u.hands ≡ t.hands → u.event ≡ t.event → length u.vars ≡ length t.vars → ((f : Held → ℕ) → in_vars u.vars f ≡ most f) → AreOf w.classes Q u.vars
       → Walks t (set_begun from cell u) most
-  set_walks from cell t u most (layout, is) hands event count same classed = record {
+  set_walks from cell t u most (layout, is, untaken) hands event count same classed = record {
+    untaken = untaken;
     hands = hands;
     event = event;
     count = count;
@@ -263,7 +268,8 @@ module _ (w : Work) (Q : Held → ℕ → Type 0) where
 
   pub clear_walks : (t u : Thread) (most : (Held → ℕ) → ℕ) → IsFor w.shape u → u.hands ≡ t.hands → u.event ≡ t.event → length u.vars ≡ length t.vars → ((f : Held → ℕ) → in_vars u.vars f ≡ most f) → AreOf w.classes Q u.vars
       → Walks t (clear_begun u) most
-  clear_walks t u most (layout, is) hands event count same classed = record {
+  clear_walks t u most (layout, is, untaken) hands event count same classed = record {
+    untaken = untaken;
     hands = hands;
     event = event;
     count = count;
@@ -311,6 +317,15 @@ module _ (w : Work) (Q : Held → ℕ → Type 0) where
       dropping v (Some held) e = dropped t (put answers.Ok (record t { first = true })) v held own e refl refl refl classed
       dropping v None e = skips answers.Nil
 
+      -- a cell is read, or its owner is nil
+      getting : (to : ℕ) (cell : Option Cell) (old : Option Held) → value t.vars to ≡ old → Walks t (begun_get to cell old t rest) (in_vars t.vars)
+      getting to (Some cell) old e = open_walks to cell t (record t { first = true }) (in_vars t.vars) own refl refl refl (λ f. refl) classed
+      getting to None old e = clearing to old e
+
+      setting : (from : ℕ) (cell : Option Cell) → Walks t (begun_set from cell t rest) (in_vars t.vars)
+      setting from (Some cell) = set_walks from cell t (record t { first = true }) (in_vars t.vars) own refl refl refl (λ f. refl) classed
+      setting from None = skips answers.Nil
+
       at : (o : Op) → Fits w (length t.vars) o → Walks t (begun_op o t rest) (in_vars t.vars)
       at (op.New to class) fit = make_walks to (record { class = class; thread = t.thread; number = t.made + 1 }) t (record t { first = true }) (in_vars t.vars) own refl refl refl (λ f. refl) classed
       at (op.Copy to from) fit = gaining gains.Copy to (value t.vars from) (value t.vars to) refl
@@ -319,10 +334,8 @@ module _ (w : Work) (Q : Held → ℕ → Type 0) where
       at (op.Unown to of) fit = gaining gains.Unown to (value t.vars of) (value t.vars to) refl
       at (op.Weak to of) fit = skips answers.Nil
       at (op.Load to of) fit = gaining gains.Load to (value t.vars of) (value t.vars to) refl
-      at (op.Get to (opcell.Global g)) fit = open_walks to (global_of t.shape g) t (record t { first = true }) (in_vars t.vars) own refl refl refl (λ f. refl) classed
-      at (op.Get to (opcell.Field owner field)) fit = skips answers.Nil
-      at (op.Set (opcell.Global g) from) fit = set_walks from (global_of t.shape g) t (record t { first = true }) (in_vars t.vars) own refl refl refl (λ f. refl) classed
-      at (op.Set (opcell.Field owner field) from) fit = skips answers.Nil
+      at (op.Get to cell) fit = getting to (cell_of cell t) (value t.vars to) refl
+      at (op.Set cell from) fit = setting from (cell_of cell t)
       at (op.IfNil v past) fit = after (at_place (block_goes_on t.vars t.index (op.IfNil v past)) t) own refl refl refl (λ f. refl) classed
       at (op.IfSome v past) fit = after (at_place (block_goes_on t.vars t.index (op.IfSome v past)) t) own refl refl refl (λ f. refl) classed
 
@@ -334,7 +347,7 @@ module _ (w : Work) (Q : Held → ℕ → Type 0) where
     where
       go : (b : Bool) → Walks t (cond b (clear_begun t) (record t { doing = doings.Ended; asked = moves.Ended })) (in_vars t.vars)
       go true = clear_walks t t (in_vars t.vars) own refl refl refl (λ f. refl) classed
-      go false = record { hands = refl; event = refl; count = refl; same = λ f. omega arith; classed = classed; asks = (refl, none); fresh = tt }
+      go false = record { hands = refl; event = refl; count = refl; same = λ f. omega arith; classed = classed; asks = (refl, none); fresh = tt; untaken = own.2 }
 
   scope_walks : (t : Thread) → IsFor w.shape t → AreOf w.classes Q t.vars → Walks t (scope_begun t) (in_vars t.vars)
   scope_walks t own classed = go (position is_held t.vars) refl
@@ -352,7 +365,7 @@ module _ (w : Work) (Q : Held → ℕ → Type 0) where
   over_walks t own classed = go (ltb (t.phase + 1) (length t.phases))
     where
       go : (b : Bool) → Walks t (cond b (record t { doing = doings.Ready; asked = moves.PhaseEnd; phase = t.phase + 1 }) (scope_begun t)) (in_vars t.vars)
-      go true = record { hands = refl; event = refl; count = refl; same = λ f. omega arith; classed = classed; asks = refl; fresh = tt }
+      go true = record { hands = refl; event = refl; count = refl; same = λ f. omega arith; classed = classed; asks = refl; fresh = tt; untaken = own.2 }
       go false = scope_walks t own classed
 
   -- an operation that the thread has gone past is passed over, and else it begins
@@ -364,7 +377,7 @@ module _ (w : Work) (Q : Held → ℕ → Type 0) where
       go true = further t own refl classed
       go false = op_walks o t (λ (u : Thread). begun_at (place + 1) ops u) own fit classed (λ u its hands event count same are.
           let m = further u its count are in
-          record { hands = m.hands ∙ hands; event = m.event ∙ event; count = m.count ∙ count; same = λ f. m.same f ∙ same f; classed = m.classed; asks = m.asks; fresh = m.fresh })
+          record { hands = m.hands ∙ hands; event = m.event ∙ event; count = m.count ∙ count; same = λ f. m.same f ∙ same f; classed = m.classed; asks = m.asks; fresh = m.fresh; untaken = m.untaken })
 
   begins_at : (place : ℕ) (ops : List Op) (t : Thread) → IsFor w.shape t → AllByRecursion (Fits w (length t.vars)) ops → AreOf w.classes Q t.vars → Walks t (begun_at place ops t) (in_vars t.vars)
   begins_at place [] t own fits classed = over_walks t own classed
@@ -378,7 +391,7 @@ module _ (w : Work) (Q : Held → ℕ → Type 0) where
   pub next_walks : (t : Thread) → IsFor w.shape t → Fit t.vars t.program → AreOf w.classes Q t.vars → Walks t (next_op t) (in_vars t.vars)
   next_walks t own fits classed =
       let m = begins_walks (record t { doing = doings.Ended; index = cond (ltb t.index (length t.program)) (t.index + 1) t.index }) own fits classed in
-      record { hands = m.hands; event = m.event; count = m.count; same = m.same; classed = m.classed; asks = m.asks; fresh = m.fresh }
+      record { hands = m.hands; event = m.event; count = m.count; same = m.same; classed = m.classed; asks = m.asks; fresh = m.fresh; untaken = m.untaken }
 
   -- what a variable had is dropped, where there was something
   pub old_walks : (t u : Thread) (old : Option Held) (most : (Held → ℕ) → ℕ) → IsFor w.shape u → Fit u.vars u.program → u.hands ≡ t.hands → u.event ≡ t.event → length u.vars ≡ length t.vars → ((f : Held → ℕ) → in_vars u.vars f + weigh f old ≡ most f) → AreOf w.classes Q u.vars
@@ -386,7 +399,7 @@ module _ (w : Work) (Q : Held → ℕ → Type 0) where
   old_walks t u (Some old) most own fits hands event count same classed = drop_walks old t u most own hands event count same classed
   old_walks t u None most own fits hands event count same classed =
       let m = next_walks u own fits classed in
-      record { hands = m.hands ∙ hands; event = m.event ∙ event; count = m.count ∙ count; same = λ f. let k = m.same f in let s = same f in omega arith; classed = m.classed; asks = m.asks; fresh = m.fresh }
+      record { hands = m.hands ∙ hands; event = m.event ∙ event; count = m.count ∙ count; same = λ f. let k = m.same f in let s = same f in omega arith; classed = m.classed; asks = m.asks; fresh = m.fresh; untaken = m.untaken }
 
   -- a variable gets a new reference or becomes nil, and what it had is dropped
   pub replaced_walks : (t : Thread) (to : ℕ) (new : Option Held) → IsFor w.shape t → Fit t.vars t.program → to < length t.vars → AreOf w.classes Q t.vars → NewIs Q (class_of w.classes to) new → Walks t (replaced to new t) (λ f. in_vars t.vars f + weigh f new)

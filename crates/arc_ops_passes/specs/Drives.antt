@@ -1,4 +1,4 @@
--- A stepper drives a pass: what it is doing fits what the pass has, by what the pass has seen.
+-- A stepper drives a pass: what it is doing fits what the pass has, by what the pass has seen. So far no class has a field.
 use Rattle.std.specs.Prelude.{ℕ, true, false, ◌≡◌, ◌≢◌, ◌≤◌, ◌+◌, List, [], ◌∷◌, ◌/◌, length, Option, Some, None, ⊤}
 use Rattle.arc_model.specs.declared.event.CellName.{CellName}
 use Rattle.arc_model.specs.declared.event.CellName.TheVariants as cells
@@ -29,9 +29,10 @@ use Rattle.arc_plan.specs.declared.slots.Making.TheVariants.{Looking, Taking, Co
 use Rattle.arc_plan.specs.declared.slots.Once.{Once}
 use Rattle.arc_plan.specs.declared.slots.Once.TheVariants.{Asked}
 use Rattle.arc_plan.specs.Slots.{looking, taking, counting, naming}
-use Rattle.arc_cells.specs.declared.bare.At.{At as CascadeAt}
-use Rattle.arc_cells.specs.declared.bare.At.TheVariants as at
-use Rattle.arc_cells.specs.BareCascades.{CascadeState}
+use Rattle.arc_side.specs.declared.slot_end.At.TheVariants as ends
+use Rattle.arc_cells.specs.declared.cascade.At.{At as CascadeAt}
+use Rattle.arc_cells.specs.declared.cascade.At.TheVariants as at
+use Rattle.arc_cells.specs.Cascades.{CascadeState}
 use Rattle.arc_programs.specs.ProgramsTied.{hands_in}
 use Rattle.arc_ops.specs.declared.gain.Source.{Source}
 use Rattle.arc_ops.specs.declared.stepper.Held.{Held}
@@ -40,7 +41,7 @@ use Rattle.arc_ops.specs.declared.stepper.Doing.TheVariants as doings
 use Rattle.arc_ops.specs.declared.stepper.Move.{Move}
 use Rattle.arc_ops.specs.declared.stepper.Move.TheVariants as moves
 use Rattle.arc_ops.specs.Cells.{cell_number, word_of, hand_in}
-use Rattle.arc_ops.specs.Programs.{class_of}
+use Rattle.arc_served.specs.Programs.{class_of}
 use Rattle.arc_ops.specs.Thread.{Thread, value}
 use Rattle.arc_ops.specs.Plans.{list_of, intent_of}
 use Rattle.arc_spelled.specs.Came.{knowing}
@@ -87,12 +88,15 @@ VacateAsks shape asked s at = OnceAsks asked (And (number (extent_of shape) (Slo
 abbrev pub NameAsks : HeapShape → Move → ℕ → Once → Type 0
 NameAsks shape asked s at = OnceAsks asked (Load (number (extent_of shape) (Isa s))) intents.Look at
 
+-- no class has a field, so no deinit waits for another; nor has the object an entry
 abbrev pub CascadeAsks : HeapShape → Move → ℕ → CascadeAt → Type 0
 CascadeAsks shape asked s at.Entering = asked ≡ moves.Step (Store (number (extent_of shape) (Next s)) 0) (intents.Deinit s)
 CascadeAsks shape asked s at.Naming = asked ≡ moves.Step (Load (number (extent_of shape) (Isa s))) (intents.Deinit s)
 CascadeAsks shape asked s at.Leaving = asked ≡ moves.Step (Load (number (extent_of shape) (Next s))) (intents.Deinit s)
-CascadeAsks shape asked s (at.Finishing p) = (p ≡ record { layout = extent_of shape; slot = s; at = p.at }) × CountAsks shape asked s (intents.Deinit s) p.at
-CascadeAsks shape asked s (at.Vacating p) = (p ≡ record { layout = extent_of shape; slot = s; at = p.at }) × VacateAsks shape asked s p.at
+CascadeAsks shape asked s (at.Finishing None p) =
+    (p ≡ record { layout = extent_of shape; slot = s; list = Unowned; entry = None; at = p.at }) × CountAsks shape asked s (intents.Deinit s) p.at
+CascadeAsks shape asked s (at.Ending None p) =
+    (p ≡ record { layout = extent_of shape; slot = s; entry = None; at = ends.Vacating; event = None }) × VacateAsks shape asked s Asked
 CascadeAsks shape asked s _ = ⊥
 
 abbrev pub Asks : HeapShape → Thread → Doing → Type 0
@@ -117,7 +121,7 @@ Asks shape t (doings.Clearing plan) =
     × AttemptAsks t.asked (cell_number (extent_of shape) (cells.Global t.cleared)) (intents.Swap (cells.Global t.cleared) None) plan.at
 Asks shape t (doings.Dropping held plan) =
     (plan ≡ record { layout = extent_of shape; slot = held.place; list = held.kind; entry = None; at = plan.at }) × CountAsks shape t.asked held.place (intents.Drop held.hand) plan.at
-Asks shape t (doings.Dying c) = (c ≡ record { layout = extent_of shape; shape = shape; slot = c.slot; at = c.at; event = c.event }) × CascadeAsks shape t.asked c.slot c.at
+Asks shape t (doings.Dying c) = (c ≡ record { layout = extent_of shape; shape = shape; slot = c.slot; before = c.before; taken = c.taken; at = c.at; event = c.event }) × CascadeAsks shape t.asked c.slot c.at
 Asks shape t (doings.Vacating slot plan) = (plan ≡ record { layout = extent_of shape; slot = slot; at = plan.at }) × VacateAsks shape t.asked slot plan.at
 Asks shape t doings.Ended = (t.asked ≡ moves.Ended) × ((f : Held → ℕ) → in_vars t.vars f ≡ 0)
 
@@ -154,7 +158,7 @@ MaySwap word (Exchanging seen new) = (seen ≢ 1) × (new ≡ word)
 MaySwap word _ = ⊤
 
 abbrev pub MayEnd : ℕ → CascadeAt → Type 0
-MayEnd s (at.Finishing p) = MayGoDown Unowned s p.at
+MayEnd s (at.Finishing parent p) = MayGoDown Unowned s p.at
 MayEnd s _ = ⊤
 
 abbrev pub OwesNothing : View → Type 0
@@ -171,7 +175,7 @@ pub record OwesOne (v : View) (duty : Duty) (s : ℕ) : Type 0 where
   pub bare : duty ≡ Vacating → object.entry ≡ None
 
 abbrev pub DutyAt : View → ℕ → CascadeAt → Type 0
-DutyAt v s (at.Vacating p) = OwesOne v Vacating s
+DutyAt v s (at.Ending parent p) = OwesOne v Vacating s
 DutyAt v s _ = OwesOne v Deinit s
 
 -- the root of a cascade, in its deinit
@@ -180,7 +184,7 @@ entered s = record idle { entered = record { slot = s; parent = None; next_field
 
 abbrev pub cascade_works : ℕ → CascadeAt → Working
 cascade_works s at.Entering = idle
-cascade_works s (at.Vacating p) = idle
+cascade_works s (at.Ending parent p) = idle
 cascade_works s _ = entered s
 
 abbrev pub search_works : Search → Working
@@ -241,10 +245,13 @@ pub record Drives (w : Work) (t : Thread) (v : View) : Type 0 where
   pub number : v.number ≡ w.thread
   pub legal : IsLegal w.shape v.seen
   pub in_shape : InShape w.shape v.seen
-  -- the notes that it stands for are the pass's, in what it has seen, which tells what its hands referred to when they came
+  -- the notes that it stands for are the pass's, in what it has seen, which tells what its hands referred to when they came; no deinit waits for
+  -- another
   pub notes : List Note
-  pub stands : StandsFor (knowing (hands_in v.number v.seen) w) t notes
+  pub stands : StandsFor (knowing (hands_in v.number v.seen) w) t [] notes
   pub tied : Ties Judged w.shape w.thread notes v.seen
+  -- it has taken no reference out of a field
+  pub untaken : t.taken ≡ 0
   -- it has the variables of its thread, and its references are the pass's hands
   pub count : length t.vars ≡ w.count
   pub owns : Owns v t.hands (references t.vars t.hands t.doing)

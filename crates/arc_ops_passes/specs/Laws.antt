@@ -14,13 +14,13 @@ use Rattle.arc_programs.specs.Programs.{Hands, OpsDone}
 use Rattle.arc_programs.specs.ProgramsTied.{hands_in}
 use Rattle.arc_script.specs.declared.script.Script.{Script}
 use Rattle.arc_script.specs.Valid.{IsScript}
-use Rattle.arc_ops.specs.Served.{IsServed}
-use Rattle.arc_ops.specs.Programs.{VarsFit, phases_of, program_of, ops_in_first, vars_of}
-use Rattle.arc_cells.specs.BareCascades.{IsInline}
+use Rattle.arc_served.specs.Served.{IsServed}
+use Rattle.arc_served.specs.Programs.{VarsFit, phases_of, program_of, ops_in_first, vars_of}
+use Rattle.arc_cells.specs.Cascades.{HasNoFields}
 use Rattle.arc_ops.specs.declared.stepper.Move.TheVariants as moves
 use Rattle.arc_ops.specs.Thread.{Thread, stepper_of, in_access}
 use Rattle.arc_ops.specs.Turns.{turned}
-use Rattle.arc_ops.specs.Takes.{takes}
+use Rattle.arc_ops.specs.Takes.{takes, IsInline}
 use Rattle.arc_ops.specs.Steppers.{IsStepper}
 use Rattle.arc_spelled.specs.Came.{Extends}
 use Rattle.arc_spelled.specs.StepperStands.{Work, IsServedWork, variables}
@@ -76,9 +76,9 @@ pub record HasDonePhases (script : Script) (p : ℕ) (t : Thread) (h : History) 
 abbrev pub PhasesAreDone : Type 0
 PhasesAreDone = (script : Script) (p : ℕ) (came : Hands) (t : Thread) (v : View) → Drives (work_of script p came) t v → t.asked ≡ moves.PhaseEnd → HasDonePhases script p t v.seen
 
--- The pass may make the step that its stepper asks for.
+-- The pass may make the step that its stepper asks for. So far no class has a field, here and where it goes on.
 abbrev pub StepsAreAllowed : Type 0
-StepsAreAllowed = (w : Work) (t : Thread) (v : View) (step : Step) (intent : Intent) → IsServedWork w → IsStepper t → IsSized w.shape → Drives w t v → t.asked ≡ moves.Step step intent →
+StepsAreAllowed = (w : Work) (t : Thread) (v : View) (step : Step) (intent : Intent) → IsServedWork w → HasNoFields w.shape → IsStepper t → IsSized w.shape → Drives w t v → t.asked ≡ moves.Step step intent →
     Admits w.shape v step intent
 
 -- counts below both caps, or the word of an immortal object
@@ -103,7 +103,7 @@ pub record GoesOn (w : Work) (t : Thread) (v : View) (step : Step) (intent : Int
   pub event : (turned t (Some found)).event ≡ act_of w.shape v step intent found
 
 abbrev pub SteppersDriveOn : Type 0
-SteppersDriveOn = (w : Work) (t : Thread) (v : View) (step : Step) (intent : Intent) (found : ℕ) (v' : View) → IsServedWork w → IsStepper t → IsSized w.shape → Drives w t v → t.asked ≡ moves.Step step intent →
+SteppersDriveOn = (w : Work) (t : Thread) (v : View) (step : Step) (intent : Intent) (found : ℕ) (v' : View) → IsServedWork w → HasNoFields w.shape → IsStepper t → IsSized w.shape → Drives w t v → t.asked ≡ moves.Step step intent →
     Told w.shape intent step v found v' → IsServedWord w.shape step intent found → GoesOn w t v step intent found v'
 
 -- A pass accesses no cell while its stepper is outside all accesses.

@@ -16,13 +16,13 @@ use Rattle.arc_rule.specs.declared.attempt.At.{At as AttemptAt}
 use Rattle.arc_rule.specs.declared.attempt.At.TheVariants as attempt
 use Rattle.arc_plan.specs.declared.slots.Making.{Making as Search}
 use Rattle.arc_plan.specs.declared.slots.Making.TheVariants as search
-use Rattle.arc_cells.specs.declared.bare.At.{At}
-use Rattle.arc_cells.specs.declared.bare.At.TheVariants as at
+use Rattle.arc_cells.specs.declared.cascade.At.{At}
+use Rattle.arc_cells.specs.declared.cascade.At.TheVariants as at
 use Rattle.arc_script.specs.declared.script.ThreadDecl.{ThreadDecl}
 use Rattle.arc_script.specs.declared.script.VarDecl.{VarDecl}
 use Rattle.arc_script.specs.declared.script.Script.{Script}
 use Rattle.arc_script.specs.Valid.{IsScript, IsThread}
-use Rattle.arc_ops.specs.Programs.{vars_of, count_of_vars}
+use Rattle.arc_served.specs.Programs.{vars_of, count_of_vars}
 use Rattle.arc_ops.specs.declared.stepper.Held.{Held}
 use Rattle.arc_ops.specs.declared.stepper.Doing.{Doing}
 use Rattle.arc_ops.specs.declared.stepper.Doing.TheVariants as doings
@@ -34,7 +34,7 @@ use Rattle.arc_ops.specs.Steppers.{IsStepper, IsInOperation, IsUnderWay as IsAtW
 use Rattle.arc_replays.specs.Stages.{Reached, MayStep, is_step, is_phase_end, has_step, awaits_phase, stepped}
 use Rattle.arc_replays.specs.Stages.Reached.{inside, ends_it, outside, by_number, last_step}
 use Rattle.arc_plain.specs.Crews.{Progress, IsAtStage, IsUnderWay, IsAlone, MayGoOn, MayEnd, ThreadFinished, AccessEnded, thread_at, has_made}
-use Rattle.arc_plain.specs.Left.{held_unit, count_at, search_left, attempt_left, count_left, cascade_left, doing_left, left, FindsFree}
+use Rattle.arc_plain.specs.Left.{held_unit, count_at, search_left, attempt_left, count_left, finish_left, cascade_left, doing_left, left, FindsFree}
 use Rattle.arc_replays.proofs.Laws.{threads_are_at_work}
 use Rattle.arc_plain.proofs.Lists.{set_apart}
 use Rattle.arc_plain.proofs.Walks.{IsPhase, unit_few}
@@ -82,14 +82,22 @@ search_few words l (search.Counting s) = omega arith
 search_few words l (search.Naming s) = omega arith
 search_few words l search.Ended = omega arith
 
+finish_few : (entry : Option ℕ) (w : ℕ) (a : AttemptAt) → finish_left entry w a ≤ 3
+finish_few (Some e) w a = omega arith
+finish_few None w a = attempt_few w a
+
 cascade_few : (words : List ℕ) (a : At) → cascade_left words a ≤ 6
 cascade_few words at.Start = omega arith
 cascade_few words at.Entering = omega arith
 cascade_few words at.Naming = omega arith
 cascade_few words (at.Named name) = omega arith
+cascade_few words (at.Looking name field) = omega arith
+cascade_few words (at.Taking name field place) = omega arith
+cascade_few words (at.Dropping name field drop) = omega arith
 cascade_few words at.Leaving = omega arith
-cascade_few words (at.Finishing p) = let h = attempt_few (count_at words p.layout p.slot) p.at in omega arith
-cascade_few words (at.Vacating p) = omega arith
+cascade_few words (at.Finishing parent p) = let h = finish_few p.entry (count_at words p.layout p.slot) p.at in omega arith
+cascade_few words (at.Ending parent end) = omega arith
+cascade_few words (at.Resuming field) = omega arith
 cascade_few words at.Ended = omega arith
 
 doing_few : (words : List ℕ) (t : Thread) (d : Doing) → t.layout.slots ≤ 4096 → t.layout.globals ≤ 64 → length t.program ≤ 100000 → length t.vars ≤ 256 → IsAtWork t.layout t.shape (length t.vars) d → doing_left words t d ≤ 2 ^ 40
@@ -177,7 +185,7 @@ now p c step lt = get_or-set_same c.stage.threads p (after p c step) (stepper_of
 goes_on : (n : ℕ) (p : ℕ) (c : Progress) (step : Step) (intent : Intent) → IsAtStage n c → p < length c.stage.threads → (thread_at p c).asked ≡ moves.Step step intent →
     Goes (thread_at p c) c.stage.words (made_by step c.stage.words) (thread_at p c).doing (after p c step)
 goes_on n p c step intent u lt asked =
-    falls c.script.shape (thread_at p c) c.stage.words step intent (u.steppers p (stepper_of c.script p) lt) (threads_are_at_work c.script n c.stage p (thread_at p c) u.script u.served u.reached (there c p lt)).asks asked
+    falls c.script.shape (thread_at p c) c.stage.words step intent u.served.without_fields (u.steppers p (stepper_of c.script p) lt) (threads_are_at_work c.script n c.stage p (thread_at p c) u.script u.served u.reached (there c p lt)).asks asked
 
 -- the thread makes a step, and has fewer left
 pub alone_on : (p : ℕ) (before c : Progress) (step : Step) (intent : Intent) → Alone p before c → (thread_at p c).asked ≡ moves.Step step intent → All IsStepper (has_made p step c).stage.threads →

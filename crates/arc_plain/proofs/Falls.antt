@@ -28,7 +28,6 @@ use Rattle.arc_rule.specs.declared.step.Step.{Step}
 use Rattle.arc_rule.specs.declared.step.Step.TheVariants.{Load, Exchange, Store}
 use Rattle.arc_rule.specs.declared.step.Intent.{Intent}
 use Rattle.arc_rule.specs.declared.step.Intent.TheVariants as intents
-use Rattle.arc_rule.specs.declared.plan.Next.{Next as NextStep}
 use Rattle.arc_rule.specs.declared.plan.Next.TheVariants as nexts
 use Rattle.arc_rule.specs.declared.attempt.At.{At as AttemptAt}
 use Rattle.arc_rule.specs.declared.attempt.At.TheVariants as attempt
@@ -42,9 +41,7 @@ use Rattle.arc_plan.specs.declared.slots.Once.TheVariants as once
 use Rattle.arc_plan.specs.declared.strong.StrongUpAnswer.TheVariants as strong_ups
 use Rattle.arc_plan.specs.declared.strong.StrongDownAnswer.TheVariants as strong_downs
 use Rattle.arc_plan.specs.declared.unowned.UnownedUpAnswer.TheVariants as unowned_ups
-use Rattle.arc_plan.specs.declared.unowned.UnownedDownAnswer.{UnownedDownAnswer}
 use Rattle.arc_plan.specs.declared.unowned.UnownedDownAnswer.TheVariants as less
-use Rattle.arc_plan.specs.Attempts.{Attempt}
 use Rattle.arc_rule.specs.Attempts.{exchanging, chosen, told_as, turned_by, answer_by}
 use Rattle.arc_rule.specs.Isa.{isa_name_of}
 use Rattle.arc_plan.specs.Strong.{strong_up_row, strong_down_row, strong_down_end}
@@ -54,6 +51,7 @@ use Rattle.arc_side.specs.declared.up.UpAnswer.TheVariants as ups
 use Rattle.arc_side.specs.declared.down.DownAnswer.{DownAnswer}
 use Rattle.arc_side.specs.declared.down.DownAnswer.TheVariants as downs
 use Rattle.arc_side.specs.Inline.{entry_named}
+use Rattle.arc_side.specs.declared.slot_end.At.TheVariants as ends
 use Rattle.arc_side.specs.Ups.{Rise, of_strong_up, of_unowned_up, up_in, up_moved, up_place}
 use Rattle.arc_side.specs.Downs.{Fall, of_strong_down, of_unowned_down, down_end_at, down_in, down_moved, down_place}
 use Rattle.arc_plan.specs.Slots.{Creation, free_slot, looked, looked_answer, looking, taking, counting}
@@ -64,15 +62,16 @@ use Rattle.arc_cells.specs.declared.begin.BeginAnswer.TheVariants as begins
 use Rattle.arc_cells.specs.declared.swap.SwapAnswer.TheVariants as swaps
 use Rattle.arc_cells.specs.Begins.{Beginning}
 use Rattle.arc_cells.specs.Swaps.{SwapAttempt}
-use Rattle.arc_cells.specs.declared.bare.At.{At}
-use Rattle.arc_cells.specs.declared.bare.At.TheVariants as at
-use Rattle.arc_cells.specs.BareCascades.{CascadeState, finish_turned, finish_says}
+use Rattle.arc_cells.specs.declared.cascade.At.{At}
+use Rattle.arc_cells.specs.declared.cascade.At.TheVariants as at
+use Rattle.arc_cells.specs.Cascades.{HasNoFields, CascadeState, CascadeTurn, finishes}
+use Rattle.arc_ops_passes.proofs.Fields.{looks_at_none}
 use Rattle.arc_script.specs.declared.script.Op.{Op}
 use Rattle.arc_script.specs.declared.script.Op.TheVariants as op
 use Rattle.arc_script.specs.OneList.{in_one_list}
-use Rattle.arc_ops.specs.Programs.{GoesForth, BlocksFit, ops_in_first}
-use Rattle.arc_ops.proofs.Blocks.{long_as_phases}
-use Rattle.arc_ops.proofs.Counts.{first_all}
+use Rattle.arc_served.specs.Programs.{GoesForth, BlocksFit, ops_in_first}
+use Rattle.arc_served.proofs.Blocks.{long_as_phases}
+use Rattle.arc_served.proofs.Counts.{first_all}
 use Rattle.arc_ops.specs.declared.stepper.Held.{Held}
 use Rattle.arc_ops.specs.declared.stepper.Doing.{Doing}
 use Rattle.arc_ops.specs.declared.stepper.Doing.TheVariants as doings
@@ -87,7 +86,7 @@ use Rattle.arc_ops.specs.Cells.{cell_number, word_of, held_in, hand_in, swapped,
 use Rattle.arc_ops.specs.Plans.{hand_of, list_of, intent_of, drop_begun}
 use Rattle.arc_ops.specs.Gains.{gained, came_by, has_gained, found_dead, gained_on}
 use Rattle.arc_ops.specs.Begins.{begun, next_op}
-use Rattle.arc_ops.specs.Drops.{replaced, dropped_on, dying_on}
+use Rattle.arc_ops.specs.Drops.{replaced, dropped_on, deinit_tells, dying_asks, dying_on}
 use Rattle.arc_ops.specs.Gets.{opened_on}
 use Rattle.arc_ops.specs.Sets.{set_to, set_on, cleared, cleared_on}
 use Rattle.arc_ops.specs.Makes.{strong_to, made_on}
@@ -575,50 +574,84 @@ down_made t words after l hand kind slot seen new step intent fits asked = go (e
 
 -- ---- an object dies
 
-abbrev dying_state : Extent → HeapShape → ℕ → Option Act → At → CascadeState
-dying_state l shape s event at = record { layout = l; shape = shape; slot = s; at = at; event = event }
+abbrev dying_state : Extent → HeapShape → (s before taken : ℕ) → Option Act → At → CascadeState
+dying_state l shape s before taken event at = record { layout = l; shape = shape; slot = s; before = before; taken = taken; at = at; event = event }
 
-abbrev finish_plan : Extent → ℕ → AttemptAt → Attempt
-finish_plan l s at = record { layout = l; slot = s; at = at }
+abbrev finish_plan : Extent → ℕ → AttemptAt → Fall
+finish_plan l s at = down_plan l s kinds.Unowned at
 
--- a cascade at its end goes on, by what its attempt says
-abbrev dying_by : Thread → Extent → HeapShape → ℕ → Option Act → (before after : AttemptAt) → NextStep UnownedDownAnswer → Thread
-dying_by t l shape s event before after next =
-    dying_on (finish_turned (dying_state l shape s None at.Ended) (finish_plan l s after) next) (finish_says (dying_state l shape s event (at.Finishing (finish_plan l s before))) next)
-    (record (quiet t) { event = (finish_turned (dying_state l shape s None at.Ended) (finish_plan l s after) next).event })
+abbrev finishing_at : Extent → HeapShape → (s before taken : ℕ) → Option Act → AttemptAt → Doing
+finishing_at l shape s before taken event x = doings.Dying (dying_state l shape s before taken event (at.Finishing None (finish_plan l s x)))
 
-finish_read : (t : Thread) (words : List ℕ) (l : Extent) (shape : HeapShape) (s : ℕ) (event : Option Act) → Fits t →
-    Goes t words words (doings.Dying (dying_state l shape s event (at.Finishing (finish_plan l s attempt.Loading)))) (turned_at (Some (count_at words l s)) (doings.Dying (dying_state l shape s event (at.Finishing (finish_plan l s attempt.Loading)))) (quiet t))
-finish_read t words l shape s event fits = go (unpacked (count_at words l s))
+-- what a turn of the cascade makes of the thread
+abbrev dying_by : Thread → CascadeTurn → Thread
+dying_by t x = dying_on x.after x.says (deinit_tells x.after.event (quiet t))
+
+-- the deinit is over
+died : (t : Thread) (words after : List ℕ) (event : Option Act) (d : Doing) → Fits t → 4200 * busy_units t < doing_left words t d → Goes t words after d (next_op (deinit_tells event (quiet t)))
+died t words after event d fits lt =
+    goes_to t (deinit_tells event (quiet t)) (next_op (deinit_tells event (quiet t))) words after d (4200 * busy_units t) (record { layout = refl; phases = refl; program = refl; count = refl; phase = refl; globals = omega arith })
+    (next_comes (deinit_tells event (quiet t)) fits) lt
+
+-- the name was read, and no field is looked at
+name_told : (t : Thread) (words after : List ℕ) (l : Extent) (shape : HeapShape) (s before taken : ℕ) (event : Option Act) (found : ℕ) → HasNoFields shape →
+    Goes t words after (doings.Dying (dying_state l shape s before taken event at.Naming)) (turned_at (Some found) (doings.Dying (dying_state l shape s before taken event at.Naming)) (quiet t))
+name_told t words after l shape s before taken event found bare =
+    subst (λ (x : CascadeTurn). Goes t words after (doings.Dying (dying_state l shape s before taken event at.Naming)) (dying_asks x.after x.says (put (answers.Deinit (isa_name_of found)) (deinit_tells None (quiet t)))))
+    (sym (looks_at_none (dying_state l shape s before taken None at.Ended) (isa_name_of found) bare))
+    (record { layout = refl; phases = refl; program = refl; count = refl; phase = refl; inside = λ e. refl; past = λ f. tt; fewer = λ free. omega arith })
+
+-- by the entry to which the attempt goes on, and by what the row says of the word that was read
+abbrev finish_by : Extent → HeapShape → (s before taken : ℕ) → ℕ → Option ℕ → Choice DownAnswer → CascadeTurn
+finish_by l shape s before taken w e r =
+    finishes (dying_state l shape s before taken None at.Ended) None (turned_by down_moved (finish_plan l s attempt.Loading) (down_in (finish_plan l s attempt.Loading) e) (exchanging w r))
+    (answer_by down_place (down_in (finish_plan l s attempt.Loading) e) (chosen (number l (Count s)) w r))
+
+finish_read : (t : Thread) (words : List ℕ) (l : Extent) (shape : HeapShape) (s before taken : ℕ) (event : Option Act) → Fits t →
+    Goes t words words (finishing_at l shape s before taken event attempt.Loading) (turned_at (Some (count_at words l s)) (finishing_at l shape s before taken event attempt.Loading) (quiet t))
+finish_read t words l shape s before taken event fits = go (unpacked (count_at words l s))
   where
-    go : (o : Option Word) → Goes t words words (doings.Dying (dying_state l shape s event (at.Finishing (finish_plan l s attempt.Loading)))) (dying_by t l shape s event attempt.Loading (exchanging (count_at words l s) (unowned_down_row o)) (chosen (number l (Count s)) (count_at words l s) (unowned_down_row o)))
-    go None = over t words words _ _ fits (omega arith)
-    go (Some word.Free) = over t words words _ _ fits (omega arith)
-    go (Some word.Immortal) = over t words words _ _ fits (omega arith)
-    go (Some (word.Slow e)) = over t words words _ _ fits (omega arith)
-    go (Some (word.Counts c)) = record { layout = refl; phases = refl; program = refl; count = refl; phase = refl; inside = λ e. refl; past = λ f. tt; fewer = λ free. rw (eqb_same (count_at words l s)) (omega arith) }
+    w : ℕ
+    w = count_at words l s
 
-abbrev Gone : Thread → (words after : List ℕ) → Extent → HeapShape → ℕ → Option Act → (seen new : ℕ) → UnownedDownAnswer → Type 0
-Gone t words after l shape s event seen new a =
-    Goes t words after (doings.Dying (dying_state l shape s event (at.Finishing (finish_plan l s (attempt.Exchanging seen new))))) (dying_by t l shape s event (attempt.Exchanging seen new) attempt.Ended (nexts.Done a))
+    Read : Option ℕ → Choice DownAnswer → Type 0
+    Read e r = Goes t words words (finishing_at l shape s before taken event attempt.Loading) (dying_by t (finish_by l shape s before taken w e r))
 
-finish_made : (t : Thread) (words after : List ℕ) (l : Extent) (shape : HeapShape) (s : ℕ) (event : Option Act) (seen new : ℕ) → Fits t →
-    Goes t words after (doings.Dying (dying_state l shape s event (at.Finishing (finish_plan l s (attempt.Exchanging seen new)))))
-    (turned_at (Some (count_at words l s)) (doings.Dying (dying_state l shape s event (at.Finishing (finish_plan l s (attempt.Exchanging seen new))))) (quiet t))
-finish_made t words after l shape s event seen new fits = go (eqb (count_at words l s) seen) refl
+    more : Read None (Tell (downs.More None))
+    more = died t words words (Some (acts.Finish s false)) (finishing_at l shape s before taken event attempt.Loading) fits (omega arith)
+
+    go : (o : Option Word) → Read (entry_named o) (told_as of_unowned_down (unowned_down_row o))
+    go None = more
+    go (Some word.Free) = more
+    go (Some word.Immortal) = more
+    go (Some (word.Slow e)) = record { layout = refl; phases = refl; program = refl; count = refl; phase = refl; inside = λ e. refl; past = λ f. tt; fewer = λ free. omega arith }
+    go (Some (word.Counts c)) = record { layout = refl; phases = refl; program = refl; count = refl; phase = refl; inside = λ e. refl; past = λ f. tt; fewer = λ free. rw (eqb_same w) (omega arith) }
+
+-- the attempt has answered
+abbrev Gone : Thread → (words after : List ℕ) → Extent → HeapShape → (s before taken : ℕ) → Option Act → (seen new : ℕ) → DownAnswer → Type 0
+Gone t words after l shape s before taken event seen new a =
+    Goes t words after (finishing_at l shape s before taken event (attempt.Exchanging seen new)) (dying_by t (finishes (dying_state l shape s before taken None at.Ended) None (finish_plan l s attempt.Ended) (nexts.Done a)))
+
+finish_made : (t : Thread) (words after : List ℕ) (l : Extent) (shape : HeapShape) (s before taken : ℕ) (event : Option Act) (seen new : ℕ) → Fits t →
+    Goes t words after (finishing_at l shape s before taken event (attempt.Exchanging seen new)) (turned_at (Some (count_at words l s)) (finishing_at l shape s before taken event (attempt.Exchanging seen new)) (quiet t))
+finish_made t words after l shape s before taken event seen new fits = go (eqb (count_at words l s) seen) refl
   where
-    counted : (b : Bool) → eqb (count_at words l s) seen ≡ true → Gone t words after l shape s event seen new (cond b less.Last less.More)
+    more : eqb (count_at words l s) seen ≡ true → Gone t words after l shape s before taken event seen new (downs.More None)
+    more e = died t words after (Some (acts.Finish s false)) (finishing_at l shape s before taken event (attempt.Exchanging seen new)) fits (rw e (omega arith))
+
+    counted : (b : Bool) → eqb (count_at words l s) seen ≡ true → Gone t words after l shape s before taken event seen new (of_unowned_down (cond b less.Last less.More))
     counted true e = record { layout = refl; phases = refl; program = refl; count = refl; phase = refl; inside = λ e. refl; past = λ f. tt; fewer = λ free. rw e (omega arith) }
-    counted false e = over t words after _ _ fits (rw e (omega arith))
+    counted false e = more e
 
-    hit : (o : Option Word) → eqb (count_at words l s) seen ≡ true → Gone t words after l shape s event seen new (unowned_down_end o)
-    hit None e = over t words after _ _ fits (rw e (omega arith))
-    hit (Some word.Free) e = over t words after _ _ fits (rw e (omega arith))
-    hit (Some word.Immortal) e = over t words after _ _ fits (rw e (omega arith))
-    hit (Some (word.Slow x)) e = over t words after _ _ fits (rw e (omega arith))
+    hit : (o : Option Word) → eqb (count_at words l s) seen ≡ true → Gone t words after l shape s before taken event seen new (of_unowned_down (unowned_down_end o))
+    hit None e = more e
+    hit (Some word.Free) e = more e
+    hit (Some word.Immortal) e = more e
+    hit (Some (word.Slow x)) e = more e
     hit (Some (word.Counts c)) e = counted (eqb c.unowned 1) e
 
-    go : (b : Bool) → eqb (count_at words l s) seen ≡ b → Gone t words after l shape s event seen new (cond b (unowned_down_end (unpacked seen)) (less.Again (record { seen = seen; found = count_at words l s })))
+    go : (b : Bool) → eqb (count_at words l s) seen ≡ b →
+        Gone t words after l shape s before taken event seen new (cond b (of_unowned_down (unowned_down_end (unpacked seen))) (downs.Again (record { seen = seen; found = count_at words l s })))
     go true e = hit (unpacked seen) e
     go false e = record { layout = refl; phases = refl; program = refl; count = refl; phase = refl; inside = λ e. refl; past = λ f. tt; fewer = λ free. rw e (omega arith) }
 
@@ -628,9 +661,9 @@ finish_made t words after l shape s event seen new fits = go (eqb (count_at word
 abbrev Falls : Thread → List ℕ → Step → Doing → Type 0
 Falls t words step d = Goes t words (made_by step words) d (turned_at (Some (found_by step words)) d (quiet t))
 
-falls_at : (shape : HeapShape) (t : Thread) (words : List ℕ) (step : Step) (intent : Intent) (d : Doing) → Fits t → t.asked ≡ moves.Step step intent → Asks shape t d →
+falls_at : (shape : HeapShape) (t : Thread) (words : List ℕ) (step : Step) (intent : Intent) (d : Doing) → HasNoFields shape → Fits t → t.asked ≡ moves.Step step intent → Asks shape t d →
     IsUnderWay t.layout t.shape (length t.vars) d → IsInOperation t d → Falls t words step d
-falls_at shape t words step intent d fits asked a u o = go d a u o
+falls_at shape t words step intent d bare fits asked a u o = go d a u o
   where
     l : Extent
     l = extent_of shape
@@ -709,35 +742,36 @@ falls_at shape t words step intent d fits asked a u o = go d a u o
         rw is (down_made t words (made_by (Exchange (number (extent_of shape) (Count slot)) seen new) words) (extent_of shape) hand kind slot seen new step intent fits asked)
     dropping hand kind slot attempt.Ended h = absurd h
 
-    finishing : (s : ℕ) (event : Option Act) (x : AttemptAt) → CountAsks shape t.asked s (intents.Deinit s) x → Falls t words step (doings.Dying (dying_state (extent_of shape) shape s event (at.Finishing (finish_plan (extent_of shape) s x))))
-    finishing s event attempt.Start h = absurd h
-    finishing s event attempt.Loading h =
+    finishing : (s before taken : ℕ) (event : Option Act) (x : AttemptAt) → CountAsks shape t.asked s (intents.Deinit s) x → Falls t words step (finishing_at (extent_of shape) shape s before taken event x)
+    finishing s before taken event attempt.Start h = absurd h
+    finishing s before taken event attempt.Loading h =
         let is = asked_is t.asked step (Load (number (extent_of shape) (Count s))) intent (intents.Deinit s) asked h in
-        rw is (finish_read t words (extent_of shape) shape s event fits)
-    finishing s event (attempt.Exchanging seen new) h =
+        rw is (finish_read t words (extent_of shape) shape s before taken event fits)
+    finishing s before taken event (attempt.Exchanging seen new) h =
         let is = asked_is t.asked step (Exchange (number (extent_of shape) (Count s)) seen new) intent (intents.Deinit s) asked h in
-        rw is (finish_made t words (made_by (Exchange (number (extent_of shape) (Count s)) seen new) words) (extent_of shape) shape s event seen new fits)
-    finishing s event attempt.Ended h = absurd h
-
-    vacating : (s : ℕ) (event : Option Act) (x : Once) → VacateAsks shape t.asked s x → Falls t words step (doings.Dying (dying_state (extent_of shape) shape s event (at.Vacating (record { layout = extent_of shape; slot = s; at = x }))))
-    vacating s event once.Start h = absurd h
-    vacating s event once.Asked h = over t words (made_by step words) _ _ fits (omega arith)
-    vacating s event once.Ended h = absurd h
+        rw is (finish_made t words (made_by (Exchange (number (extent_of shape) (Count s)) seen new) words) (extent_of shape) shape s before taken event seen new fits)
+    finishing s before taken event attempt.Ended h = absurd h
 
     ending : (s : ℕ) (x : Once) → VacateAsks shape t.asked s x → Falls t words step (doings.Vacating s (record { layout = extent_of shape; slot = s; at = x }))
     ending s once.Start h = absurd h
     ending s once.Asked h = over t words (made_by step words) _ _ fits (omega arith)
     ending s once.Ended h = absurd h
 
-    dying : (s : ℕ) (event : Option Act) (x : At) → CascadeAsks shape t.asked s x → Falls t words step (doings.Dying (dying_state (extent_of shape) shape s event x))
-    dying s event at.Start h = absurd h
-    dying s event at.Entering h = record { layout = refl; phases = refl; program = refl; count = refl; phase = refl; inside = λ e. refl; past = λ f. tt; fewer = λ free. omega arith }
-    dying s event at.Naming h = record { layout = refl; phases = refl; program = refl; count = refl; phase = refl; inside = λ e. refl; past = λ f. tt; fewer = λ free. omega arith }
-    dying s event (at.Named name) h = absurd h
-    dying s event at.Leaving h = record { layout = refl; phases = refl; program = refl; count = refl; phase = refl; inside = λ e. refl; past = λ f. tt; fewer = λ free. omega arith }
-    dying s event (at.Finishing p) h = rw (h.0) (finishing s event p.at h.1)
-    dying s event (at.Vacating p) h = rw (h.0) (vacating s event p.at h.1)
-    dying s event at.Ended h = absurd h
+    dying : (s before taken : ℕ) (event : Option Act) (x : At) → CascadeAsks shape t.asked s x → Falls t words step (doings.Dying (dying_state (extent_of shape) shape s before taken event x))
+    dying s before taken event at.Start h = absurd h
+    dying s before taken event at.Entering h = record { layout = refl; phases = refl; program = refl; count = refl; phase = refl; inside = λ e. refl; past = λ f. tt; fewer = λ free. omega arith }
+    dying s before taken event at.Naming h = name_told t words (made_by step words) (extent_of shape) shape s before taken event (found_by step words) bare
+    dying s before taken event (at.Named name) h = absurd h
+    dying s before taken event (at.Looking name field) h = absurd h
+    dying s before taken event (at.Taking name field place) h = absurd h
+    dying s before taken event (at.Dropping name field drop) h = absurd h
+    dying s before taken event at.Leaving h = record { layout = refl; phases = refl; program = refl; count = refl; phase = refl; inside = λ e. refl; past = λ f. tt; fewer = λ free. omega arith }
+    dying s before taken event (at.Finishing None p) h = rw (h.0) (finishing s before taken event p.at h.1)
+    dying s before taken event (at.Finishing (Some parent) p) h = absurd h
+    dying s before taken event (at.Ending None end) h = rw (h.0) (died t words (made_by step words) (Some (acts.Vacate s)) (doings.Dying (dying_state (extent_of shape) shape s before taken event (at.Ending None (record { layout = extent_of shape; slot = s; entry = None; at = ends.Vacating; event = None })))) fits (omega arith))
+    dying s before taken event (at.Ending (Some parent) end) h = absurd h
+    dying s before taken event (at.Resuming field) h = absurd h
+    dying s before taken event at.Ended h = absurd h
 
     go : (d : Doing) → Asks shape t d → IsUnderWay t.layout t.shape (length t.vars) d → IsInOperation t d → Falls t words step d
     go doings.Ready a u o = absurd (let k : t.asked ≡ moves.PhaseEnd = a in cc)
@@ -754,7 +788,7 @@ falls_at shape t words step intent d fits asked a u o = go d a u o
     go (doings.Clearing plan) a u o =
         rw (a.0) (clearing (cell_number (extent_of shape) (cells.Global t.cleared)) 0 _ plan.at a.1 o)
     go (doings.Dropping held plan) a u o = rw (a.0) (dropping held.hand held.kind held.place plan.at a.1)
-    go (doings.Dying c) a u o = rw (a.0) (dying c.slot c.event c.at a.1)
+    go (doings.Dying c) a u o = rw (a.0) (dying c.slot c.before c.taken c.event c.at a.1)
     go (doings.Vacating slot plan) a u o = rw (a.0) (ending slot plan.at a.1)
     go doings.Ended a u o = absurd (let k : t.asked ≡ moves.Ended = a.0 in cc)
 
@@ -784,8 +818,8 @@ stepper_fits : (t : Thread) → IsStepper t → Fits t
 stepper_fits t s = (s.slots, blocks_forth t.program t.phases s.whole s.blocks)
 
 -- A thread that is given what its step finds has fewer steps left.
-pub falls : (shape : HeapShape) (t : Thread) (words : List ℕ) (step : Step) (intent : Intent) → IsStepper t → Asks shape t t.doing → t.asked ≡ moves.Step step intent → Falls t words step t.doing
-falls shape t words step intent s a asked = falls_at shape t words step intent t.doing (stepper_fits t s) asked a s.under_way s.in_operation
+pub falls : (shape : HeapShape) (t : Thread) (words : List ℕ) (step : Step) (intent : Intent) → HasNoFields shape → IsStepper t → Asks shape t t.doing → t.asked ≡ moves.Step step intent → Falls t words step t.doing
+falls shape t words step intent bare s a asked = falls_at shape t words step intent t.doing bare (stepper_fits t s) asked a s.under_way s.in_operation
 
 -- a thread without a step has nothing under way
 pub stops : (shape : HeapShape) (t : Thread) (d : Doing) → Asks shape t d → is_step t.asked ≡ false → is_busy d ≡ false
@@ -818,9 +852,15 @@ stops shape t d a idle = go d a
     dying s at.Entering h = stepping _ _ h
     dying s at.Naming h = stepping _ _ h
     dying s (at.Named name) h = h
+    dying s (at.Looking name field) h = h
+    dying s (at.Taking name field place) h = h
+    dying s (at.Dropping name field drop) h = h
     dying s at.Leaving h = stepping _ _ h
-    dying s (at.Finishing p) h = attempting _ _ p.at h.1
-    dying s (at.Vacating p) h = stepping_once _ _ p.at h.1
+    dying s (at.Finishing None p) h = attempting _ _ p.at h.1
+    dying s (at.Finishing (Some parent) p) h = h
+    dying s (at.Ending None end) h = stepping _ _ h.1
+    dying s (at.Ending (Some parent) end) h = h
+    dying s (at.Resuming field) h = h
     dying s at.Ended h = h
 
     go : (d : Doing) → Asks shape t d → is_busy d ≡ false

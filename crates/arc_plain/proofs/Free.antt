@@ -12,7 +12,7 @@ use Rattle.arc_cells.specs.Swaps.{SwapAttempt}
 use Rattle.arc_script.specs.declared.script.Script.{Script}
 use Rattle.arc_script.specs.declared.script.Op.{Op}
 use Rattle.arc_script.specs.Valid.{IsScript}
-use Rattle.arc_ops.specs.Served.{IsServed}
+use Rattle.arc_served.specs.Served.{IsServed}
 use Rattle.arc_ops.specs.Cells.{place_in, cell_number}
 use Rattle.arc_ops.specs.Thread.{Thread, stepper_of, is_accessing, in_access}
 use Rattle.arc_ops.specs.Steppers.{IsStepper, IsUnderWay as IsAtWork, IsInOperation}

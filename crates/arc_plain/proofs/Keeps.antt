@@ -16,9 +16,9 @@ use Rattle.arc_script.specs.declared.script.VarDecl.{VarDecl}
 use Rattle.arc_script.specs.declared.script.ThreadDecl.{ThreadDecl}
 use Rattle.arc_script.specs.Valid.{IsScript, IsThread}
 use Rattle.arc_replays.proofs.Phases.{IsInPhase, reached_phased}
-use Rattle.arc_ops.specs.Served.{IsServed}
+use Rattle.arc_served.specs.Served.{IsServed}
 use Rattle.arc_script.specs.declared.script.Op.{Op}
-use Rattle.arc_ops.specs.Programs.{phases_in, phases_of, program_of, vars_of}
+use Rattle.arc_served.specs.Programs.{phases_in, phases_of, program_of, vars_of}
 use Rattle.arc_ops.proofs.Made.{blocks_fit}
 use Rattle.arc_ops.specs.declared.stepper.Move.{Move}
 use Rattle.arc_ops.specs.declared.stepper.Move.TheVariants as moves
@@ -59,7 +59,7 @@ ended moves.Ended e f = refl
 steps_keep : (script : Script) (n : ℕ) (s : Stage) (p : ℕ) (t : Thread) (step : Step) (intent : Intent) → IsScript script → IsServed script → Reached script n s → MayStep s p t step intent → Keeps script p t → Keeps script p (turned t (Some (found_by step s.words)))
 steps_keep script n s p t step intent valid served r may k =
     let work = threads_are_at_work script n s p t valid served r may.there in
-    let goes = falls script.shape t s.words step intent may.stepper work.asks may.asked in
+    let goes = falls script.shape t s.words step intent served.without_fields may.stepper work.asks may.asked in
     record { phases = goes.phases ∙ k.phases; count = goes.count ∙ k.count; inside = goes.inside }
 
 -- a thread that waits begins its phase

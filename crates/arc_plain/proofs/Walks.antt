@@ -8,7 +8,6 @@ use Rattle.std.specs.Prelude.{position, slice_get, sum_by, ⊤}
 use Rattle.arc_rule.specs.Extents.{Extent}
 use Rattle.arc_script.specs.declared.script.Op.{Op}
 use Rattle.arc_script.specs.declared.script.Op.TheVariants as op
-use Rattle.arc_script.specs.declared.script.OpCell.TheVariants as opcell
 use Rattle.arc_model.specs.declared.answer.Answer.{Answer}
 use Rattle.arc_model.specs.declared.answer.Answer.TheVariants as answers
 use Rattle.arc_ops.specs.declared.gain.Gain.{Gain}
@@ -20,8 +19,9 @@ use Rattle.arc_ops.specs.declared.stepper.Move.{Move}
 use Rattle.arc_ops.specs.declared.stepper.Move.TheVariants as moves
 use Rattle.arc_ops.specs.Thread.{Thread, value, set_var, put, is_held, is_cell, is_accessing}
 use Rattle.arc_ops.specs.Plans.{drop_begun, make_begun}
-use Rattle.arc_ops.specs.Cells.{global_of, open_begun, set_begun, clear_begun}
-use Rattle.arc_ops.specs.Begins.{skipped, moved, begun_nil, begun_gain, begun_move, begun_drop, begun_op, has_globals, scope_over, scope_at, scope_drop, scope_begun, phase_end, phase_over, begun_at, begun, next_op}
+use Rattle.arc_ops.specs.declared.cell.Cell.{Cell}
+use Rattle.arc_ops.specs.Cells.{cell_of, clear_begun}
+use Rattle.arc_ops.specs.Begins.{skipped, moved, begun_nil, begun_gain, begun_move, begun_drop, begun_get, begun_set, begun_op, has_globals, scope_over, scope_at, scope_drop, scope_begun, phase_end, phase_over, begun_at, begun, next_op}
 use Rattle.arc_ops.specs.Drops.{replaced, replaced_old}
 use Rattle.arc_plain.specs.Left.{held_unit, globals_left, units, busy_units, left}
 use Rattle.arc_plain.proofs.Lists.{get_taken, get_dropped}
@@ -194,6 +194,14 @@ op_comes o t rest here slots forth later = at o forth
     dropping v (Some held) is = drops (put answers.Ok (record t { first = true })) v held (record { layout = refl; phases = refl; program = refl; count = refl; phase = refl; globals = omega arith }) refl (omega arith) is
     dropping v None is = skips answers.Nil
 
+    opening : (to : ℕ) (cell : Option Cell) (old : Option Held) → value t.vars to ≡ old → Comes t (begun_get to cell old t rest) (4200 * units t)
+    opening to (Some cell) old is = record { layout = refl; phases = refl; program = refl; count = refl; phase = refl; behind = refl; few = λ words. omega arith }
+    opening to None old is = nil to old is
+
+    setting : (from : ℕ) (cell : Option Cell) → Comes t (begun_set from cell t rest) (4200 * units t)
+    setting from (Some cell) = record { layout = refl; phases = refl; program = refl; count = refl; phase = refl; behind = refl; few = λ words. omega arith }
+    setting from None = skips answers.Nil
+
     goes : (b : Bool) (there elsewhere : ℕ) → t.index + 1 ≤ there → t.index + 1 ≤ elsewhere → Comes t (rest (record t { index = cond b there elsewhere })) (4200 * units t)
     goes true there elsewhere above below = behind (record t { index = there }) (record { layout = refl; phases = refl; program = refl; count = refl; phase = refl; globals = omega arith }) above (omega arith)
     goes false there elsewhere above below = behind (record t { index = elsewhere }) (record { layout = refl; phases = refl; program = refl; count = refl; phase = refl; globals = omega arith }) below (omega arith)
@@ -206,10 +214,8 @@ op_comes o t rest here slots forth later = at o forth
     at (op.Unown to of) f = gaining gains.Unown to (value t.vars of) (value t.vars to) refl
     at (op.Weak to of) f = skips answers.Nil
     at (op.Load to of) f = gaining gains.Load to (value t.vars of) (value t.vars to) refl
-    at (op.Get to (opcell.Global g)) f = record { layout = refl; phases = refl; program = refl; count = refl; phase = refl; behind = refl; few = λ words. omega arith }
-    at (op.Get to (opcell.Field owner field)) f = skips answers.Nil
-    at (op.Set (opcell.Global g) from) f = record { layout = refl; phases = refl; program = refl; count = refl; phase = refl; behind = refl; few = λ words. omega arith }
-    at (op.Set (opcell.Field owner field) from) f = skips answers.Nil
+    at (op.Get to cell) f = opening to (cell_of cell t) (value t.vars to) refl
+    at (op.Set cell from) f = setting from (cell_of cell t)
     at (op.IfNil v to) f = goes (is_held (value t.vars v)) to (t.index + 1) (omega arith) (omega arith)
     at (op.IfSome v to) f = goes (is_held (value t.vars v)) (t.index + 1) to (omega arith) (omega arith)
 

@@ -8,8 +8,8 @@ use Rattle.arc_plan.specs.declared.slots.Making.{Making as Search}
 use Rattle.arc_plan.specs.declared.slots.Making.TheVariants.{Looking, Taking, Counting}
 use Rattle.arc_rule.specs.Extents.{Extent}
 use Rattle.arc_rule.specs.Bits.{words_of, bit_of}
-use Rattle.arc_cells.specs.declared.bare.At.{At}
-use Rattle.arc_cells.specs.declared.bare.At.TheVariants.{Entering, Naming, Leaving, Finishing}
+use Rattle.arc_cells.specs.declared.cascade.At.{At}
+use Rattle.arc_cells.specs.declared.cascade.At.TheVariants.{Entering, Naming as Reading, Leaving, Finishing}
 use Rattle.arc_ops.specs.declared.stepper.Held.{Held}
 use Rattle.arc_ops.specs.declared.stepper.Doing.{Doing}
 use Rattle.arc_ops.specs.declared.stepper.Doing.TheVariants.{Ready, Making, Gaining, Naming, Opening, Closing, Setting, Clearing, Dropping, Dying, Vacating, Ended}
@@ -56,11 +56,17 @@ count_left None word _ = 1
 abbrev pub count_at : List ℕ → Extent → ℕ → ℕ
 count_at words l s = slice_index words (number l (Count s))
 
+-- the attempt at the end of a deinit
+abbrev pub finish_left : (entry : Option ℕ) → ℕ → AttemptAt → ℕ
+finish_left (Some e) word at = 1
+finish_left None word at = attempt_left word at
+
+-- The deinit of an object without fields, for which no other deinit waits.
 abbrev pub cascade_left : List ℕ → At → ℕ
 cascade_left words Entering = 6
-cascade_left words Naming = 5
+cascade_left words Reading = 5
 cascade_left words Leaving = 4
-cascade_left words (Finishing p) = 1 + attempt_left (count_at words p.layout p.slot) p.at
+cascade_left words (Finishing parent p) = 1 + finish_left p.entry (count_at words p.layout p.slot) p.at
 cascade_left words _ = 1
 
 abbrev pub doing_left : List ℕ → Thread → Doing → ℕ

@@ -4,7 +4,7 @@ ghost use Rattle.std.specs.Prelude.{◌≡◌, ◌<◌, ◌≤◌, ◌^◌, ◌+
 ghost use Rattle.arc_rule.specs.Places.{extent_of};
 ghost use Rattle.arc_rule.specs.Steps.{place_of, found_by};
 ghost use Rattle.arc_script.specs.Valid.{IsScript};
-ghost use Rattle.arc_ops.specs.Served.{IsServed};
+ghost use Rattle.arc_served.specs.Served.{IsServed};
 ghost use Rattle.arc_ops.specs.Thread.{stepper_of, in_access, in_operation};
 ghost use Rattle.arc_ops.specs.Turns.{turned};
 ghost use Rattle.arc_ops.specs.Takes.{takes};

@@ -2,7 +2,7 @@
 
 ghost use Rattle.std.specs.Prelude.{◌≡◌, ◌≤◌, drop, length, IfOk};
 ghost use Rattle.arc_script.specs.Valid.{IsScript};
-ghost use Rattle.arc_ops.specs.Served.{IsServed};
+ghost use Rattle.arc_served.specs.Served.{IsServed};
 ghost use Rattle.arc_replays.specs.Histories.{lines_from, first_lines};
 ghost use Rattle.arc_plain.specs.Replays.{IsReplay};
 

@@ -91,10 +91,10 @@ module _ (shape : HeapShape) (work : ℕ → Work) (threads : List Thread) (word
   pub turn : Turn
   turn =
       let sized : IsSized (work i).shape = subst IsSized (sym m.same_shape) r.kept.sized in
-      let may : Admits shape its.0 step intent = subst (λ (s : HeapShape). Admits s its.0 step intent) m.same_shape (steps_are_allowed (work i) t its.0 step intent m.served m.stepper sized its.2 m.asked) in
+      let may : Admits shape its.0 step intent = subst (λ (s : HeapShape). Admits s its.0 step intent) m.same_shape (steps_are_allowed (work i) t its.0 step intent m.served m.no_fields m.stepper sized its.2 m.asked) in
       let made = plain_steps_keep shape words r.views i its.0 step intent r.kept its.1 its.2.pass may in
       let told : Told (work i).shape intent step its.0 found made.view = subst (λ (s : HeapShape). Told s intent step its.0 found made.view) (sym m.same_shape) made.told in
-      let g = steppers_drive_on (work i) t its.0 step intent found made.view m.served m.stepper sized its.2 m.asked told m.word in
+      let g = steppers_drive_on (work i) t its.0 step intent found made.view m.served m.no_fields m.stepper sized its.2 m.asked told m.word in
       record { made = made; on = g; event = ap (λ (s : HeapShape). act_of s its.0 step intent found) (sym m.same_shape) ∙ sym g.event }
 
   replaying_on : Turn → Replaying shape work (slice_set threads i (turned t (Some found))) (made_by step words) (with_event_of (work i).thread (turned t (Some found)).event log)
@@ -174,7 +174,7 @@ replays_are_one_history shape work threads words log r = record {
       let extends : Extends (hands_in v.number v.seen) (hands_in (work i).thread log) = λ x ref known.
       subst (λ (q : ℕ × History). hands_in q.0 q.1 x ≡ Some ref) (λ j. (drives.number j, (sym f.begins.1 ∙ r.log_is) j))
       (others_bring_none v.number rest v.seen x (others_came v.number r.kept.log v.seen rest f.begins.1 (f.own drives.pass)) ∙ known) in
-      let stands : StandsFor (knowing (hands_in (work i).thread log) (work i)) t drives.notes = more_is_known (knowing (hands_in v.number v.seen) (work i)) (hands_in (work i).thread log) t drives.notes drives.stands extends in
+      let stands : StandsFor (knowing (hands_in (work i).thread log) (work i)) t [] drives.notes = more_is_known (knowing (hands_in v.number v.seen) (work i)) (hands_in (work i).thread log) t [] drives.notes drives.stands extends in
       (drives.notes, stands, subst (Ties Judged (work i).shape (work i).thread drives.notes) (sym f.begins.1 ∙ r.log_is) (ties_others Judged (work i).shape (work i).thread drives.notes v.seen rest others drives.tied));
   shows = λ ended.
       let none : (pl : Place) → Excepted r.views pl → ⊥ = λ pl x.
@@ -199,6 +199,6 @@ ended_threads_spell script came threads words log i t valid served within r at e
     let n = (replays_are_one_history script.shape (λ p. work_of script p came) threads words log r).notes i t at in record {
       notes = n.0;
       tied = n.2;
-      spelled = ended_steppers_spell script i (hands_in i log) t n.0 within n.1 ended;
+      spelled = ended_steppers_spell script i (hands_in i log) t [] n.0 within n.1 ended;
       share_is = notes_share Judged script.shape i n.0 log n.2;
     }

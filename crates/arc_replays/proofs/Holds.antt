@@ -23,7 +23,7 @@ use Rattle.arc_script.specs.declared.script.VarDecl.{VarDecl}
 use Rattle.arc_script.specs.declared.script.Script.{Script}
 use Rattle.arc_script.specs.Valid.{IsScript, field_refs}
 use Rattle.arc_quiet.specs.Whole.{NoOtherThread}
-use Rattle.arc_ops.specs.Served.{IsServed}
+use Rattle.arc_served.specs.Served.{IsServed}
 use Rattle.arc_ops.specs.declared.told.Stamped.{Stamped}
 use Rattle.arc_ops.specs.declared.stepper.Move.{Move}
 use Rattle.arc_ops.specs.declared.stepper.Move.TheVariants as moves
@@ -146,17 +146,17 @@ module _ (script : Script) (came : Hands) (valid : IsScript script) (served : Is
       its = h.replaying.drives p t there
 
       serves_it : Serves (work_of script p came) s.words h.replaying.views h.replaying.kept p its.0 its.1 its.2.pass (came_in log) bare few_came few_unowned_came t step intent asked step intent
-      serves_it = serves (work_of script p came) s.words h.replaying.views h.replaying.kept p its.0 its.1 its.2.pass (came_in log) bare few_came few_unowned_came t step intent asked (served-work script p came valid served) stepper its.2
+      serves_it = serves (work_of script p came) s.words h.replaying.views h.replaying.kept p its.0 its.1 its.2.pass (came_in log) bare few_came few_unowned_came t step intent asked (served-work script p came valid served) served.without_fields stepper its.2
 
       abbrev may_turn : MayTurn script.shape (λ q. work_of script q came) s.threads s.words p t step intent
-      may_turn = record { there = there; asked = asked; stepper = stepper; served = served-work script p came valid served; same_shape = refl; word = serves_it.word }
+      may_turn = record { there = there; asked = asked; stepper = stepper; served = served-work script p came valid served; no_fields = served.without_fields; same_shape = refl; word = serves_it.word }
 
       -- so many references came to the thread
       few_hands : next_hand p log ≤ 100067
       few_hands =
           let n = (replays_are_one_history script.shape (λ q. work_of script q came) s.threads s.words log h.replaying).notes p t there in
           let is : next_hand p log ≡ t.hands + 1 = hands_are Judged script.shape p n.0 log n.2 ∙ ap (λ k. k + 1) (sym n.1.counts.hands_are) in
-          let hands = stepper.hands in let index = stepper.index in let few = stepper.few in let cleared = stepper.cleared in let globals = stepper.globals in
+          let hands = stepper.hands in let untaken = its.2.untaken in let index = stepper.index in let few = stepper.few in let cleared = stepper.cleared in let globals = stepper.globals in
           omega arith
 
       pub goes_to : GoesTo script came s p t step

@@ -7,7 +7,7 @@ use Rattle.arc_rule.specs.declared.step.Step.{Step}
 use Rattle.arc_rule.specs.declared.step.Step.TheVariants.{Load, Exchange, Store, Or, And}
 use Rattle.arc_script.specs.declared.script.Script.{Script}
 use Rattle.arc_script.specs.Valid.{IsScript}
-use Rattle.arc_ops.specs.Served.{IsServed}
+use Rattle.arc_served.specs.Served.{IsServed}
 use Rattle.arc_programs.specs.Programs.{Hands}
 use Rattle.arc_spelled.specs.Spelled.{work_of}
 use Rattle.arc_spelled.proofs.SteppersSpell.{served-work}
@@ -39,7 +39,7 @@ steps_may_be_made script ending s p t step intent valid served r there stepper a
     let h = holds script valid served ending s r in
     let d = h.replaying.drives p t there in
     record {
-      place = by d.0 step (steps_are_allowed (work_of script p nothing) t d.0 step intent (served-work script p nothing valid served) stepper h.replaying.kept.sized d.2 asked) h.replaying.kept.words.whole;
+      place = by d.0 step (steps_are_allowed (work_of script p nothing) t d.0 step intent (served-work script p nothing valid served) served.without_fields stepper h.replaying.kept.sized d.2 asked) h.replaying.kept.words.whole;
       takes_it = (goes_to script nothing valid served s h p t step intent there stepper asked).takes_it;
     }
   where

@@ -26,8 +26,8 @@ use Rattle.arc_programs.specs.ProgramsTied.{hands_in, operations, Spells}
 use Rattle.arc_programs.specs.ProgramsTied.Spells.{thread as spells_thread, end as spells_end}
 use Rattle.arc_programs_laws.specs.Phases.{HasDonePhases}
 use Rattle.arc_programs_laws.specs.Phases.HasDonePhases.{some as done_some, all as done_all}
-use Rattle.arc_ops.specs.Served.{IsServed}
-use Rattle.arc_ops.specs.Programs.{declared_of, phases_in, phases_of, program_of, vars_of, count_of_vars, ops_in_first}
+use Rattle.arc_served.specs.Served.{IsServed}
+use Rattle.arc_served.specs.Programs.{declared_of, phases_in, phases_of, program_of, vars_of, count_of_vars, ops_in_first}
 use Rattle.arc_ops.specs.declared.stepper.Doing.{Doing}
 use Rattle.arc_ops.specs.declared.stepper.Doing.TheVariants.{Ready, Making, Gaining, Naming, Opening, Closing, Setting, Clearing, Dropping, Dying, Vacating, Ended}
 use Rattle.arc_ops.specs.declared.stepper.Move.{Move}
@@ -183,7 +183,7 @@ module _ (script : Script) (came : Hands) (valid : IsScript script) (served : Is
       by : (t : Thread) → slice_get s.threads p ≡ Some t → (t.asked ≡ moves.PhaseEnd × (t.phase ≡ k) × (t.phase < length (phases_of script p))) ⊎ (t.asked ≡ moves.Ended × (length (phases_of script p) ≤ k)) → HasDonePhases script k p decl log
       by t at (inl (asked, phase, below)) =
           let n = (replays_are_one_history script.shape (λ q. work_of script q came) s.threads s.words log h.replaying).notes p t at in
-          let ops : OpsDone script.shape p (hands_in p log) (program_of script p) (vars_of script p) (ops_in_first t.phase (phases_of script p)) (variables t.vars) n.0 = ready_steppers_have_done script p (hands_in p log) t n.0 n.1 asked in
+          let ops : OpsDone script.shape p (hands_in p log) (program_of script p) (vars_of script p) (ops_in_first t.phase (phases_of script p)) (variables t.vars) n.0 = ready_steppers_have_done script p (hands_in p log) t [] n.0 n.1 asked in
           done_some
           (subst (λ (x : ℕ × List (List Op)). x.0 < length x.1) (λ j. (phase j, phases_are j)) below)
           n.2

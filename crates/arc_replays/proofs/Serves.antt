@@ -38,13 +38,14 @@ use Rattle.arc_plan.specs.declared.slots.Making.{Making as Search}
 use Rattle.arc_plan.specs.declared.slots.Making.TheVariants as search
 use Rattle.arc_plan.specs.declared.slots.Once.{Once}
 use Rattle.arc_plan.specs.declared.slots.Once.TheVariants as once
-use Rattle.arc_cells.specs.declared.bare.At.{At as CascadeAt}
-use Rattle.arc_cells.specs.declared.bare.At.TheVariants as ats
-use Rattle.arc_cells.specs.BareCascades.{IsInline}
+use Rattle.arc_cells.specs.declared.cascade.At.{At as CascadeAt}
+use Rattle.arc_cells.specs.declared.cascade.At.TheVariants as ats
+use Rattle.arc_cells.specs.Cascades.{HasNoFields}
+use Rattle.arc_ops.specs.Takes.{IsInline}
 use Rattle.arc_side.specs.Inline.{IsCountedInline}
 use Rattle.arc_script.specs.declared.script.Op.{Op}
 use Rattle.arc_script.specs.declared.script.Op.TheVariants as op
-use Rattle.arc_ops.specs.Programs.{ClassFits}
+use Rattle.arc_served.specs.Programs.{ClassFits}
 use Rattle.arc_ops.specs.declared.stepper.Held.{Held}
 use Rattle.arc_ops.specs.declared.stepper.Doing.{Doing}
 use Rattle.arc_ops.specs.declared.stepper.Doing.TheVariants as doings
@@ -384,12 +385,18 @@ module _ (w : Work) (words : List ℕ) (views : List View) (k : IsKept w.shape (
       event = tt;
     })
     dying s (ats.Named name) lt works duty x = absurd x
+    dying s (ats.Looking name field) lt works duty x = absurd x
+    dying s (ats.Taking name field place) lt works duty x = absurd x
+    dying s (ats.Dropping name field drop) lt works duty x = absurd x
     dying s ats.Leaving lt works duty x = as_asked (Load (number (extent_of w.shape) (Next s))) (intents.Deinit s) x (record {
       word = λ e. absurd (apart s (Next s) (place_at-number (extent_of w.shape) (Next s) lt) lt (λ u. cc) e);
       event = tt;
     })
-    dying s (ats.Finishing p) lt works duty x = finishing s p.at lt (ap (λ (y : Working). y.owes) works) duty x.1
-    dying s (ats.Vacating p) lt works duty x = vacating s p.at lt x.1
+    dying s (ats.Finishing None p) lt works duty x = finishing s p.at lt (ap (λ (y : Working). y.owes) works) duty x.1
+    dying s (ats.Finishing (Some parent) p) lt works duty x = absurd x
+    dying s (ats.Ending None end) lt works duty x = vacating s once.Asked lt x.1
+    dying s (ats.Ending (Some parent) end) lt works duty x = absurd x
+    dying s (ats.Resuming field) lt works duty x = absurd x
     dying s ats.Ended lt works duty x = absurd x
 
     -- an object that the pass owes something is in a slot of the shape
@@ -397,13 +404,17 @@ module _ (w : Work) (words : List ℕ) (views : List View) (k : IsKept w.shape (
     owed_within s d within o = (each_at (IsWithin w.shape) (heap_after v.seen).objects o.place o.object within.within o.here).0 s o.slot
 
     duty_within : (s : ℕ) (a : CascadeAt) → InShape w.shape v.seen → DutyAt v s a → s < w.shape.slots
-    duty_within s (ats.Vacating p) within o = owed_within s Vacating within o
+    duty_within s (ats.Ending parent end) within o = owed_within s Vacating within o
     duty_within s ats.Start within o = owed_within s Deinit within o
     duty_within s ats.Entering within o = owed_within s Deinit within o
     duty_within s ats.Naming within o = owed_within s Deinit within o
     duty_within s (ats.Named name) within o = owed_within s Deinit within o
+    duty_within s (ats.Looking name field) within o = owed_within s Deinit within o
+    duty_within s (ats.Taking name field place) within o = owed_within s Deinit within o
+    duty_within s (ats.Dropping name field drop) within o = owed_within s Deinit within o
     duty_within s ats.Leaving within o = owed_within s Deinit within o
-    duty_within s (ats.Finishing p) within o = owed_within s Deinit within o
+    duty_within s (ats.Finishing parent p) within o = owed_within s Deinit within o
+    duty_within s (ats.Resuming field) within o = owed_within s Deinit within o
     duty_within s ats.Ended within o = owed_within s Deinit within o
 
     serves_at : (d : Doing) → Facts w t v d → Serves step intent
@@ -438,5 +449,5 @@ module _ (w : Work) (words : List ℕ) (views : List View) (k : IsKept w.shape (
     serves_at (doings.Dying c) f = dying c.slot c.at (duty_within c.slot c.at f.in_shape f.under_way.duty) f.under_way.working f.under_way.duty f.asks.1
     serves_at doings.Ended f = no_step moves.Ended f.asks.0 (λ e. cc)
 
-    pub serves : IsServedWork w → IsStepper t → Drives w t v → Serves step intent
-    serves served stepper d = serves_at t.doing (facts w t v served stepper k.sized d)
+    pub serves : IsServedWork w → HasNoFields w.shape → IsStepper t → Drives w t v → Serves step intent
+    serves served no_fields stepper d = serves_at t.doing (facts w t v served no_fields stepper k.sized d)

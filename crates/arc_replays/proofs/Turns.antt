@@ -18,7 +18,7 @@ use Rattle.arc_side.specs.Ups.{Rise, up_turned, up_answer}
 use Rattle.arc_side.specs.Downs.{Fall, down_turned, down_answer}
 use Rattle.arc_cells.specs.declared.cascade.CascadeNext.{CascadeNext}
 use Rattle.arc_cells.specs.declared.cascade.CascadeNext.TheVariants as says
-use Rattle.arc_cells.specs.BareCascades.{CascadeState, cascade_turned, cascade_answer}
+use Rattle.arc_cells.specs.Cascades.{CascadeState, cascade_turned, cascade_answer}
 use Rattle.arc_model.specs.declared.event.ObjectName.{ObjectName}
 use Rattle.arc_model.specs.declared.event.Act.TheVariants as acts
 use Rattle.arc_model.specs.declared.event.Got.TheVariants as gots
@@ -27,7 +27,6 @@ use Rattle.arc_model.specs.declared.shape.Kind.TheVariants.{Strong, Unowned, Wea
 use Rattle.arc_model.specs.declared.answer.Answer.TheVariants as answers
 use Rattle.arc_script.specs.declared.script.Op.{Op}
 use Rattle.arc_script.specs.declared.script.Op.TheVariants as op
-use Rattle.arc_script.specs.declared.script.OpCell.TheVariants as opcell
 use Rattle.arc_model.specs.declared.event.CellName.{CellName}
 use Rattle.arc_model.specs.declared.event.Origin.{Origin}
 use Rattle.arc_model.specs.declared.event.Origin.TheVariants as origins
@@ -40,7 +39,7 @@ use Rattle.arc_cells.specs.Ends.{AccessEnd, end_turned, end_answer}
 use Rattle.arc_cells.specs.Swaps.{SwapAttempt, swap_turned, swap_answer}
 use Rattle.arc_ops.specs.declared.cell.Cell.{Cell}
 use Rattle.arc_ops.specs.declared.gain.Source.{Source}
-use Rattle.arc_ops.specs.Cells.{global_of, source_in, held_in, hand_in, swapped, open_begun, set_begun, clear_begun, next_global}
+use Rattle.arc_ops.specs.Cells.{cell_of, source_in, held_in, hand_in, swapped, open_begun, set_begun, clear_begun, next_global}
 use Rattle.arc_ops.specs.Gets.{opened_on, closed_on}
 use Rattle.arc_ops.specs.Sets.{set_on, cleared_on}
 use Rattle.arc_ops.specs.declared.stepper.Held.{Held}
@@ -52,8 +51,8 @@ use Rattle.arc_ops.specs.declared.gain.Gain.{Gain}
 use Rattle.arc_ops.specs.declared.gain.Gain.TheVariants as gains
 use Rattle.arc_ops.specs.Thread.{Thread, value, set_var, put, asking, is_held}
 use Rattle.arc_ops.specs.Plans.{hand_of, of_hand, drop_begun, gain_begun, make_begun, make_begun_as}
-use Rattle.arc_ops.specs.Begins.{skipped, begun_nil, begun_gain, moved, begun_move, begun_drop, begun_op, has_globals, scope_drop, scope_at, scope_begun, phase_end, phase_over, block_goes_on, at_place, begun_at, begun, next_op}
-use Rattle.arc_ops.specs.Drops.{replaced_old, replaced, dying_asks, last_gone, dropped_on, dying_on, vacated_on}
+use Rattle.arc_ops.specs.Begins.{skipped, begun_nil, begun_gain, moved, begun_move, begun_drop, begun_get, begun_set, begun_op, has_globals, scope_drop, scope_at, scope_begun, phase_end, phase_over, block_goes_on, at_place, begun_at, begun, next_op}
+use Rattle.arc_ops.specs.Drops.{replaced_old, replaced, dying_asks, last_gone, dropped_on, deinit_tells, dying_on, vacated_on}
 use Rattle.arc_ops.specs.Gains.{gained, came_by, has_gained, gained_on, named_on}
 use Rattle.arc_ops.specs.Makes.{came_to, made_on, strong_to}
 use Rattle.arc_ops.specs.Turns.{turned_at, turned}
@@ -168,6 +167,14 @@ module _ (phases : List (List Op)) (n : ℕ) where
       skips : IsAfter phases n (rest (skipped answers.Nil t))
       skips = go (skipped answers.Nil t) (record { phases_are = i.phases_are; phase_is = i.phase_is; idle = i.idle })
 
+      opens : (to : ℕ) (cell : Option Cell) (old : Option Held) → IsAfter phases n (begun_get to cell old t rest)
+      opens to (Some cell) old = open_after to cell (record t { first = true }) firstly
+      opens to None old = nil to old
+
+      sets : (from : ℕ) (cell : Option Cell) → IsAfter phases n (begun_set from cell t rest)
+      sets from (Some cell) = set_after from cell (record t { first = true }) firstly
+      sets from None = skips
+
       -- at a block
       goes_by : (place : Option ℕ) → IsAfter phases n (rest (at_place place t))
       goes_by None = go t i
@@ -181,10 +188,8 @@ module _ (phases : List (List Op)) (n : ℕ) where
       by (op.Unown to of) = gains_from gains.Unown to (value t.vars of) (value t.vars to)
       by (op.Weak to of) = skips
       by (op.Load to of) = gains_from gains.Load to (value t.vars of) (value t.vars to)
-      by (op.Get to (opcell.Global g)) = open_after to (global_of t.shape g) (record t { first = true }) firstly
-      by (op.Get to (opcell.Field owner field)) = skips
-      by (op.Set (opcell.Global g) from) = set_after from (global_of t.shape g) (record t { first = true }) firstly
-      by (op.Set (opcell.Field owner field) from) = skips
+      by (op.Get to cell) = opens to (cell_of cell t) (value t.vars to)
+      by (op.Set cell from) = sets from (cell_of cell t)
       by (op.IfNil v to) = goes_by (block_goes_on t.vars t.index (op.IfNil v to))
       by (op.IfSome v to) = goes_by (block_goes_on t.vars t.index (op.IfSome v to))
 
@@ -335,6 +340,6 @@ turned_after t last may = at t.doing refl may
     at (Setting from cell plan) is m = set_on_after t.phases t.phase from cell (swap_turned plan last) (swap_answer plan last) (quiet t) idle
     at (Clearing plan) is m = cleared_after t.phases t.phase (swap_turned plan last) (swap_answer plan last) (quiet t) idle
     at (Dropping held plan) is m = dropped_after t.phases t.phase held (down_turned plan last) (down_answer plan last) (quiet t) idle (no is (λ e. cc) m)
-    at (Dying c) is m = dying_after t.phases t.phase (cascade_turned c last) (cascade_answer c last) (record (quiet t) { event = (cascade_turned c last).event }) (record { phases_are = refl; phase_is = refl; idle = refl }) (no is (λ e. cc) m)
+    at (Dying c) is m = dying_after t.phases t.phase (cascade_turned c last) (cascade_answer c last) (deinit_tells (cascade_turned c last).event (quiet t)) (record { phases_are = refl; phase_is = refl; idle = refl }) (no is (λ e. cc) m)
     at (Vacating slot plan) is m = vacated_after t.phases t.phase slot (one_turned plan last) (vacate_answer plan last) (quiet t) idle
     at Ended is m = asked_stays t.phases t.phase (quiet t) idle (no is (λ e. cc) m)

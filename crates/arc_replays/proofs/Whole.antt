@@ -39,8 +39,8 @@ use Rattle.arc_programs_laws.proofs.ClassesNamed.{lines_name_classes}
 use Rattle.arc_programs_laws.proofs.Totals.{claims_end, deinit_lines_are_emptied, every_line_finds_room}
 use Rattle.arc_ops.specs.declared.told.Stamped.{Stamped}
 use Rattle.arc_ops.specs.declared.told.ThreadLines.{ThreadLines}
-use Rattle.arc_ops.specs.Programs.{phases_of, new_count, room_in}
-use Rattle.arc_ops.specs.Served.{IsServed}
+use Rattle.arc_served.specs.Programs.{phases_of, new_count, room_in}
+use Rattle.arc_served.specs.Served.{IsServed}
 use Rattle.arc_ops.specs.Thread.{Thread}
 use Rattle.arc_spelled.specs.Spelled.{work_of}
 use Rattle.arc_view.specs.Rule.{InShape}

@@ -11,7 +11,7 @@ use Rattle.arc_model.specs.Cells.{is_immortal, forever_if}
 use Rattle.arc_model.specs.WellFormed.{IsWhole, tally}
 use Rattle.arc_model.proofs.Stages.{live-facts}
 use Rattle.arc_rule.specs.Shown.{ShowsCounts, IsInline as IsInlineWord, IsHeader, counts_in}
-use Rattle.arc_cells.specs.BareCascades.{IsInline}
+use Rattle.arc_ops.specs.Takes.{IsInline}
 use Rattle.arc_view.specs.Rule.{IsSized}
 use Rattle.arc_view_laws.proofs.StrongWords.{one_unpacked}
 use Rattle.arc_ops_passes.specs.Laws.{IsBelowCaps}

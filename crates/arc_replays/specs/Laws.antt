@@ -7,8 +7,8 @@ use Rattle.arc_rule.specs.declared.step.Intent.{Intent}
 use Rattle.arc_script.specs.declared.script.Script.{Script}
 use Rattle.arc_script.specs.Valid.{IsScript}
 use Rattle.arc_ops.specs.declared.stepper.Move.TheVariants as moves
-use Rattle.arc_ops.specs.Served.{IsServed}
-use Rattle.arc_ops.specs.Programs.{program_of}
+use Rattle.arc_served.specs.Served.{IsServed}
+use Rattle.arc_served.specs.Programs.{program_of}
 use Rattle.arc_ops.specs.Thread.{Thread}
 use Rattle.arc_ops.specs.Takes.{takes}
 use Rattle.arc_ops.specs.Steppers.{IsStepper}

@@ -13,6 +13,7 @@ use Rattle.arc_rule.specs.Shown.{Shows}
 use Rattle.arc_rule.specs.Steps.{found_by, made_by}
 use Rattle.arc_rule.specs.declared.step.Step.{Step}
 use Rattle.arc_rule.specs.declared.step.Intent.{Intent}
+use Rattle.arc_cells.specs.Cascades.{HasNoFields}
 use Rattle.arc_ops.specs.declared.stepper.Move.TheVariants as moves
 use Rattle.arc_ops.specs.Thread.{Thread, stepper_of}
 use Rattle.arc_ops.specs.Turns.{turned}
@@ -21,7 +22,7 @@ use Rattle.arc_ops.specs.Steppers.{IsStepper}
 use Rattle.arc_spelled.specs.StepperStands.{Work, IsServedWork, StandsFor}
 use Rattle.arc_spelled.specs.Came.{knowing}
 use Rattle.arc_spelled.specs.Spelled.{work_of, with_event_of, IsSpelled}
-use Rattle.arc_ops.specs.Served.{IsServed}
+use Rattle.arc_served.specs.Served.{IsServed}
 use Rattle.arc_script.specs.Valid.{IsScript}
 use Rattle.arc_programs.specs.Programs.{Hands}
 use Rattle.arc_programs.specs.ProgramsTied.{hands_in}
@@ -64,6 +65,8 @@ pub record MayTurn (shape : HeapShape) (work : ℕ → Work) (threads : List Thr
   pub asked : t.asked ≡ moves.Step step intent
   pub stepper : IsStepper t
   pub served : IsServedWork (work i)
+  -- so far no class has a field
+  pub no_fields : HasNoFields (work i).shape
   pub same_shape : (work i).shape ≡ shape
   pub word : IsServedWord (work i).shape step intent (found_by step words)
 
@@ -92,7 +95,7 @@ ReplaysBeginPhases = (shape : HeapShape) (work : ℕ → Work) (threads after : 
 -- the heap after it.
 pub record IsOneHistory (shape : HeapShape) (work : ℕ → Work) (threads : List Thread) (words : List ℕ) (log : History) : Type 0 where
   pub legal : IsLegal shape log
-  pub notes : (i : ℕ) (t : Thread) → slice_get threads i ≡ Some t → (ns : List Note) × StandsFor (knowing (hands_in (work i).thread log) (work i)) t ns × Ties Judged (work i).shape (work i).thread ns log
+  pub notes : (i : ℕ) (t : Thread) → slice_get threads i ≡ Some t → (ns : List Note) × StandsFor (knowing (hands_in (work i).thread log) (work i)) t [] ns × Ties Judged (work i).shape (work i).thread ns log
   pub shows : ((i : ℕ) (t : Thread) → slice_get threads i ≡ Some t → t.asked ≡ moves.Ended) → Shows shape (heap_after log) words
 
 abbrev pub ReplaysAreOneHistory : Type 0

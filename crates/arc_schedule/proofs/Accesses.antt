@@ -37,15 +37,15 @@ use Rattle.arc_rule.specs.Bits.{words_of, bit_of}
 use Rattle.arc_model.specs.declared.shape.Kind.{Kind}
 use Rattle.arc_model.specs.Shapes.{CapNumbers, class_at}
 use Rattle.arc_plan.specs.Unowned.{unowned_down_row, unowned_down_end}
-use Rattle.arc_cells.specs.declared.bare.At.{At as CascadeAt}
-use Rattle.arc_cells.specs.declared.bare.At.TheVariants as at
+use Rattle.arc_cells.specs.declared.cascade.At.{At as CascadeAt}
+use Rattle.arc_cells.specs.declared.cascade.At.TheVariants as at
 use Rattle.arc_cells.specs.declared.begin.BeginAnswer.{BeginAnswer}
 use Rattle.arc_cells.specs.declared.begin.BeginAnswer.TheVariants as begins
 use Rattle.arc_cells.specs.declared.swap.SwapAnswer.TheVariants as swaps
 use Rattle.arc_cells.specs.Begins.{Beginning, begin_row, begin_turned, begin_answer}
 use Rattle.arc_cells.specs.Ends.{AccessEnd, ending, end_turned, end_answer}
 use Rattle.arc_cells.specs.Swaps.{SwapAttempt, swap_row, swap_turned, swap_answer}
-use Rattle.arc_cells.specs.BareCascades.{cascade_turned, cascade_answer}
+use Rattle.arc_cells.specs.Cascades.{cascade_turned, cascade_answer}
 use Rattle.arc_model.specs.declared.event.Origin.{Origin}
 use Rattle.arc_model.specs.declared.event.Origin.TheVariants as origins
 use Rattle.arc_ops.specs.declared.stepper.Held.{Held}
@@ -55,7 +55,7 @@ use Rattle.arc_ops.specs.Gains.{gained_on, named_on}
 use Rattle.arc_ops.specs.Gets.{opened_on, closed_on}
 use Rattle.arc_ops.specs.Sets.{set_on}
 use Rattle.arc_ops.specs.Makes.{made_on}
-use Rattle.arc_ops.specs.Drops.{dropped_on, dying_on, vacated_on}
+use Rattle.arc_ops.specs.Drops.{dropped_on, dying_on, deinit_tells, vacated_on}
 use Rattle.arc_ops.specs.Takes.{gain_takes, takes_at, takes}
 use Rattle.arc_ops.specs.Turns.{turned_at, turned}
 use Rattle.arc_ops.proofs.Moves.{gain_answers}
@@ -353,7 +353,7 @@ swaps-calm l g new put hand free w = go w.gave.before.at w.gave.answers
 -- A thread is inside an access behind its steps where its stepper says so: so it is behind the next one.
 pub inside-on : (k : Task) (n : ℕ) (t : Thread) (s : Step) (w : ℕ) (now : List Made) → Stands k n t now → step_in t.asked ≡ Some s → takes t (Some w) →
     enters (extent_of k.shape) s w (accesses t) ≡ accesses (turned t (Some w))
-inside-on k n t s w now st asked takes = go t.doing st.up_to takes
+inside-on k n t s w now st asked takes = go t.doing st.up_to takes.0
   where
     l : Extent
     l = extent_of k.shape
@@ -410,18 +410,22 @@ inside-on k n t s w now st asked takes = go t.doing st.up_to takes
     go (Dying c) u takes = dying c.at u.place
       where
         new : Thread
-        new = dying_on (cascade_turned c (Some w)) (cascade_answer c (Some w)) (record (idle t) { event = (cascade_turned c (Some w)).event })
+        new = dying_on (cascade_turned c (Some w)) (cascade_answer c (Some w)) (deinit_tells (cascade_turned c (Some w)).event (idle t))
 
         away : accesses new ≡ false
-        away = dying-outside (cascade_turned c (Some w)) (cascade_answer c (Some w)) (record (idle t) { event = (cascade_turned c (Some w)).event }) refl
+        away = dying-outside (cascade_turned c (Some w)) (cascade_answer c (Some w)) (deinit_tells (cascade_turned c (Some w)).event (idle t)) refl
 
         dying : (a : CascadeAt) → CascadeUpTo k.shape (here k st.job st.at) c.slot u.base now (step_in t.asked) a → enters (extent_of k.shape) s w false ≡ accesses new
         dying at.Start p = absurd p
         dying at.Entering p = out (steps.Store (number (extent_of k.shape) (NextPlace c.slot)) 0) p.1 (stored (extent_of k.shape) (number (extent_of k.shape) (NextPlace c.slot)) 0) new away
         dying at.Naming p = out (steps.Load (number (extent_of k.shape) (Isa c.slot))) p.1 (λ found. refl) new away
         dying (at.Named name) p = absurd p
+        dying (at.Looking name field) p = absurd p
+        dying (at.Taking name field place) p = absurd p
+        dying (at.Dropping name field d) p = absurd p
+        dying (at.Resuming field) p = absurd p
         dying at.Leaving p = out (steps.Load (number (extent_of k.shape) (NextPlace c.slot))) p.1 (λ found. refl) new away
-        dying (at.Finishing q) p = out p.waits.step p.waits.asked_is (still-calm (extent_of k.shape) p.waits.step (finish-still (extent_of k.shape) c.slot u.within p.waits)) new away
-        dying (at.Vacating q) p = out p.waits.step p.waits.asked_is (vacate-calm (extent_of k.shape) c.slot p.waits) new away
+        dying (at.Finishing parent q) p = out p.waits.step p.waits.asked_is (still-calm (extent_of k.shape) p.waits.step (finish-still (extent_of k.shape) c.slot u.within p.waits)) new away
+        dying (at.Ending parent q) p = out p.waits.step p.waits.asked_is (vacate-calm (extent_of k.shape) c.slot p.waits) new away
         dying at.Ended p = absurd p
     go Ended u takes = absurd takes

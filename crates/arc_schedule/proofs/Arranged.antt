@@ -7,7 +7,7 @@ use Rattle.std.specs.List.{AllByRecursion}
 use Rattle.arc_rule.specs.Extents.{Extent}
 use Rattle.arc_script.specs.declared.script.Op.{Op}
 use Rattle.arc_script.specs.OneList.{numbered}
-use Rattle.arc_ops.specs.Programs.{ops_in_first}
+use Rattle.arc_served.specs.Programs.{ops_in_first}
 use Rattle.arc_ops.specs.Thread.{Thread}
 use Rattle.arc_schedule.specs.Made.{Point, Made, own, is_of}
 use Rattle.arc_schedule.specs.Orders.{is_in, is_same, steps_of, ending_of, other_of, in_access, in_turn, by_numbers}

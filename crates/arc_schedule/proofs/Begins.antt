@@ -33,8 +33,8 @@ use Rattle.arc_script.proofs.OneList.{length_in_one}
 use Rattle.arc_ops.specs.declared.stepper.Held.{Held}
 use Rattle.arc_ops.specs.declared.stepper.Doing.TheVariants.{Ready, Ended}
 use Rattle.arc_ops.specs.declared.stepper.Move.TheVariants as moves
-use Rattle.arc_ops.specs.Programs.{GoesForth, ops_in_first, kind_of}
-use Rattle.arc_ops.specs.Served.{IsServedOp}
+use Rattle.arc_served.specs.Programs.{GoesForth, ops_in_first, kind_of, class_of}
+use Rattle.arc_served.specs.Served.{IsServedOp}
 use Rattle.arc_ops.specs.declared.gain.Gain.{Gain}
 use Rattle.arc_ops.specs.declared.gain.Gain.TheVariants as gains
 use Rattle.arc_ops.specs.Thread.{Thread, value, is_held, put, set_var}
@@ -45,6 +45,7 @@ use Rattle.arc_ops.specs.Plans.{op_of, of_hand, drop_from, creation_from, gain_f
 use Rattle.arc_ops.specs.Begins.{skipped, moved, begun_nil, begun_gain, begun_move, begun_drop, phase_over, begun_op, begun_at, begun, scope_drop, scope_at, scope_begun, next_op}
 use Rattle.arc_ops.specs.Drops.{replaced_old, replaced}
 use Rattle.arc_ops.specs.Steppers.{IsHeld, HeldFits}
+use Rattle.arc_ops_passes.proofs.Fields.{no_field}
 use Rattle.arc_spelled.proofs.KindsKept.{kinds-set, kinds-nil, fits-some}
 use Rattle.arc_schedule.specs.Made.{Point, Made}
 use Rattle.arc_schedule.specs.Plans.{Plan, Starts, new_object, down, begin_access, swap}
@@ -57,11 +58,11 @@ use Rattle.arc_schedule.specs.Threads.{point_of, OpsDone, ScopeEnds}
 use Rattle.arc_schedule.specs.Threads.OpsDone.{none as ops_none, one as ops_one, block as ops_block}
 use Rattle.arc_schedule.specs.Threads.PhasesDone.{one as phases_one}
 use Rattle.arc_schedule.specs.Threads.ScopeEnds.{none as scope_none, one as scope_one}
-use Rattle.arc_ops.proofs.Counts.{first_few, first_all}
+use Rattle.arc_served.proofs.Counts.{first_few, first_all}
 use Rattle.arc_schedule.proofs.Lists.{not-equal, there-is, all-there, get-drop, nothing-left}
 use Rattle.arc_schedule.proofs.Phases.{all-ops, phase-next, phase-rest}
 use Rattle.arc_schedule.proofs.Newest.{IsHere, IsPast, Newest, Passed, passed-on, passed-phase, passed-here, passed-scope, passed-it}
-use Rattle.arc_schedule.proofs.Stands.{waits, begun-from, Task, Job, kinds_here, start_of, ref, refs, state_of, AreDone, here, IsInScope, IsOverIf, IsOver, AreServed, IsGlobalOf, gain_plan, Works, WorksAt, IsAt, AreIn, Stands}
+use Rattle.arc_schedule.proofs.Stands.{waits, begun-from, Task, Job, kinds_here, classes_here, start_of, ref, refs, state_of, AreDone, here, IsInScope, IsOverIf, IsOver, AreServed, IsGlobalOf, gain_plan, Works, WorksAt, IsAt, AreIn, Stands}
 
 -- ---- variables
 
@@ -144,7 +145,7 @@ on-within vars i end (op.IfSome v past) below g = go (is_some (operations.value 
     go true = (omega arith, omega arith)
     go false = g
 
-done-within : {kinds : List Kind} {shape : HeapShape} {thread phase : ℕ} {ops : List Op} {first : State} {b : List Made} {i : ℕ} {state : State} {now : List Made} → AreServed shape kinds ops → OpsDone shape thread phase ops first b i state now → i ≤ length ops
+done-within : {kinds : List Kind} {classes : List ℕ} {shape : HeapShape} {thread phase : ℕ} {ops : List Op} {first : State} {b : List Made} {i : ℕ} {state : State} {now : List Made} → AreServed shape classes kinds ops → OpsDone shape thread phase ops first b i state now → i ≤ length ops
 done-within served ops_none = omega arith
 done-within {ops = ops} served (ops_one {i = i} {o = o} d there x) = let h = slice_get_within ops i o there in omega arith
 done-within {ops = ops} served (ops_block {i = i} {n = n} {o = o} {state = state} d there begins goes further) =
@@ -551,7 +552,7 @@ abbrev pub global-is : {n : ℕ} (k : Task) {j : Job k} {i : ℕ} (t : Thread) (
 global-is k t g works there = record { global = g; there = there; name_is = refl; kind_is = rw works.shape_is refl }
 
 -- the operation begins, and where it asks for no step, the thread goes on behind it
-begins-op : {n : ℕ} (k : Task) (j : Job k) → AreServed k.shape (kinds_here k) j.ops → (o : Op) (i : ℕ) (t : Thread) (now : List Made) → WorksAt k j i n t → AreIn k t.vars →
+begins-op : {n : ℕ} (k : Task) (j : Job k) → AreServed k.shape (classes_here k) (kinds_here k) j.ops → (o : Op) (i : ℕ) (t : Thread) (now : List Made) → WorksAt k j i n t → AreIn k t.vars →
     slice_get j.ops i ≡ Some o → Passed j.phase j.ops i now → AreDone k j i (state_of t.vars t.made t.hands) now → (rest : Thread → Thread) →
     ((on : ℕ) (u : Thread) → i < on → WorksAt k j on n u → AreIn k u.vars → AreDone k j on (state_of u.vars u.made u.hands) now → Stands k n (rest u) now) →
     Stands k n (begun_op (moved_behind (start_of k j) o) t rest) now
@@ -661,11 +662,11 @@ begins-op {n = n} k j served (op.Weak to of) i t now works vars there passed d r
 begins-op {n = n} k j served (op.Get to (opcell.Global g)) i t now works vars there passed d rest next =
     open-asks k j i to (global_of t.shape g) (global-is k t g works (served.cells_fit i (op.Get to (opcell.Global g)) there)) (record t { first = true }) now now works vars
     (is-at k j i (op.Get to (opcell.Global g)) there refl) (newest-first k j i (op.Get to (opcell.Global g)) now there refl passed) d there starts_first
-begins-op {n = n} k j served (op.Get to (opcell.Field owner field)) i t now works vars there passed d rest next = absurd (all-there IsServedOp j.ops i (op.Get to (opcell.Field owner field)) served.served there)
+begins-op {n = n} k j served (op.Get to (opcell.Field owner field)) i t now works vars there passed d rest next = no_field k.shape (class_of (classes_here k) owner) field served.without_fields (served.cells_fit i (op.Get to (opcell.Field owner field)) there)
 begins-op {n = n} k j served (op.Set (opcell.Global g) from) i t now works vars there passed d rest next =
     set-asks k j i from (global_of t.shape g) (global-is k t g works (served.cells_fit i (op.Set (opcell.Global g) from) there)) (record t { first = true }) now now works vars
     (is-at k j i (op.Set (opcell.Global g) from) there refl) (newest-first k j i (op.Set (opcell.Global g) from) now there refl passed) d there starts_first
-begins-op {n = n} k j served (op.Set (opcell.Field owner field) from) i t now works vars there passed d rest next = absurd (all-there IsServedOp j.ops i (op.Set (opcell.Field owner field) from) served.served there)
+begins-op {n = n} k j served (op.Set (opcell.Field owner field) from) i t now works vars there passed d rest next = no_field k.shape (class_of (classes_here k) owner) field served.without_fields (served.cells_fit i (op.Set (opcell.Field owner field) from) there)
 begins-op {n = n} k j served (op.IfNil v past) i t now works vars there passed d rest next = go (is_held (value t.vars v)) refl
   where
     go : (b : Bool) → is_held (value t.vars v) ≡ b → Stands k n (rest (record t { index = cond b (start_of k j + past) (t.index + 1) })) now
@@ -686,7 +687,7 @@ begins-op {n = n} k j served (op.IfSome v past) i t now works vars there passed 
         (ops_block d there refl (ap (λ (b : Bool). cond b (i + 1) past) (sym e ∙ sym (block-is t.vars v))) (served.forth i (op.IfSome v past) there).0)
 
 -- the first operation of the rest that asks for a step begins, or the phase is over
-pub begins : {n : ℕ} (k : Task) (j : Job k) → AreServed k.shape (kinds_here k) j.ops → (rest : List Op) (place at i : ℕ) (t : Thread) (now : List Made) → WorksAt k j i n t → AreIn k t.vars →
+pub begins : {n : ℕ} (k : Task) (j : Job k) → AreServed k.shape (classes_here k) (kinds_here k) j.ops → (rest : List Op) (place at i : ℕ) (t : Thread) (now : List Made) → WorksAt k j i n t → AreIn k t.vars →
     place ≡ start_of k j + at → at ≤ i → rest ≡ drop at (moved-ops k j) → Passed j.phase j.ops i now → AreDone k j i (state_of t.vars t.made t.hands) now → Stands k n (begun_at place rest t) now
 begins {n = n} k j served [] place at i t now works vars place_is least r passed d =
     let within = done-within served d in
@@ -736,7 +737,7 @@ program-over {n = n} k j i t works most last = go (ltb t.index (length t.program
         let index : t.index ≡ ops_in_first j.phase k.decl.phases + i = works.index_is in
         absurd (omega arith)
 
-pub goes-on : {n : ℕ} (k : Task) (j : Job k) → AreServed k.shape (kinds_here k) j.ops → (i : ℕ) (t : Thread) (now : List Made) → WorksAt k j i n t → AreIn k t.vars → IsAt k j i → IsHere (here k j i) now → t.first ≡ false → IsOver k j i t.vars t.made t.hands now → Stands k n (next_op t) now
+pub goes-on : {n : ℕ} (k : Task) (j : Job k) → AreServed k.shape (classes_here k) (kinds_here k) j.ops → (i : ℕ) (t : Thread) (now : List Made) → WorksAt k j i n t → AreIn k t.vars → IsAt k j i → IsHere (here k j i) now → t.first ≡ false → IsOver k j i t.vars t.made t.hands now → Stands k n (next_op t) now
 goes-on {n = n} k j served i t now works vars at newest first over = go (ltb i (length j.ops)) refl over
   where
     At : Bool → Type 0
@@ -768,7 +769,7 @@ goes-on {n = n} k j served i t now works vars at newest first over = go (ltb i (
         not_below true e most = let below = ltb-true (t.phase + 1) (length t.phases) e in absurd (omega arith)
 
 -- the destination has its new value, and what it held is dropped last
-pub replaces : {n : ℕ} (k : Task) (j : Job k) → AreServed k.shape (kinds_here k) j.ops → (i : ℕ) (t : Thread) (to : ℕ) (new : Option Held) (now : List Made) → WorksAt k j i n t → AreIn k t.vars → IsAt k j i → IsHere (here k j i) now → t.first ≡ false → AreIn k (set t.vars to new) → i < length j.ops →
+pub replaces : {n : ℕ} (k : Task) (j : Job k) → AreServed k.shape (classes_here k) (kinds_here k) j.ops → (i : ℕ) (t : Thread) (to : ℕ) (new : Option Held) (now : List Made) → WorksAt k j i n t → AreIn k t.vars → IsAt k j i → IsHere (here k j i) now → t.first ≡ false → AreIn k (set t.vars to new) → i < length j.ops →
     ((after : List Made) → Drops k.shape (here k j i) (operations.value (refs t.vars) to) now after → AreDone k j (i + 1) (state_of (set t.vars to new) t.made t.hands) after) →
     Stands k n (replaced to new t) now
 replaces {n = n} k j served i t to new now works vars at newest first inside within ends = go (value t.vars to) refl

@@ -6,7 +6,6 @@ use Rattle.std.specs.Prelude.{All, ◌≢◌, ◌&&◌, take, position}
 use Rattle.arc_model.specs.declared.event.Act.{Act}
 use Rattle.arc_model.specs.declared.shape.Kind.{Kind}
 use Rattle.arc_model.specs.declared.shape.Kind.TheVariants.{Strong}
-use Rattle.arc_model.specs.declared.shape.RefShape.{RefShape}
 use Rattle.arc_model.specs.Shapes.{HeapShape}
 use Rattle.arc_rule.specs.Extents.{Extent}
 use Rattle.arc_rule.specs.Places.{extent_of}
@@ -20,8 +19,8 @@ use Rattle.arc_cells.specs.declared.swap.SwapAnswer.{SwapAnswer}
 use Rattle.arc_cells.specs.declared.swap.SwapAnswer.TheVariants as swaps
 use Rattle.arc_cells.specs.Swaps.{SwapAttempt, swap_turned, swap_answer}
 use Rattle.arc_cells.specs.Cascades.{HasNoFields}
-use Rattle.arc_cells.specs.declared.bare.At.{At as CascadeAt}
-use Rattle.arc_cells.specs.declared.bare.At.TheVariants as at
+use Rattle.arc_cells.specs.declared.cascade.At.{At as CascadeAt}
+use Rattle.arc_cells.specs.declared.cascade.At.TheVariants as at
 use Rattle.arc_script.specs.declared.script.Op.{Op}
 use Rattle.arc_ops.specs.declared.stepper.Held.{Held}
 use Rattle.arc_ops.specs.declared.stepper.Doing.{Doing}
@@ -39,6 +38,7 @@ use Rattle.arc_ops.specs.Steppers.{SwappingGoesOn}
 use Rattle.arc_ops.proofs.Moves.{swapping_goes_on}
 use Rattle.arc_ops.specs.Takes.{IsCellAt, takes_at, takes}
 use Rattle.arc_ops.specs.Turns.{turned_at, turned}
+use Rattle.arc_served.specs.Served.{IsServedRef}
 use Rattle.arc_schedule.specs.Made.{Made, made_at}
 use Rattle.arc_schedule.specs.Plans.{Plan, Starts, Gives, down, swap, swap_anew, swap_told, told_by}
 use Rattle.arc_schedule.specs.Plans.Starts.{first as starts_first}
@@ -47,9 +47,10 @@ use Rattle.arc_schedule.specs.Operations.Drops.{nothing as drops_nothing}
 use Rattle.arc_schedule.specs.Threads.{end_point, GlobalsCleared}
 use Rattle.arc_schedule.specs.Threads.GlobalsCleared.{none as globals_none, one as globals_one}
 use Rattle.arc_schedule.proofs.Lists.{equal}
-use Rattle.arc_schedule.proofs.Stands.{Gave, waits, begun-from, given, gives, starts-again, ref, step_in, CascadeUpTo, IsClearing, FirstUpTo, StandsFirst}
+use Rattle.arc_schedule.proofs.Stands.{Gave, waits, begun-from, given, gives, starts-again, ref, step_in, CascadeUpTo, IsLone, IsClearing, FirstUpTo, StandsFirst}
 use Rattle.arc_schedule.proofs.Tells.{idle, clears-tells, drops-tells, ends-tells}
-use Rattle.arc_schedule.proofs.Lasts.{Lasts, drops, slot-ends, dies-on}
+use Rattle.arc_schedule.proofs.Lasts.{Lasts, drops, slot-ends}
+use Rattle.arc_schedule.proofs.Dies.{dies-on}
 
 -- the thread is in the heap of the script, and has neither phases nor variables
 pub record IsThreadZero (shape : HeapShape) (t : Thread) : Type 0 where
@@ -139,7 +140,7 @@ lasts shape t z = record {
 }
 
 -- a global is cleared by one exchange
-clears : (shape : HeapShape) → All (λ (r : RefShape). IsCountedInline r.kind) shape.globals → (t : Thread) (s : Step) (w : ℕ) (now : List Made) → IsThreadZero shape t →
+clears : (shape : HeapShape) → All IsServedRef shape.globals → (t : Thread) (s : Step) (w : ℕ) (now : List Made) → IsThreadZero shape t →
     (plan : SwapAttempt) → IsClearing shape t.cleared t.hands plan (Some s) now → IsCellAt shape.slots plan.at w →
     StandsFirst shape (cleared_on (swap_turned plan (Some w)) (swap_answer plan (Some w)) (idle t)) (made_at end_point s w (told_by (swap_told t.cleared None (t.hands + 1)) (swap_answer plan (Some w))) ∷ now)
 clears shape globals t s w now z plan u fits =
@@ -173,7 +174,7 @@ clears shape globals t s w now z plan u fits =
         let some : x ≢ 0 = eqb-false x 0 e in
         let old : Held = record { hand = t.hands + 1; kind = (next_global t).kind; place = x - 2 } in
         let counted : IsCountedInline (next_global t).kind =
-        subst IsCountedInline (sym kind-is) (All-get_or (λ (r : RefShape). IsCountedInline r.kind) shape.globals t.cleared (record { kind = Strong; class = 0 }) u.there globals) in
+        subst IsCountedInline (sym kind-is) (All-get_or IsServedRef shape.globals t.cleared (record { kind = Strong; class = 0 }) u.there globals) in
         let falling : Plan _ _ = down (extent_of shape) (next_global t).kind (x - 2) (t.hands + 1) in
         let v : Thread = swapped (next_global t).name None (Some old) (record (idle t) { cleared = t.cleared + 1 }) in
         let same : falling.start ≡ drop_from old v = rw z.layout_is refl in
@@ -217,9 +218,9 @@ clears shape globals t s w now z plan u fits =
     go (nexts.Done (swaps.Again c)) on g = again (swaps.Again c) refl g
 
 -- Each word that thread 0 is given is that of a step of the end section, with the event that it tells.
-pub keeps-first : (shape : HeapShape) → HasNoFields shape → All (λ (r : RefShape). IsCountedInline r.kind) shape.globals → (t : Thread) (s : Step) (w : ℕ) (now : List Made) → StandsFirst shape t now → step_in t.asked ≡ Some s → takes t (Some w) →
+pub keeps-first : (shape : HeapShape) → HasNoFields shape → All IsServedRef shape.globals → (t : Thread) (s : Step) (w : ℕ) (now : List Made) → StandsFirst shape t now → step_in t.asked ≡ Some s → takes t (Some w) → IsLone (turned t (Some w)).doing →
     StandsFirst shape (turned t (Some w)) (made_at end_point s w (turned t (Some w)).event ∷ now)
-keeps-first shape bare globals t s w now st asked takes = go t.doing st.up_to takes
+keeps-first shape bare globals t s w now st asked takes lone = go t.doing st.up_to takes.0 lone
   where
     z : IsThreadZero shape t
     z = is-zero shape t now st
@@ -230,32 +231,32 @@ keeps-first shape bare globals t s w now st asked takes = go t.doing st.up_to ta
     slots-are : t.shape.slots ≡ shape.slots
     slots-are = ap (λ (h : HeapShape). h.slots) st.shape_is
 
-    go : (d : Doing) → FirstUpTo shape t.cleared t.hands t.asked now d → takes_at t.shape (Some w) d → Left (turned_at (Some w) d (idle t)) (turned_at (Some w) d (idle t)).event
-    go Ready u takes = absurd (cc)
-    go (Making to name plan) u takes = absurd u
-    go (Gaining gain to from plan) u takes = absurd u
-    go (Naming to held plan) u takes = absurd u
-    go (Opening to cell plan) u takes = absurd u
-    go (Closing to cell held plan) u takes = absurd u
-    go (Setting from cell plan) u takes = absurd u
-    go (Clearing plan) u takes =
+    go : (d : Doing) → FirstUpTo shape t.cleared t.hands t.asked now d → takes_at t.shape (Some w) d → IsLone (turned_at (Some w) d (idle t)).doing → Left (turned_at (Some w) d (idle t)) (turned_at (Some w) d (idle t)).event
+    go Ready u takes lone = absurd (cc)
+    go (Making to name plan) u takes lone = absurd u
+    go (Gaining gain to from plan) u takes lone = absurd u
+    go (Naming to held plan) u takes lone = absurd u
+    go (Opening to cell plan) u takes lone = absurd u
+    go (Closing to cell held plan) u takes lone = absurd u
+    go (Setting from cell plan) u takes lone = absurd u
+    go (Clearing plan) u takes lone =
         subst (λ (e : Option Act). Left (cleared_on (swap_turned plan (Some w)) (swap_answer plan (Some w)) (idle t)) e)
         (sym (clears-tells t (swap_turned plan (Some w)) (swap_answer plan (Some w))))
         (clears shape globals t s w now z plan (rw asked at u) (subst (λ (m : ℕ). IsCellAt m plan.at w) slots-are takes.1))
-    go (Dropping held plan) u takes =
+    go (Dropping held plan) u takes lone =
         subst (λ (e : Option Act). Left (dropped_on held (down_turned plan (Some w)) (down_answer plan (Some w)) (idle t)) e)
         (sym (drops-tells t held (down_turned plan (Some w)) (down_answer plan (Some w))))
         (drops shape end_point (GlobalsCleared shape t.cleared t.hands) t (StandsFirst shape) (lasts shape t z) s w now held plan (rw asked at u) takes.1)
-    go (Vacating slot plan) u takes =
+    go (Vacating slot plan) u takes lone =
         subst (λ (e : Option Act). Left (vacated_on slot (one_turned plan (Some w)) (vacate_answer plan (Some w)) (idle t)) e)
         (sym (ends-tells t slot (one_turned plan (Some w)) (vacate_answer plan (Some w))))
         (slot-ends shape end_point (GlobalsCleared shape t.cleared t.hands) t (StandsFirst shape) (lasts shape t z) s w now slot plan (rw asked at u))
-    go (Dying c) u takes = dies-on shape end_point (GlobalsCleared shape t.cleared t.hands) t (StandsFirst shape) (lasts shape t z) s w now bare c (rw asked at u) takes
-    go Ended u takes = absurd takes
+    go (Dying c) u takes lone = dies-on shape end_point (GlobalsCleared shape t.cleared t.hands) t (StandsFirst shape) (lasts shape t z) s w now bare c (rw asked at u) lone
+    go Ended u takes lone = absurd takes
 
 -- It begins without a step.
 pub begins-first : (shape : HeapShape) (t : Thread) (now : List Made) → StandsFirst shape t now → takes t None → t.asked ≡ moves.PhaseEnd → StandsFirst shape (turned t None) now
-begins-first shape t now st takes asked = go t.doing st.up_to takes
+begins-first shape t now st takes asked = go t.doing st.up_to takes.0
   where
     none : step_in t.asked ≡ None
     none = ap step_in asked
@@ -279,9 +280,13 @@ begins-first shape t now st takes asked = go t.doing st.up_to takes
         dying at.Entering p = let e = p.1 in let n = none in absurd (cc)
         dying at.Naming p = let e = p.1 in let n = none in absurd (cc)
         dying (at.Named name) p = absurd p
+        dying (at.Looking name field) p = absurd p
+        dying (at.Taking name field place) p = absurd p
+        dying (at.Dropping name field d) p = absurd p
+        dying (at.Resuming field) p = absurd p
         dying at.Leaving p = let e = p.1 in let n = none in absurd (cc)
-        dying (at.Finishing q) p = let e = p.waits.asked_is in let n = none in absurd (cc)
-        dying (at.Vacating q) p = let e = p.waits.asked_is in let n = none in absurd (cc)
+        dying (at.Finishing parent q) p = let e = p.waits.asked_is in let n = none in absurd (cc)
+        dying (at.Ending parent q) p = let e = p.waits.asked_is in let n = none in absurd (cc)
         dying at.Ended p = absurd p
     go Ended u takes = absurd takes
 
@@ -315,9 +320,13 @@ never-waits shape t m now st = go t.doing st.up_to
         dying at.Entering p = asks (step_in t.asked) _ refl p.1
         dying at.Naming p = asks (step_in t.asked) _ refl p.1
         dying (at.Named name) p = absurd p
+        dying (at.Looking name field) p = absurd p
+        dying (at.Taking name field place) p = absurd p
+        dying (at.Dropping name field d) p = absurd p
+        dying (at.Resuming field) p = absurd p
         dying at.Leaving p = asks (step_in t.asked) _ refl p.1
-        dying (at.Finishing q) p = asks (step_in t.asked) p.waits.step refl p.waits.asked_is
-        dying (at.Vacating q) p = asks (step_in t.asked) p.waits.step refl p.waits.asked_is
+        dying (at.Finishing parent q) p = asks (step_in t.asked) p.waits.step refl p.waits.asked_is
+        dying (at.Ending parent q) p = asks (step_in t.asked) p.waits.step refl p.waits.asked_is
         dying at.Ended p = absurd p
     go Ended u = rw u.0 refl
 
@@ -350,9 +359,13 @@ all-cleared shape t now st ended = go t.doing st.up_to
         dying at.Entering p = let e = p.1 in let n = none in absurd (cc)
         dying at.Naming p = let e = p.1 in let n = none in absurd (cc)
         dying (at.Named name) p = absurd p
+        dying (at.Looking name field) p = absurd p
+        dying (at.Taking name field place) p = absurd p
+        dying (at.Dropping name field d) p = absurd p
+        dying (at.Resuming field) p = absurd p
         dying at.Leaving p = let e = p.1 in let n = none in absurd (cc)
-        dying (at.Finishing q) p = let e = p.waits.asked_is in let n = none in absurd (cc)
-        dying (at.Vacating q) p = let e = p.waits.asked_is in let n = none in absurd (cc)
+        dying (at.Finishing parent q) p = let e = p.waits.asked_is in let n = none in absurd (cc)
+        dying (at.Ending parent q) p = let e = p.waits.asked_is in let n = none in absurd (cc)
         dying at.Ended p = absurd p
     go Ended u =
         let same : t.cleared ≡ length shape.globals = (let few = few-cleared shape u.2 in let most : length shape.globals ≤ t.cleared = u.1 in omega arith) in

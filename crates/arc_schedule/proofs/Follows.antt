@@ -4,17 +4,26 @@ use Rattle.std.proofs.lemmas.Bool.{eqb-true, eqb-false}
 use Rattle.std.proofs.lemmas.Option.{same_Some, slice_get_within}
 use Rattle.std.proofs.lemmas.List.{length-set}
 use Rattle.std.specs.Prelude.{slice_get}
+use Rattle.arc_model.specs.Shapes.{HeapShape}
 use Rattle.arc_rule.specs.Places.{extent_of}
 use Rattle.arc_rule.specs.Steps.{found_by}
 use Rattle.arc_rule.specs.declared.step.Step.{Step}
 use Rattle.arc_rule.specs.declared.step.Intent.{Intent}
+use Rattle.arc_side.specs.Downs.{Fall}
+use Rattle.arc_cells.specs.declared.cascade.At.{At as CascadeAt}
+use Rattle.arc_cells.specs.declared.cascade.At.TheVariants as at
 use Rattle.arc_script.specs.declared.script.ThreadDecl.{ThreadDecl}
 use Rattle.arc_script.specs.declared.script.Script.{Script}
 use Rattle.arc_script.specs.Valid.{IsScript}
-use Rattle.arc_ops.specs.Served.{IsServed}
+use Rattle.arc_served.specs.Served.{IsServed}
 use Rattle.arc_ops.specs.Thread.{Thread, stepper_of, in_access as accesses, in_operation}
+use Rattle.arc_ops.specs.declared.stepper.Doing.{Doing}
+use Rattle.arc_ops.specs.declared.stepper.Doing.TheVariants.{Ready, Making, Gaining, Naming, Opening, Closing, Setting, Clearing, Dropping, Dying, Vacating, Ended}
 use Rattle.arc_ops.specs.Turns.{turned}
 use Rattle.arc_ops.specs.Takes.{takes}
+use Rattle.arc_spelled.proofs.Declared.{globals-served}
+use Rattle.arc_ops_passes.specs.Drives.{CascadeAsks, Asks}
+use Rattle.arc_replays.proofs.Laws.{threads_are_at_work}
 use Rattle.arc_replays.specs.Stages.Reached.{new, begins, makes, passes, inside as goes_inside, ends_it, outside as goes_outside, by_number, last, last_step}
 use Rattle.arc_replays.specs.Stages.{Stage, MayStep, Reached, is_step, has_step, is_phase_end, awaits_phase, new_threads, begun_threads, stamped, stepped}
 use Rattle.arc_ops.specs.declared.told.Stamped.{Stamped}
@@ -25,7 +34,7 @@ use Rattle.arc_schedule.specs.Orders.{in_access, enters, InOrder}
 use Rattle.arc_schedule.specs.Threads.{end_point}
 use Rattle.arc_schedule.proofs.Lists.{there-is, get-other, get-same}
 use Rattle.arc_schedule.proofs.Newest.{IsHere}
-use Rattle.arc_schedule.proofs.Stands.{Task, here, step_in, Stands, StandsFirst}
+use Rattle.arc_schedule.proofs.Stands.{Task, here, step_in, IsLoneAt, IsLone, Stands, StandsFirst}
 use Rattle.arc_schedule.proofs.Keeps.{keeps}
 use Rattle.arc_schedule.proofs.First.{keeps-first, begins-first, never-waits}
 use Rattle.arc_schedule.proofs.Accesses.{inside-on}
@@ -34,7 +43,7 @@ use Rattle.arc_schedule.proofs.Newer.{op-now-is, inside-newest, operation-newest
 use Rattle.arc_schedule.proofs.Ahead.{order-in, IsAhead, MadeBy, IsNewest, ahead-makes, ahead-by-number, ahead-inside, ahead-ends-it, ahead-outside, ahead-passes, ahead-begins, ahead-last, ahead-last-step}
 use Rattle.arc_schedule.proofs.Asks.{asks-step, no-step, waits-for-phase, in-phase}
 use Rattle.arc_schedule.proofs.Stages.{task_of, AllStand, AllInside, IsEnding, Follows}
-use Rattle.arc_schedule.proofs.Opening.{job-served, globals-served, new-there, new-many, new-stands, thread-valid, begun-first, first-begun, begun-many, begun-stands, first-stands, begun-inside}
+use Rattle.arc_schedule.proofs.Opening.{job-served, new-there, new-many, new-stands, thread-valid, begun-first, first-begun, begun-many, begun-stands, first-stands, begun-inside}
 
 -- ---- a thread of the script at a stage
 
@@ -110,6 +119,46 @@ others-outside script some ending s f P out q first few those =
 
 -- ---- a step is made
 
+-- a thread at work deinits one object at a time, whose count lies in the inline word, since no class has a field
+lone : (shape : HeapShape) (t : Thread) (d : Doing) → Asks shape t d → IsLone d
+lone shape t Ready a = tt
+lone shape t (Making to name plan) a = tt
+lone shape t (Gaining gain to from plan) a = tt
+lone shape t (Naming to held plan) a = tt
+lone shape t (Opening to cell plan) a = tt
+lone shape t (Closing to cell held plan) a = tt
+lone shape t (Setting from cell plan) a = tt
+lone shape t (Clearing plan) a = tt
+lone shape t (Dropping held plan) a = tt
+lone shape t (Dying c) a = go c.at a.1
+  where
+    go : (a : CascadeAt) → CascadeAsks shape t.asked c.slot a → IsLoneAt a
+    go at.Start a = tt
+    go at.Entering a = tt
+    go at.Naming a = tt
+    go (at.Named name) a = tt
+    go (at.Looking name field) a = tt
+    go (at.Taking name field place) a = tt
+    go (at.Dropping name field d) a = tt
+    go at.Leaving a = tt
+    go (at.Finishing None p) a = (refl, ap (λ (q : Fall). q.entry) a.0)
+    go (at.Finishing (Some parent) p) a = absurd a
+    go (at.Ending parent p) a = tt
+    go (at.Resuming field) a = tt
+    go at.Ended a = tt
+lone shape t (Vacating slot plan) a = tt
+lone shape t Ended a = tt
+
+-- so it is behind each step
+lone-behind : (script : Script) → IsScript script → IsServed script → (ending : ℕ) (s : Stage) (p : ℕ) (t : Thread) (step : Step) → Reached script ending (stepped p t step s) → slice_get s.threads p ≡ Some t →
+    IsLone (turned t (Some (found_by step s.words))).doing
+lone-behind script valid served ending s p t step r there =
+    let new : Thread = turned t (Some (found_by step s.words)) in
+    let many = length-set s.threads p new in
+    let u = there-is (set s.threads p new) p (let within = slice_get_within s.threads p t there in omega arith) in
+    let work = threads_are_at_work script ending (stepped p t step s) p u.0 valid served r u.1 in
+    subst (λ (v : Thread). IsLone v.doing) (get-same s.threads p new u.0 u.1) (lone script.shape u.0 u.0.doing work.asks)
+
 -- what is behind a step of thread p, where these places are left
 abbrev behind : ℕ → Thread → Step → List ℕ → Stage → Stage
 behind p t step places s = stepped p t step (record s { places = places })
@@ -121,8 +170,8 @@ IsOrdered script ending s ms p t step after =
 
 steps-on : (script : Script) (some : 0 < script.shape.slots) → IsScript script → IsServed script → (ending : ℕ) (s : Stage) (p : ℕ) (places : List ℕ) (t : Thread) (step : Step) (intent : Intent) → (f : Follows script some ending s) → 1 ≤ p → MayStep s p t step intent →
     (1 ≤ ending → (ending ≡ p) × (places ≡ []) × (1 ≤ op_now t)) →
-    IsOrdered script ending s f.ms p t step (behind p t step places s) → Follows script some ending (behind p t step places s)
-steps-on script some valid served ending s p places t step intent f other may at_end ordered = with (found script some ending s f p t other may.there)
+    IsLone (turned t (Some (found_by step s.words))).doing → IsOrdered script ending s f.ms p t step (behind p t step places s) → Follows script some ending (behind p t step places s)
+steps-on script some valid served ending s p places t step intent f other may at_end lone ordered = with (found script some ending s f p t other may.there)
   where
     word : ℕ
     word = found_by step s.words
@@ -181,7 +230,7 @@ steps-on script some valid served ending s p places t step intent f other may at
         zero-there u e = sym (get-other s.threads p 0 (turned t (Some (found_by step s.words))) (λ z. (let y : p ≡ 0 = z in absurd (omega arith)))) ∙ e
 
         kept : Stands (task_of script some x.place x.decl) s.begun (turned t (Some (found_by step s.words))) (m ∷ own (x.place + 1) f.ms)
-        kept = keeps k s.begun t step (found_by step s.words) (own (x.place + 1) f.ms) st (job-served script some valid served x.place x.decl x.declared st.job.phase st.job.ops st.job.there) served.without_fields asked may.takes_it
+        kept = keeps k s.begun t step (found_by step s.words) (own (x.place + 1) f.ms) st (job-served script some valid served x.place x.decl x.declared st.job.phase st.job.ops st.job.there) asked may.takes_it lone
 
         made_by_it : MadeBy script s p t (turned t (Some (found_by step s.words))) m
         made_by_it = record {
@@ -308,7 +357,7 @@ follows script valid served some (begins {s = s} r quiet waits takes) =
     }
 follows script valid served some (makes {s = s} {p = p} {places = places} {t = t} step intent r place other may) =
     let f = follows script valid served some r in
-    steps-on script some valid served 0 s p places t step intent f other may no-ending
+    steps-on script some valid served 0 s p places t step intent f other may no-ending (lone-behind script valid served 0 (record s { places = places }) p t step (makes step intent r place other may) may.there)
     (λ m left h a. ahead-makes script s p places t (turned t (Some (found_by step s.words))) m f.ms left place h (behind p t step places s) (refl, refl, refl) a)
 follows script valid served some (passes {s = s} {p = p} {places = places} {t = t} r place other there has waits) =
     let f = follows script valid served some r in
@@ -353,7 +402,7 @@ follows script valid served some (ends_it {s = s} {p = p} {t = t} step intent r 
     let n = newest-operation script some p s f p t other may.there has in_it in
     let e = f.ends other in
     let place : s.places ≡ [] = e.no_place in
-    steps-on script some valid served p s p s.places t step intent f other may (λ some_end. (refl, place, n.1))
+    steps-on script some valid served p s p s.places t step intent f other may (λ some_end. (refl, place, n.1)) (lone-behind script valid served p s p t step (ends_it step intent r other may in_it) may.there)
     (λ m left h a. ahead-ends-it script s p t (turned t (Some (found_by step s.words))) m f.ms left place h n.0 (behind p t step s.places s) (refl, place, refl) f.many a)
 follows script valid served some (goes_outside {s = s} {p = p} {t = t} r other there away) =
     let f = follows script valid served some r in
@@ -387,7 +436,7 @@ follows script valid served some (goes_outside {s = s} {p = p} {t = t} r other t
 follows script valid served some (by_number {s = s} {p = p} {t = t} step intent r place other below alone may) =
     let f = follows script valid served some r in
     let has : has_step t ≡ true = ap is_step may.asked in
-    steps-on script some valid served 0 s p s.places t step intent f other may no-ending
+    steps-on script some valid served 0 s p s.places t step intent f other may no-ending (lone-behind script valid served 0 s p t step (by_number step intent r place other below alone may) may.there)
     (λ m left h a. ahead-by-number script s p t (turned t (Some (found_by step s.words))) m f.ms left place below h (others-outside script some 0 s f (IsNot p) (λ q u first differ at. alone q u first differ at))
     (λ e. (newest-inside script some 0 s f p t other may.there has (sym (inside-is script some 0 s f p t other may.there) ∙ e)).0)
     (behind p t step s.places s) (refl, place, refl) f.many a)
@@ -416,7 +465,7 @@ follows script valid served some (last_step {s = s} {t = t} step intent r may) =
     let y = f.alone t may.there away in
     let m : Made = made_at end_point step (found_by step s.words) (turned t (Some (found_by step s.words))).event in
     let stands : StandsFirst script.shape (turned t (Some (found_by step s.words))) (m ∷ own 0 f.ms) =
-    keeps-first script.shape served.without_fields (globals-served script valid served) t step (found_by step s.words) (own 0 f.ms) (f.first t may.there) (ap step_in may.asked) may.takes_it in
+    keeps-first script.shape served.without_fields (globals-served script valid served) t step (found_by step s.words) (own 0 f.ms) (f.first t may.there) (ap step_in may.asked) may.takes_it (lone-behind script valid served 0 s 0 t step (last_step step intent r may) may.there) in
     record {
       ms = m ∷ f.ms;
       goes = go_step end_point step (turned t (Some (found_by step s.words))).event f.goes;

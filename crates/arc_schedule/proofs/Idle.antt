@@ -3,8 +3,8 @@ use Rattle.std.proofs.Common.{◌≡◌, ℕ, List, None}
 use Rattle.std.specs.Prelude.{⊤}
 use Rattle.arc_model.specs.declared.event.Origin.{Origin}
 use Rattle.arc_model.specs.declared.event.Origin.TheVariants as origins
-use Rattle.arc_cells.specs.declared.bare.At.{At as CascadeAt}
-use Rattle.arc_cells.specs.declared.bare.At.TheVariants as at
+use Rattle.arc_cells.specs.declared.cascade.At.{At as CascadeAt}
+use Rattle.arc_cells.specs.declared.cascade.At.TheVariants as at
 use Rattle.arc_ops.specs.declared.stepper.Doing.{Doing}
 use Rattle.arc_ops.specs.declared.stepper.Doing.TheVariants.{Ready, Making, Gaining, Naming, Opening, Closing, Setting, Clearing, Dropping, Dying, Vacating, Ended}
 use Rattle.arc_ops.specs.Thread.{Thread}
@@ -42,8 +42,12 @@ idle-here k n t now st none = go t.doing st.up_to
         dying at.Entering p = let e = p.1 in absurd (cc)
         dying at.Naming p = let e = p.1 in absurd (cc)
         dying (at.Named name) p = absurd p
+        dying (at.Looking name field) p = absurd p
+        dying (at.Taking name field place) p = absurd p
+        dying (at.Dropping name field d) p = absurd p
+        dying (at.Resuming field) p = absurd p
         dying at.Leaving p = let e = p.1 in absurd (cc)
-        dying (at.Finishing q) p = let e = p.waits.asked_is in absurd (cc)
-        dying (at.Vacating q) p = let e = p.waits.asked_is in absurd (cc)
+        dying (at.Finishing parent q) p = let e = p.waits.asked_is in absurd (cc)
+        dying (at.Ending parent q) p = let e = p.waits.asked_is in absurd (cc)
         dying at.Ended p = absurd p
     go Ended u = tt

@@ -28,7 +28,6 @@ use Rattle.arc_side.specs.Downs.{down_turned, down_answer}
 use Rattle.arc_plan.specs.Slots.{Creation, OneStep, free_slot, looked, looked_answer, creation_turned, creation_answer, making_turned, making_answer, looking, taking, counting, naming, one_turned, name_of_answer, vacate_answer}
 use Rattle.arc_plan.proofs.Bits.{free_is_clear}
 use Rattle.arc_rule.specs.Bits.{words_of, bit_of}
-use Rattle.arc_cells.specs.Cascades.{HasNoFields}
 use Rattle.arc_script.specs.declared.script.Op.TheVariants as op
 use Rattle.arc_ops.specs.declared.stepper.Held.{Held}
 use Rattle.arc_ops.specs.declared.stepper.Doing.{Doing}
@@ -36,7 +35,8 @@ use Rattle.arc_ops.specs.declared.stepper.Doing.TheVariants.{Ready, Making, Gain
 use Rattle.arc_ops.specs.declared.stepper.Move.TheVariants as moves
 use Rattle.arc_ops.specs.declared.gain.Gain.{Gain}
 use Rattle.arc_ops.specs.declared.gain.Gain.TheVariants as gains
-use Rattle.arc_ops.specs.Programs.{kind_of, KindsFit}
+use Rattle.arc_served.specs.Programs.{kind_of, KindsFit}
+use Rattle.arc_served.specs.Served.{IsServedRef}
 use Rattle.arc_ops.specs.Thread.{Thread, value, put, set_var}
 use Rattle.arc_ops.specs.Plans.{op_of, of_hand, list_of, creation_from, gain_from, gain_begun, name_from}
 use Rattle.arc_ops.specs.Gains.{gained, came_by, has_gained, found_dead, gained_on, named_on}
@@ -50,7 +50,6 @@ use Rattle.arc_ops.specs.Takes.{FindsDead, IsGainAnswer, IsCellAt, gain_takes, t
 use Rattle.arc_model.specs.declared.event.Origin.{Origin}
 use Rattle.arc_model.specs.declared.event.Origin.TheVariants as origins
 use Rattle.arc_model.specs.declared.event.CellName.{CellName}
-use Rattle.arc_model.specs.declared.shape.RefShape.{RefShape}
 use Rattle.std.proofs.lemmas.Bool.{eqb-false}
 use Rattle.std.proofs.lemmas.List.Elements.{All-get_or}
 use Rattle.std.specs.Prelude.{All, ◌≢◌}
@@ -79,8 +78,9 @@ use Rattle.arc_schedule.specs.Operations.Does.{makes as does_make, full as does_
 use Rattle.arc_schedule.specs.Operations as operations
 use Rattle.arc_schedule.proofs.Newest.{IsHere}
 use Rattle.arc_schedule.proofs.Idle.{IsIdle, idle-here}
-use Rattle.arc_schedule.proofs.Lasts.{up-bare, Lasts, drops, slot-ends, dies-on}
-use Rattle.arc_schedule.proofs.Stands.{Gave, waits, begun-from, given, gives, starts-again, Waits, Task, Job, kinds_here, ref, refs, state_of, AreDone, here, IsOver, MadeUpTo, IsMaking, rises_of, gain_plan, IsGaining, get_plan, IsGlobalOf, IsGetting, IsGainingFrom, IsOpening, IsClosing, IsSetting, IsNaming, step_in, UpTo, AreServed, WorksAt, IsAt, AreIn, IsIn, IsPlaced, Stands}
+use Rattle.arc_schedule.proofs.Lasts.{up-bare, Lasts, drops, slot-ends}
+use Rattle.arc_schedule.proofs.Dies.{dies-on}
+use Rattle.arc_schedule.proofs.Stands.{Gave, waits, begun-from, given, gives, starts-again, Waits, Task, Job, kinds_here, classes_here, ref, refs, state_of, AreDone, here, IsOver, MadeUpTo, IsMaking, rises_of, gain_plan, IsGaining, get_plan, IsGlobalOf, IsGetting, IsGainingFrom, IsOpening, IsClosing, IsSetting, IsNaming, step_in, IsLone, UpTo, AreServed, WorksAt, IsAt, AreIn, IsIn, IsPlaced, Stands}
 use Rattle.arc_schedule.proofs.Begins.{value-ref, put-ref, nil-in, one-in, over-done, op-done, drop-asks, gain-asks, open-asks, set-plan, set-asks, rest-is, begins, goes-on, replaces}
 use Rattle.arc_schedule.proofs.Tells.{idle, in_hand, in_cell, makes-tells, gains-tells, gets-tells, opens-tells, closes-tells, sets-tells, names-tells, drops-tells, ends-tells}
 
@@ -93,7 +93,7 @@ creation-layout l immortal name hand (reaches_next r e) = creation-layout l immo
 making-layout : (l : Extent) (immortal : Bool) (name : ObjectName) (hand : ℕ) {point : Point} {b ns : List Made} {p : Creation} {asked : Option Step} → Waits (new_object l immortal name hand) point b ns p asked → p.layout ≡ l
 making-layout l immortal name hand w = sym (ap (λ (q : Creation). q.layout) w.gave.turned) ∙ creation-layout l immortal name hand w.gave.reaches
 
-makes : {n : ℕ} (k : Task) (j : Job k) → AreServed k.shape (kinds_here k) j.ops → (i : ℕ) (t : Thread) (s : Step) (w : ℕ) (now : List Made) → WorksAt k j i n t → AreIn k t.vars → IsAt k j i →
+makes : {n : ℕ} (k : Task) (j : Job k) → AreServed k.shape (classes_here k) (kinds_here k) j.ops → (i : ℕ) (t : Thread) (s : Step) (w : ℕ) (now : List Made) → WorksAt k j i n t → AreIn k t.vars → IsAt k j i →
     (to : ℕ) (name : ObjectName) (plan : Creation) (u : IsMaking k j i to name plan t.vars t.made t.hands (Some s) now) →
     Stands k n (made_on to name (creation_turned plan (Some w)) (creation_answer plan (Some w)) (idle t)) (made_at (here k j i) s w (making_told (u.held + 1) name.class plan.at (creation_answer plan (Some w))) ∷ now)
 makes {n = n} k j served i t s w now works vars at to name plan u = go plan.at u.count (given new (here k j i) u.base now plan s w u.waits)
@@ -187,20 +187,20 @@ makes {n = n} k j served i t s w now works vars at to name plan u = go plan.at u
 -- ---- a reference is gained
 
 -- the new reference is of its variable's kind
-gained-kind : (globals : List RefShape) (kinds : List Kind) (gain : Gain) (to from : ℕ) (held : Held) → KindsFit globals kinds (op_of gain to from) → held.kind ≡ kind_of kinds from → list_of gain (of_hand held) ≡ kind_of kinds to
-gained-kind globals kinds gains.Copy to from held fits is = is ∙ sym fits
-gained-kind globals kinds gains.Unown to from held fits is = sym fits.0
-gained-kind globals kinds gains.Load to from held fits is = sym fits.0
+gained-kind : (shape : HeapShape) (classes : List ℕ) (kinds : List Kind) (gain : Gain) (to from : ℕ) (held : Held) → KindsFit shape classes kinds (op_of gain to from) → held.kind ≡ kind_of kinds from → list_of gain (of_hand held) ≡ kind_of kinds to
+gained-kind shape classes kinds gains.Copy to from held fits is = is ∙ sym fits
+gained-kind shape classes kinds gains.Unown to from held fits is = sym fits.0
+gained-kind shape classes kinds gains.Load to from held fits is = sym fits.0
 
 -- the reference is there: a copy and an unowned reference go into their variable, and a load reads the name first
-has-gained : {n : ℕ} (k : Task) (j : Job k) → AreServed k.shape (kinds_here k) j.ops → (i : ℕ) (gain : Gain) (to from : ℕ) (held : Held) (t : Thread) (base after : List Made) → WorksAt k j i n t → AreIn k t.vars → IsAt k j i →
+has-gained : {n : ℕ} (k : Task) (j : Job k) → AreServed k.shape (classes_here k) (kinds_here k) j.ops → (i : ℕ) (gain : Gain) (to from : ℕ) (held : Held) (t : Thread) (base after : List Made) → WorksAt k j i n t → AreIn k t.vars → IsAt k j i →
     AreDone k j i (state_of t.vars t.made t.hands) base → slice_get j.ops i ≡ Some (op_of gain to from) → value t.vars from ≡ Some held → IsHeld k.shape.slots held →
     IsHere (here k j i) after → Gives (gain_plan k gain held t.hands) (here k j i) base ups.Up after →
     Stands k n (has_gained gain (origins.Hand held.hand) to (gained gain (of_hand held) t) (came_by gain (of_hand held) (idle t))) after
 has-gained {n = n} k j served i gain to from held t base after works vars at so_far there source inside newest up_gives = go gain kind_is there up_gives
   where
     kind_is : list_of gain (of_hand held) ≡ kind_of (kinds_here k) to
-    kind_is = gained-kind k.shape.globals (kinds_here k) gain to from held (served.kinds_fit i (op_of gain to from) there) (vars.kinds from held source)
+    kind_is = gained-kind k.shape (classes_here k) (kinds_here k) gain to from held (served.kinds_fit i (op_of gain to from) there) (vars.kinds from held source)
 
     within : i < length j.ops
     within = slice_get_within j.ops i (op_of gain to from) there
@@ -249,7 +249,7 @@ has-gained {n = n} k j served i gain to from held t base after works vars at so_
         }
 
 -- a load finds the object dead, and its variable becomes nil
-has-found-dead : {n : ℕ} (k : Task) (j : Job k) → AreServed k.shape (kinds_here k) j.ops → (i : ℕ) (gain : Gain) (to from : ℕ) (held : Held) (t : Thread) (base after : List Made) → FindsDead gain → WorksAt k j i n t → AreIn k t.vars → IsAt k j i →
+has-found-dead : {n : ℕ} (k : Task) (j : Job k) → AreServed k.shape (classes_here k) (kinds_here k) j.ops → (i : ℕ) (gain : Gain) (to from : ℕ) (held : Held) (t : Thread) (base after : List Made) → FindsDead gain → WorksAt k j i n t → AreIn k t.vars → IsAt k j i →
     AreDone k j i (state_of t.vars t.made t.hands) base → slice_get j.ops i ≡ Some (op_of gain to from) → value t.vars from ≡ Some held → IsHeld k.shape.slots held →
     IsHere (here k j i) after → Gives (gain_plan k gain held t.hands) (here k j i) base ups.Dead after → Stands k n (found_dead to (of_hand held) (idle t)) after
 has-found-dead k j served i gains.Copy to from held t base after dead works vars at so_far there source inside newest up_gives = absurd dead
@@ -261,7 +261,7 @@ has-found-dead {n = n} k j served i gains.Load to from held t base after dead wo
     (λ end x. op-done k j i (op.Load to from) (state_of t.vars t.made t.hands) (state_of (set t.vars to None) t.made t.hands) base end so_far there
     (finds_dead source_is inside.place up_gives x (ap (λ (vs : Variables). record { vars = vs; made = t.made; hands = t.hands }) (put-ref t.vars to None))))
 
-gains-on : {n : ℕ} (k : Task) (j : Job k) → AreServed k.shape (kinds_here k) j.ops → (i : ℕ) (t : Thread) (s : Step) (w : ℕ) (now : List Made) → WorksAt k j i n t → AreIn k t.vars → IsAt k j i →
+gains-on : {n : ℕ} (k : Task) (j : Job k) → AreServed k.shape (classes_here k) (kinds_here k) j.ops → (i : ℕ) (t : Thread) (s : Step) (w : ℕ) (now : List Made) → WorksAt k j i n t → AreIn k t.vars → IsAt k j i →
     (gain : Gain) (to : ℕ) (held : Held) (plan : Rise) → IsGaining k j i gain to held plan t.vars t.made t.hands (Some s) now → gain_takes gain plan (Some w) →
     Stands k n (gained_on gain to (of_hand held) (up_turned plan (Some w)) (up_answer plan (Some w)) (idle t)) (made_at (here k j i) s w (told_by (up_told (rises_of gain held.hand (t.hands + 1))) (up_answer plan (Some w))) ∷ now)
 gains-on {n = n} k j served i t s w now works vars at gain to held plan u takes =
@@ -292,7 +292,7 @@ gains-on {n = n} k j served i t s w now works vars at gain to held plan u takes 
     go (nexts.Done (ups.Again c)) fits g = gain-asks k j i gain to u.from (idle t) held after u.base works vars at (inl ((refl, refl), refl)) u.done u.there u.source (starts-again rise (here k j i) u.base after _ (ups.Again c) refl g)
 
 -- the name of the object is read
-names-on : {n : ℕ} (k : Task) (j : Job k) → AreServed k.shape (kinds_here k) j.ops → (i : ℕ) (t : Thread) (s : Step) (w : ℕ) (now : List Made) → WorksAt k j i n t → AreIn k t.vars → IsAt k j i →
+names-on : {n : ℕ} (k : Task) (j : Job k) → AreServed k.shape (classes_here k) (kinds_here k) j.ops → (i : ℕ) (t : Thread) (s : Step) (w : ℕ) (now : List Made) → WorksAt k j i n t → AreIn k t.vars → IsAt k j i →
     (to : ℕ) (held : Held) (plan : OneStep) → IsNaming k j i to held plan t.vars t.made t.hands (Some s) now →
     Stands k n (named_on to held (one_turned plan (Some w)) (name_of_answer plan (Some w)) (idle t)) (made_at (here k j i) s w None ∷ now)
 names-on {n = n} k j served i t s w now works vars at to held plan u = go (name_of_answer plan (Some w)) (given reads (here k j i) u.base now plan s w u.waits)
@@ -320,11 +320,11 @@ names-on {n = n} k j served i t s w now works vars at to held plan u = go (name_
 
 -- ---- globals
 
-global-counted : (shape : HeapShape) (g : ℕ) → All (λ (r : RefShape). IsCountedInline r.kind) shape.globals → g < length shape.globals → IsCountedInline (global_kind shape g)
-global-counted shape g all there = All-get_or (λ (r : RefShape). IsCountedInline r.kind) shape.globals g (record { kind = Strong; class = 0 }) there all
+global-counted : (shape : HeapShape) (g : ℕ) → All IsServedRef shape.globals → g < length shape.globals → IsCountedInline (global_kind shape g)
+global-counted shape g all there = All-get_or IsServedRef shape.globals g (record { kind = Strong; class = 0 }) there all
 
 -- the copy is there, and the access ends
-has-got : {n : ℕ} (k : Task) (j : Job k) → AreServed k.shape (kinds_here k) j.ops → (i : ℕ) (t : Thread) (after : List Made) → WorksAt k j i n t → AreIn k t.vars → IsAt k j i → IsHere (here k j i) after →
+has-got : {n : ℕ} (k : Task) (j : Job k) → AreServed k.shape (classes_here k) (kinds_here k) j.ops → (i : ℕ) (t : Thread) (after : List Made) → WorksAt k j i n t → AreIn k t.vars → IsAt k j i → IsHere (here k j i) after →
     (to : ℕ) (cell : CellName) (kind : Kind) (place : ℕ) (of : IsGlobalOf k.shape cell kind) (base begun : List Made) → AreDone k j i (state_of t.vars t.made t.hands) base →
     slice_get j.ops i ≡ Some (op.Get to (opcell.Global of.global)) → Gives (begin_access (extent_of k.shape) of.global) (here k j i) base (begins.Held (place + 2)) begun →
     Gives (get_plan k of.global place t.hands) (here k j i) begun ups.Up after → place < k.shape.slots →
@@ -352,14 +352,14 @@ has-got {n = n} k j served i t after works vars at newest to cell kind place of 
         ends = λ ended end g x. op-done k j i (op.Get to (opcell.Global of.global)) (state_of t.vars t.made t.hands) behind base end done there (does_get of.there below counted began up_gives g x behind-is);
         waits = waits ending (here k j i) after after _ _ (begun-from ending (here k j i) after after (close_from cell new u) starts_first same);
         inside = record { place = below; kind = subst IsCountedInline (sym of.kind_is) counted };
-        kind = of.kind_is ∙ sym (served.kinds_fit i (op.Get to (opcell.Global of.global)) there);
+        kind = of.kind_is ∙ sym (served.kinds_fit i (op.Get to (opcell.Global of.global)) there).0;
         within = slice_get_within j.ops i (op.Get to (opcell.Global of.global)) there;
         newest = newest;
       };
     }
 
 -- the copy is made from here
-get-asks : {n : ℕ} (k : Task) (j : Job k) → AreServed k.shape (kinds_here k) j.ops → (i : ℕ) (t : Thread) (now : List Made) → WorksAt k j i n t → AreIn k t.vars → IsAt k j i → IsHere (here k j i) now → t.first ≡ false →
+get-asks : {n : ℕ} (k : Task) (j : Job k) → AreServed k.shape (classes_here k) (kinds_here k) j.ops → (i : ℕ) (t : Thread) (now : List Made) → WorksAt k j i n t → AreIn k t.vars → IsAt k j i → IsHere (here k j i) now → t.first ≡ false →
     (to : ℕ) (cell : CellName) (kind : Kind) (place : ℕ) (of : IsGlobalOf k.shape cell kind) (base begun : List Made) → AreDone k j i (state_of t.vars t.made t.hands) base →
     slice_get j.ops i ≡ Some (op.Get to (opcell.Global of.global)) → Gives (begin_access (extent_of k.shape) of.global) (here k j i) base (begins.Held (place + 2)) begun → place < k.shape.slots →
     Starts (get_plan k of.global place t.hands) (here k j i) begun now → Stands k n (gain_begun gains.Copy to (record { origin = origins.Cell cell; kind = kind; place = place }) t) now
@@ -391,7 +391,7 @@ get-asks {n = n} k j served i t now works vars at newest first to cell kind plac
       };
     }
 
-gets-on : {n : ℕ} (k : Task) (j : Job k) → AreServed k.shape (kinds_here k) j.ops → (i : ℕ) (t : Thread) (s : Step) (w : ℕ) (now : List Made) → WorksAt k j i n t → AreIn k t.vars → IsAt k j i →
+gets-on : {n : ℕ} (k : Task) (j : Job k) → AreServed k.shape (classes_here k) (kinds_here k) j.ops → (i : ℕ) (t : Thread) (s : Step) (w : ℕ) (now : List Made) → WorksAt k j i n t → AreIn k t.vars → IsAt k j i →
     (to : ℕ) (cell : CellName) (kind : Kind) (place : ℕ) (plan : Rise) (u : IsGetting k j i gains.Copy to cell kind place plan t.vars t.made t.hands (Some s) now) → gain_takes gains.Copy plan (Some w) →
     Stands k n (gained_on gains.Copy to (record { origin = origins.Cell cell; kind = kind; place = place }) (up_turned plan (Some w)) (up_answer plan (Some w)) (idle t))
     (made_at (here k j i) s w (told_by (up_told (get_acts u.of.global (t.hands + 1))) (up_answer plan (Some w))) ∷ now)
@@ -437,7 +437,7 @@ gets-on {n = n} k j served i t s w now works vars at to cell kind place plan u t
         get-asks k j served i (idle t) after works vars at (refl, refl) refl to cell kind place u.of u.base u.begun u.done u.there u.began u.place_in (starts-again rise (here k j i) u.begun after _ (ups.Again c) refl g)
 
 -- the access begins, or the global is nil
-opens-on : {n : ℕ} (k : Task) (j : Job k) → AreServed k.shape (kinds_here k) j.ops → (i : ℕ) (t : Thread) (s : Step) (w : ℕ) (now : List Made) → WorksAt k j i n t → AreIn k t.vars → IsAt k j i →
+opens-on : {n : ℕ} (k : Task) (j : Job k) → AreServed k.shape (classes_here k) (kinds_here k) j.ops → (i : ℕ) (t : Thread) (s : Step) (w : ℕ) (now : List Made) → WorksAt k j i n t → AreIn k t.vars → IsAt k j i →
     (to : ℕ) (cell : Cell) (plan : Beginning) (u : IsOpening k j i to cell plan t.vars t.made t.hands (Some s) now) → IsCellAt k.shape.slots plan.at w →
     Stands k n (opened_on to cell (begin_turned plan (Some w)) (begin_answer plan (Some w)) (idle t)) (made_at (here k j i) s w (told_by (begin_told u.of.global) (begin_answer plan (Some w))) ∷ now)
 opens-on {n = n} k j served i t s w now works vars at to cell plan u fits =
@@ -479,7 +479,7 @@ opens-on {n = n} k j served i t s w now works vars at to cell plan u fits =
     go (nexts.Done (begins.Again c)) on g = again (begins.Again c) refl g
 
 -- the access ends
-closes-on : {n : ℕ} (k : Task) (j : Job k) → AreServed k.shape (kinds_here k) j.ops → (i : ℕ) (t : Thread) (s : Step) (w : ℕ) (now : List Made) → WorksAt k j i n t → AreIn k t.vars → IsAt k j i →
+closes-on : {n : ℕ} (k : Task) (j : Job k) → AreServed k.shape (classes_here k) (kinds_here k) j.ops → (i : ℕ) (t : Thread) (s : Step) (w : ℕ) (now : List Made) → WorksAt k j i n t → AreIn k t.vars → IsAt k j i →
     (to : ℕ) (cell : CellName) (held : Held) (plan : AccessEnd) → IsClosing k j i to cell held plan t.vars t.made t.hands (Some s) now →
     Stands k n (closed_on to cell held (end_turned plan (Some w)) (end_answer plan (Some w)) (idle t)) (made_at (here k j i) s w None ∷ now)
 closes-on {n = n} k j served i t s w now works vars at to cell held plan u = go (end_answer plan (Some w)) (given ending (here k j i) u.base now plan s w u.waits)
@@ -506,7 +506,7 @@ closes-on {n = n} k j served i t s w now works vars at to cell held plan u = go 
         (λ end x. u.ends after end (gives ending (here k j i) u.base after _ tt refl g) x)
 
 -- a variable's reference, or nil, comes into a global, and what was there is dropped
-sets-on : {n : ℕ} (k : Task) (j : Job k) → AreServed k.shape (kinds_here k) j.ops → (i : ℕ) (t : Thread) (s : Step) (w : ℕ) (now : List Made) → WorksAt k j i n t → AreIn k t.vars → IsAt k j i →
+sets-on : {n : ℕ} (k : Task) (j : Job k) → AreServed k.shape (classes_here k) (kinds_here k) j.ops → (i : ℕ) (t : Thread) (s : Step) (w : ℕ) (now : List Made) → WorksAt k j i n t → AreIn k t.vars → IsAt k j i →
     (from : ℕ) (cell : Cell) (plan : SwapAttempt) (u : IsSetting k j i from cell plan t.vars t.made t.hands (Some s) now) → IsCellAt k.shape.slots plan.at w →
     Stands k n (set_on from cell (swap_turned plan (Some w)) (swap_answer plan (Some w)) (idle t))
     (made_at (here k j i) s w (told_by (swap_told u.of.global (hand_of (ref (value t.vars from))) (t.hands + 1)) (swap_answer plan (Some w))) ∷ now)
@@ -572,7 +572,7 @@ sets-on {n = n} k j served i t s w now works vars at from cell plan u fits =
 -- ---- the stepper
 
 -- what an operation does last, in a thread of the script
-lasts : {n : ℕ} (k : Task) (j : Job k) → AreServed k.shape (kinds_here k) j.ops → (i : ℕ) (t : Thread) → WorksAt k j i n t → AreIn k t.vars → IsAt k j i →
+lasts : {n : ℕ} (k : Task) (j : Job k) → AreServed k.shape (classes_here k) (kinds_here k) j.ops → (i : ℕ) (t : Thread) → WorksAt k j i n t → AreIn k t.vars → IsAt k j i →
     Lasts k.shape (here k j i) (IsOver k j i t.vars t.made t.hands) t (λ (u : Thread) (ms : List Made). Stands k n u ms)
 lasts {n = n} k j served i t works vars at = record {
   layout_is = works.layout_is;
@@ -584,9 +584,9 @@ lasts {n = n} k j served i t works vars at = record {
 }
 
 -- Each word that it is given is that of a step of the operation under way, with the event that it tells.
-pub keeps : (k : Task) (n : ℕ) (t : Thread) (s : Step) (w : ℕ) (now : List Made) (st : Stands k n t now) → AreServed k.shape (kinds_here k) st.job.ops → HasNoFields k.shape → step_in t.asked ≡ Some s → takes t (Some w) →
+pub keeps : (k : Task) (n : ℕ) (t : Thread) (s : Step) (w : ℕ) (now : List Made) (st : Stands k n t now) → AreServed k.shape (classes_here k) (kinds_here k) st.job.ops → step_in t.asked ≡ Some s → takes t (Some w) → IsLone (turned t (Some w)).doing →
     Stands k n (turned t (Some w)) (made_at (here k st.job st.at) s w (turned t (Some w)).event ∷ now)
-keeps k n t s w now st served bare asked takes = go t.doing st.phased st.placed st.up_to takes
+keeps k n t s w now st served asked takes lone = go t.doing st.phased st.placed st.up_to takes.0 lone
   where
     j : Job k
     j = st.job
@@ -609,13 +609,13 @@ keeps k n t s w now st served bare asked takes = go t.doing st.phased st.placed 
     Over : List Made → Type 0
     Over = IsOver k j i t.vars t.made t.hands
 
-    go : (d : Doing) → IsIn n st.phases d → IsPlaced k j i t.first now d → UpTo k j i t.vars t.made t.hands t.asked now d → takes_at t.shape (Some w) d → Left (turned_at (Some w) d (idle t)) (turned_at (Some w) d (idle t)).event
-    go Ready phased placed u takes = absurd (cc)
-    go (Making to name plan) phased placed u takes =
+    go : (d : Doing) → IsIn n st.phases d → IsPlaced k j i t.first now d → UpTo k j i t.vars t.made t.hands t.asked now d → takes_at t.shape (Some w) d → IsLone (turned_at (Some w) d (idle t)).doing → Left (turned_at (Some w) d (idle t)) (turned_at (Some w) d (idle t)).event
+    go Ready phased placed u takes lone = absurd (cc)
+    go (Making to name plan) phased placed u takes lone =
         let a : IsMaking k j i to name plan t.vars t.made t.hands (Some s) now = rw asked at u in
         subst (λ (e : Option Act). Left (made_on to name (creation_turned plan (Some w)) (creation_answer plan (Some w)) (idle t)) e)
         (sym (makes-tells t w to name plan plan.at k.shape.slots a.before a.held a.count)) (makes k j served i t s w now (works-in phased) st.vars_in placed.0 to name plan a)
-    go (Gaining gain to from plan) phased placed u takes = from_is from.origin u
+    go (Gaining gain to from plan) phased placed u takes lone = from_is from.origin u
       where
         from_is : (o : Origin) → IsGainingFrom k j i gain to o from.kind from.place plan t.vars t.made t.hands (step_in t.asked) now →
             Left (gained_on gain to (record { origin = o; kind = from.kind; place = from.place }) (up_turned plan (Some w)) (up_answer plan (Some w)) (idle t))
@@ -635,40 +635,40 @@ keeps k n t s w now st served bare asked takes = go t.doing st.phased st.placed 
                 (gets-on k j served i t s w now (works-in phased) st.vars_in placed.0 to cell from.kind from.place plan u takes)
             copies gains.Unown is u takes = absurd (cc)
             copies gains.Load is u takes = absurd (cc)
-    go (Naming to held plan) phased placed u takes =
+    go (Naming to held plan) phased placed u takes lone =
         subst (λ (e : Option Act). Left (named_on to held (one_turned plan (Some w)) (name_of_answer plan (Some w)) (idle t)) e)
         (sym (names-tells t to held (one_turned plan (Some w)) (name_of_answer plan (Some w))))
         (names-on k j served i t s w now (works-in phased) st.vars_in placed.0 to held plan (rw asked at u))
-    go (Opening to cell plan) phased placed u takes =
+    go (Opening to cell plan) phased placed u takes lone =
         let a : IsOpening k j i to cell plan t.vars t.made t.hands (Some s) now = rw asked at u in
         subst (λ (e : Option Act). Left (opened_on to cell (begin_turned plan (Some w)) (begin_answer plan (Some w)) (idle t)) e)
         (sym (opens-tells t to a.of.global cell (begin_turned plan (Some w)) (begin_answer plan (Some w)) a.of.name_is))
         (opens-on k j served i t s w now (works-in phased) st.vars_in placed.0 to cell plan a (subst (λ (m : ℕ). IsCellAt m plan.at w) slots-are takes.1))
-    go (Closing to cell held plan) phased placed u takes =
+    go (Closing to cell held plan) phased placed u takes lone =
         subst (λ (e : Option Act). Left (closed_on to cell held (end_turned plan (Some w)) (end_answer plan (Some w)) (idle t)) e)
         (sym (closes-tells t to cell held (end_turned plan (Some w)) (end_answer plan (Some w))))
         (closes-on k j served i t s w now (works-in phased) st.vars_in placed.0 to cell held plan (rw asked at u))
-    go (Setting from cell plan) phased placed u takes =
+    go (Setting from cell plan) phased placed u takes lone =
         let a : IsSetting k j i from cell plan t.vars t.made t.hands (Some s) now = rw asked at u in
         subst (λ (e : Option Act). Left (set_on from cell (swap_turned plan (Some w)) (swap_answer plan (Some w)) (idle t)) e)
         (sym (sets-tells t from a.of.global cell (swap_turned plan (Some w)) (swap_answer plan (Some w)) a.of.name_is))
         (sets-on k j served i t s w now (works-in phased) st.vars_in placed.0 from cell plan a (subst (λ (m : ℕ). IsCellAt m plan.at w) slots-are takes.1))
-    go (Clearing plan) phased placed u takes = absurd u
-    go (Dropping held plan) phased placed u takes =
+    go (Clearing plan) phased placed u takes lone = absurd u
+    go (Dropping held plan) phased placed u takes lone =
         subst (λ (e : Option Act). Left (dropped_on held (down_turned plan (Some w)) (down_answer plan (Some w)) (idle t)) e)
         (sym (drops-tells t held (down_turned plan (Some w)) (down_answer plan (Some w))))
         (drops k.shape (here k j i) (IsOver k j i t.vars t.made t.hands) t (λ (u : Thread) (ms : List Made). Stands k n u ms) (lasts k j served i t (works-in phased) st.vars_in placed.0) s w now held plan (rw asked at u) takes.1)
-    go (Vacating slot plan) phased placed u takes =
+    go (Vacating slot plan) phased placed u takes lone =
         subst (λ (e : Option Act). Left (vacated_on slot (one_turned plan (Some w)) (vacate_answer plan (Some w)) (idle t)) e)
         (sym (ends-tells t slot (one_turned plan (Some w)) (vacate_answer plan (Some w))))
         (slot-ends k.shape (here k j i) (IsOver k j i t.vars t.made t.hands) t (λ (u : Thread) (ms : List Made). Stands k n u ms) (lasts k j served i t (works-in phased) st.vars_in placed.0) s w now slot plan (rw asked at u))
-    go (Dying c) phased placed u takes =
-        dies-on k.shape (here k j i) (IsOver k j i t.vars t.made t.hands) t (λ (u : Thread) (ms : List Made). Stands k n u ms) (lasts k j served i t (works-in phased) st.vars_in placed.0) s w now bare c (rw asked at u) takes
-    go Ended phased placed u takes = absurd takes
+    go (Dying c) phased placed u takes lone =
+        dies-on k.shape (here k j i) (IsOver k j i t.vars t.made t.hands) t (λ (u : Thread) (ms : List Made). Stands k n u ms) (lasts k j served i t (works-in phased) st.vars_in placed.0) s w now served.without_fields c (rw asked at u) lone
+    go Ended phased placed u takes lone = absurd takes
 
 -- Its next phase begins without a step.
-pub begins-phase : (k : Task) (n : ℕ) (t : Thread) (now : List Made) (st : Stands k n t now) → AreServed k.shape (kinds_here k) st.job.ops → takes t None → t.asked ≡ moves.PhaseEnd → Stands k (n + 1) (turned t None) now
-begins-phase k n t now st served takes asked = go t.doing (idle-here k n t now st (ap step_in asked)) st.phased st.placed st.up_to takes
+pub begins-phase : (k : Task) (n : ℕ) (t : Thread) (now : List Made) (st : Stands k n t now) → AreServed k.shape (classes_here k) (kinds_here k) st.job.ops → takes t None → t.asked ≡ moves.PhaseEnd → Stands k (n + 1) (turned t None) now
+begins-phase k n t now st served takes asked = go t.doing (idle-here k n t now st (ap step_in asked)) st.phased st.placed st.up_to takes.0
   where
     go : (d : Doing) → IsIdle d → IsIn n st.phases d → IsPlaced k st.job st.at t.first now d → UpTo k st.job st.at t.vars t.made t.hands t.asked now d → takes_at t.shape None d → Stands k (n + 1) (turned_at None d (idle t)) now
     go Ready i phased placed u takes =

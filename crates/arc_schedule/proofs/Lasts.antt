@@ -1,9 +1,6 @@
 -- What an operation does last, and what clearing a global does: a reference is dropped. Each word keeps what that stands for, with the step that found it.
-use Rattle.std.proofs.Common.{◌≡◌, ℕ, zero, suc, Bool, true, false, cond, eqb, List, [], ◌∷◌, length, get_or, Option, Some, None, refl, sym, ap, subst, ◌∙◌}
-use Rattle.std.proofs.lemmas.Option.{same_Some}
-use Rattle.std.proofs.lemmas.List.Elements.{recursion_from_All}
+use Rattle.std.proofs.Common.{◌≡◌, ℕ, Bool, true, false, cond, eqb, List, ◌∷◌, Option, Some, None, refl, sym, ap, subst, ◌∙◌}
 use Rattle.std.specs.Prelude.{⊤}
-use Rattle.std.specs.List.{AllByRecursion}
 use Rattle.arc_bits.specs.declared.packing.Word.{Word}
 use Rattle.arc_bits.specs.declared.packing.Word.TheVariants.{Free, Counts, Slow, Immortal}
 use Rattle.arc_bits.specs.Words.{unpacked}
@@ -11,11 +8,10 @@ use Rattle.arc_model.specs.declared.event.Act.{Act}
 use Rattle.arc_model.specs.declared.event.Act.TheVariants as acts
 use Rattle.arc_model.specs.declared.shape.Kind.{Kind}
 use Rattle.arc_model.specs.declared.shape.Kind.TheVariants.{Strong, Unowned, Weak}
-use Rattle.arc_model.specs.Shapes.{CapNumbers, HeapShape, ObjectClass, class_at}
+use Rattle.arc_model.specs.Shapes.{CapNumbers, HeapShape}
 use Rattle.arc_rule.specs.Extents.{Extent}
-use Rattle.arc_rule.specs.Isa.{isa_name_of}
 use Rattle.arc_rule.specs.Places.{number, extent_of}
-use Rattle.arc_rule.specs.declared.layout.Place.TheVariants.{Count, Next as NextPlace}
+use Rattle.arc_rule.specs.declared.layout.Place.TheVariants.{Count}
 use Rattle.arc_rule.specs.declared.plan.Next.{Next}
 use Rattle.arc_rule.specs.declared.plan.Next.TheVariants as nexts
 use Rattle.arc_rule.specs.declared.step.Step.{Step}
@@ -26,7 +22,6 @@ use Rattle.arc_rule.specs.declared.attempt.Choice.{Choice}
 use Rattle.arc_rule.specs.declared.attempt.Choice.TheVariants.{Tell, Write}
 use Rattle.arc_plan.specs.declared.unowned.UnownedDownAnswer.{UnownedDownAnswer}
 use Rattle.arc_plan.specs.declared.unowned.UnownedDownAnswer.TheVariants as unowneds
-use Rattle.arc_plan.specs.Attempts.{Attempt}
 use Rattle.arc_rule.specs.Attempts.{chosen, told_as, answer_by, turned_by, answer_at as attempt_answer, turned_at as attempt_turned}
 use Rattle.arc_side.specs.declared.down.DownAnswer.{DownAnswer}
 use Rattle.arc_side.specs.declared.down.DownAnswer.TheVariants as downs
@@ -36,35 +31,29 @@ use Rattle.arc_side.specs.Downs.{Fall, down_in, down_moved, down_place, down_cho
 use Rattle.arc_plan.specs.declared.strong.StrongDownAnswer.{StrongDownAnswer}
 use Rattle.arc_plan.specs.declared.strong.StrongDownAnswer.TheVariants as strongs
 use Rattle.arc_plan.specs.Strong.{strong_down_row, strong_down_end}
-use Rattle.arc_plan.specs.Unowned.{unowned_down_row, unowned_down_end, unowned_down_turned, unowned_down_answer}
+use Rattle.arc_plan.specs.Unowned.{unowned_down_row, unowned_down_end}
 use Rattle.arc_plan.specs.Slots.{OneStep, one_turned, vacate_answer}
-use Rattle.arc_cells.specs.declared.bare.At.{At as CascadeAt}
-use Rattle.arc_cells.specs.declared.bare.At.TheVariants as at
-use Rattle.arc_cells.specs.declared.cascade.CascadeNext.{CascadeNext}
-use Rattle.arc_cells.specs.BareCascades.{CascadeState, IsInline, IsInlineAt, IsInlineAnswer, cascade_turned, cascade_answer, cascade_takes, finish_from, vacate_from, finish_turned, finish_says, vacated, vacate_says, turned_at as cascade_turned_at, answer_at as cascade_answer_at, takes_at as cascade_takes_at}
-use Rattle.arc_cells.specs.Cascades.{HasNoFields}
+use Rattle.arc_cells.specs.Cascades.{CascadeState}
 use Rattle.arc_ops.specs.declared.stepper.Held.{Held}
 use Rattle.arc_ops.specs.declared.stepper.Doing.TheVariants.{Dropping, Dying, Vacating}
 use Rattle.arc_ops.specs.declared.stepper.Move.TheVariants as moves
 use Rattle.arc_ops.specs.declared.gain.Gain.{Gain}
 use Rattle.arc_ops.specs.Thread.{Thread}
 use Rattle.arc_ops.specs.Plans.{drop_from, vacate_from as ending_from}
-use Rattle.arc_ops.specs.Drops.{last_gone, dropped_on, dying_on, vacated_on}
-use Rattle.arc_ops.specs.Takes.{IsGainWord, IsInlineAt as IsBareAt, gain_takes, takes}
+use Rattle.arc_ops.specs.Drops.{last_gone, dropped_on, vacated_on}
+use Rattle.arc_ops.specs.Takes.{IsInline, IsGainWord, IsInlineAt as IsBareAt, gain_takes}
 use Rattle.arc_ops.specs.declared.stepper.Move.{Move}
-use Rattle.arc_ops.specs.Kept.{Kept}
+use Rattle.arc_served.specs.Kept.{Kept}
 use Rattle.arc_ops.specs.Begins.{next_op}
 use Rattle.arc_schedule.specs.Made.{Point, Made, made_at}
-use Rattle.arc_schedule.specs.Plans.{Plan, Gives, down, finish, vacate, told_by, down_told, finish_told, vacate_told}
+use Rattle.arc_schedule.specs.Plans.{Plan, Gives, down, vacate, told_by, down_told, vacate_told}
 use Rattle.arc_schedule.specs.Plans.Starts.{first as starts_first}
-use Rattle.arc_schedule.specs.Operations.{reference_to, loads, FieldsDone, SlotEnds, Drops}
-use Rattle.arc_schedule.specs.Operations.FieldsDone.{entered}
-use Rattle.arc_schedule.specs.Operations.IsCascade.{more as cascade_more, last as cascade_last}
+use Rattle.arc_schedule.specs.Operations.{reference_to, SlotEnds, Drops}
 use Rattle.arc_schedule.specs.Operations.SlotEnds.{bare as slot_ends}
 use Rattle.arc_schedule.specs.Operations.Drops.{more as drops_more, last as drops_last, last_unowned as drops_last_unowned}
 use Rattle.arc_schedule.proofs.Newest.{IsHere}
-use Rattle.arc_schedule.proofs.Stands.{Gave, waits, begun-from, given, gives, starts-again, IsDropping, IsEnding, AllDone, IsFinishing, IsVacating, CascadeUpTo, IsDying, step_in}
-use Rattle.arc_schedule.proofs.Tells.{idle, finish-tells, vacates-tells}
+use Rattle.arc_schedule.proofs.Stands.{Gave, waits, begun-from, given, gives, starts-again, IsDropping, IsEnding, IsDying, step_in}
+use Rattle.arc_schedule.proofs.Tells.{idle}
 
 -- ---- which answers the words allow
 
@@ -155,34 +144,6 @@ last-bare p w fits = go p.entry (down-met p w fits).0 (entry_met p.entry p.at (S
     go None none (Some e) unmet = absurd (cc)
     go (Some e) none met unmet = absurd (cc)
 
-less-answer : (p : Attempt) (w : ℕ) → IsInlineAt p.at w → IsInlineAnswer (unowned_down_answer p (Some w))
-less-answer p w fits = go p.at fits
-  where
-    loaded : (o : Option Word) → IsInline o → IsInlineAnswer (chosen (number p.layout (Count p.slot)) w (unowned_down_row o))
-    loaded None fits = tt
-    loaded (Some Free) fits = tt
-    loaded (Some (Slow e)) fits = absurd fits
-    loaded (Some Immortal) fits = tt
-    loaded (Some (Counts c)) fits = tt
-
-    ended : (b : Bool) → IsInlineAnswer (nexts.Done (cond b unowneds.Last unowneds.More))
-    ended true = tt
-    ended false = tt
-
-    found : (seen : ℕ) (b : Bool) (o : Option Word) → IsInlineAnswer (nexts.Done (cond b (unowned_down_end o) (unowneds.Again (record { seen = seen; found = w }))))
-    found seen true None = tt
-    found seen true (Some Free) = tt
-    found seen true (Some (Slow e)) = tt
-    found seen true (Some Immortal) = tt
-    found seen true (Some (Counts c)) = ended (eqb c.unowned 1)
-    found seen false o = tt
-
-    go : (a : At) → IsInlineAt a w → IsInlineAnswer (attempt_answer (λ v. unowned_down_row (unpacked v)) (λ seen. unowned_down_end (unpacked seen)) unowneds.Again (number p.layout (Count p.slot)) a w)
-    go attempt.Start fits = tt
-    go attempt.Loading fits = loaded (unpacked w) fits
-    go (attempt.Exchanging seen new) fits = found seen (eqb w seen) (unpacked seen)
-    go attempt.Ended fits = tt
-
 -- ---- what is done last
 
 -- A thread drops a reference at a point, behind which this holds: what is under way stands for its steps, and when it is over the thread goes on.
@@ -269,98 +230,3 @@ slot-ends shape point Over t Goal x s w now slot plan u = go (vacate_answer plan
     go : (a : Next (Unit {0})) → Gave ending point u.base after a (one_turned plan (Some w)) → Goal (vacated_on slot (one_turned plan (Some w)) a (idle t)) after
     go (nexts.Step s) g = x.ends slot _ (moves.Step s intents.Vacate) None after (record { base = u.base; ends = u.ends; waits = waits ending point u.base after _ s g }) (refl, refl)
     go (nexts.Done a) g = x.over (Some (acts.Vacate slot)) after (refl, refl) (u.ends after (slot_ends (gives ending point u.base after _ tt refl g)))
-
--- ---- an object dies
-
-no_fields : (classes : List ObjectClass) (i : ℕ) → AllByRecursion (λ (c : ObjectClass). c.fields ≡ []) classes → length (get_or classes i (record { fields = []; immortal = false })).fields ≡ 0
-no_fields [] i bare = refl
-no_fields (c ∷ classes) zero bare = ap length bare.0
-no_fields (c ∷ classes) (suc i) bare = no_fields classes i bare.1
-
--- an object without fields has all of them done at once
-all-done : (shape : HeapShape) (point : Point) (slot isa : ℕ) (base now : List Made) → HasNoFields shape → FieldsDone shape point slot isa base 0 now → AllDone shape point slot base now
-all-done shape point slot isa base now bare d =
-    let none : length (class_at shape (isa_name_of isa).class).fields ≡ 0 = no_fields shape.classes (isa_name_of isa).class (recursion_from_All (λ (c : ObjectClass). c.fields ≡ []) shape.classes bare) in
-    record { isa = isa; done = rw none d }
-
-pub dies-on : (shape : HeapShape) (point : Point) (Over : List Made → Type 0) (t : Thread) (Goal : Thread → List Made → Type 0) → Lasts shape point Over t Goal → (s : Step) (w : ℕ) (now : List Made) → HasNoFields shape →
-    (c : CascadeState) → IsDying shape point Over c (Some s) now → cascade_takes c (Some w) →
-    Goal (dying_on (cascade_turned c (Some w)) (cascade_answer c (Some w)) (record (idle t) { event = (cascade_turned c (Some w)).event }))
-    (made_at point s w (dying_on (cascade_turned c (Some w)) (cascade_answer c (Some w)) (record (idle t) { event = (cascade_turned c (Some w)).event })).event ∷ now)
-dies-on shape point Over t Goal x s w now bare c u takes = go c.at u.place takes
-  where
-    after : Option Act → List Made
-    after e = made_at point s w e ∷ now
-
-    down : Plan Attempt UnownedDownAnswer
-    down = finish (extent_of shape) c.slot
-
-    down-start : down.start ≡ finish_from c
-    down-start = rw u.layout refl
-
-    vacating-start : (vacate (extent_of shape) c.slot).start ≡ vacate_from c
-    vacating-start = rw u.layout refl
-
-    -- the cascade at this place
-    at-place : (a : CascadeAt) (e : Option Act) (asked : Option Step) (ms : List Made) → CascadeUpTo shape point c.slot u.base ms asked a → IsDying shape point Over (record c { at = a; event = e }) asked ms
-    at-place a e asked ms p = record { base = u.base; layout = u.layout; shape_is = u.shape_is; ends = u.ends; place = p; within = u.within }
-
-    -- the stepper that the cascade's turn leaves, behind a step with this event
-    Left : CascadeState → CascadeNext → Option Act → Type 0
-    Left d says e = Goal (dying_on d says (record (idle t) { event = d.event })) (after e)
-
-    finishing : (p : Attempt) (f : IsFinishing shape point c.slot u.base now p (Some s)) (a : Next UnownedDownAnswer) → IsInlineAnswer a → (e : Option Act) →
-        Gave down point (loads shape point (NextPlace c.slot) 0 ∷ f.left) (after e) a (unowned_down_turned p (Some w)) → Left (finish_turned (record c { at = at.Ended; event = None }) (unowned_down_turned p (Some w)) a) (finish_says c a) e
-    finishing p f (nexts.Step z) fits e g = x.dies _ _ _ _ _ (at-place (at.Finishing (unowned_down_turned p (Some w))) None (Some z) (after e) (record { left = f.left; all = f.all; waits = waits down point _ (after e) _ z g })) (refl, refl)
-    finishing p f (nexts.Done unowneds.More) fits e g =
-        x.over (Some (acts.Finish c.slot false)) (after e) (refl, refl) (u.ends (after e) (cascade_more f.all.done (gives down point _ (after e) _ unowneds.More refl g)))
-    finishing p f (nexts.Done unowneds.Last) fits e g = x.dies _ _ _ _ _ (at-place (at.Vacating (one_turned (vacate_from c) None)) (Some (acts.Finish c.slot true)) _ (after e) (record {
-      left = f.left;
-      all = f.all;
-      mid = after e;
-      finished = gives down point _ (after e) _ unowneds.Last refl g;
-      waits = waits (vacate (extent_of shape) c.slot) point (after e) (after e) _ _ (begun-from (vacate (extent_of shape) c.slot) point (after e) (after e) (vacate_from c) starts_first vacating-start);
-    })) (refl, refl)
-    finishing p f (nexts.Done (unowneds.Slow z)) fits e g = absurd fits
-    finishing p f (nexts.Done (unowneds.Again z)) fits e g = x.dies _ _ _ _ _ (at-place (at.Finishing (unowned_down_turned (finish_from c) None)) None _ (after e) (record {
-      left = f.left;
-      all = f.all;
-      waits = waits down point _ (after e) _ _ (begun-from down point _ (after e) (finish_from c) (starts-again down point _ (after e) _ (unowneds.Again z) refl g) down-start);
-    })) (refl, refl)
-
-    vacating : (p : OneStep) (f : IsVacating shape point c.slot u.base now p (Some s)) (a : Next (Unit {0})) (e : Option Act) →
-        Gave (vacate (extent_of shape) c.slot) point f.mid (after e) a (one_turned p (Some w)) → Left (vacated (record c { at = at.Ended; event = None }) (one_turned p (Some w)) a) (vacate_says a) e
-    vacating p f (nexts.Step z) e g = x.dies _ _ _ _ _ (at-place (at.Vacating (one_turned p (Some w))) None (Some z) (after e) (record { left = f.left; all = f.all; mid = f.mid; finished = f.finished; waits = waits (vacate (extent_of shape) c.slot) point f.mid (after e) _ z g })) (refl, refl)
-    vacating p f (nexts.Done a) e g =
-        x.over (Some (acts.Vacate c.slot)) (after e) (refl, refl)
-        (u.ends (after e) (cascade_last f.all.done f.finished (gives (vacate (extent_of shape) c.slot) point f.mid (after e) _ tt refl g)))
-
-    go : (a : CascadeAt) → CascadeUpTo shape point c.slot u.base now (Some s) a → cascade_takes_at c (Some w) a →
-        Left (cascade_turned_at (record c { at = at.Ended; event = None }) (Some w) a) (cascade_answer_at c (Some w) a)
-        (dying_on (cascade_turned_at (record c { at = at.Ended; event = None }) (Some w) a) (cascade_answer_at c (Some w) a)
-        (record (idle t) { event = (cascade_turned_at (record c { at = at.Ended; event = None }) (Some w) a).event })).event
-    go at.Start p takes = absurd p
-    go at.Entering p takes = x.dies _ _ _ _ _ (at-place at.Naming None _ (after None) (
-      record { stored = w; now_is = let e = same_Some s _ p.1 in rw (e, p.0) refl },
-      rw u.layout refl,
-    )) (refl, refl)
-    go at.Naming p takes = x.dies _ _ _ _ _ (at-place at.Leaving None _ (after None) (
-      all-done shape point c.slot w u.base (after None) bare (let e = same_Some s _ p.1 in rw (e, p.0.now_is) entered),
-      rw u.layout refl,
-    )) (refl, refl)
-    go (at.Named name) p takes = absurd p
-    go at.Leaving p takes = x.dies _ _ _ _ _ (at-place (at.Finishing (unowned_down_turned (finish_from c) None)) None _ (after None) (record {
-      left = now;
-      all = p.0;
-      waits = waits down point _ (after None) _ _ (begun-from down point (loads shape point (NextPlace c.slot) 0 ∷ now) (after None) (finish_from c)
-          (let e = same_Some s _ p.1 in let z = same_Some w 0 takes in rw (e, z) starts_first) down-start);
-    })) (refl, refl)
-    go (at.Finishing p) f takes =
-        let d : CascadeState = finish_turned (record c { at = at.Ended; event = None }) (unowned_down_turned p (Some w)) (unowned_down_answer p (Some w)) in
-        subst (λ (e : Option Act). Left d (finish_says c (unowned_down_answer p (Some w))) e) (sym (finish-tells t c (unowned_down_turned p (Some w)) (unowned_down_answer p (Some w))))
-        (finishing p f (unowned_down_answer p (Some w)) (less-answer p w takes.1) (told_by (finish_told c.slot) (unowned_down_answer p (Some w))) (given down point _ now p s w f.waits))
-    go (at.Vacating p) f takes =
-        let d : CascadeState = vacated (record c { at = at.Ended; event = None }) (one_turned p (Some w)) (vacate_answer p (Some w)) in
-        subst (λ (e : Option Act). Left d (vacate_says (vacate_answer p (Some w))) e) (sym (vacates-tells t c (one_turned p (Some w)) (vacate_answer p (Some w))))
-        (vacating p f (vacate_answer p (Some w)) (told_by (vacate_told c.slot) (vacate_answer p (Some w))) (given (vacate (extent_of shape) c.slot) point f.mid now p s w f.waits))
-    go at.Ended p takes = absurd p

@@ -6,6 +6,7 @@ pub mod Begins
 pub mod Tells
 pub mod Idle
 pub mod Lasts
+pub mod Dies
 pub mod Keeps
 pub mod First
 pub mod Outside

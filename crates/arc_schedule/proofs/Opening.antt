@@ -3,27 +3,22 @@ use Rattle.std.proofs.Common.{◌≡◌, ℕ, zero, suc, ◌+◌, ◌-◌, ◌<�
 use Rattle.std.proofs.lemmas.Bool.{eqb-true}
 use Rattle.std.proofs.lemmas.Option.{same_Some}
 use Rattle.std.proofs.lemmas.List.{length-map}
-use Rattle.std.proofs.lemmas.List.Elements.{All-replicate, All-map, All-from_recursion, recursion_from_All}
+use Rattle.std.proofs.lemmas.List.Elements.{All-replicate, All-from_recursion, recursion_from_All}
 use Rattle.std.specs.Prelude.{slice_get, replicate, take, All}
 use Rattle.std.specs.List.{AllByRecursion}
-use Rattle.arc_model.specs.declared.shape.RefShape.{RefShape}
 use Rattle.arc_rule.specs.Places.{extent_of}
-use Rattle.arc_side.specs.Inline.{IsCountedInline}
-use Rattle.arc_script.specs.declared.script.ClassDecl.{ClassDecl}
 use Rattle.arc_script.specs.declared.script.VarDecl.{VarDecl}
-use Rattle.arc_script.specs.declared.script.Op.TheVariants as op
-use Rattle.arc_script.specs.declared.script.OpCell.TheVariants as opcell
 use Rattle.arc_script.specs.declared.script.Op.{Op}
 use Rattle.arc_script.specs.declared.script.ThreadDecl.{ThreadDecl}
 use Rattle.arc_script.specs.declared.script.Script.{Script}
 use Rattle.arc_script.specs.OneList.{in_one_list}
 use Rattle.arc_script.specs.Valid.{IsScript, IsThread, IsOp, Nested}
 use Rattle.arc_ops.specs.declared.stepper.Move.TheVariants as moves
-use Rattle.arc_ops.proofs.Blocks.{nested_forth}
-use Rattle.arc_ops.specs.Programs.{GoesForth, KindsFit, CellFits, declared_of, phases_in, phases_of, count_of_vars, vars_of}
+use Rattle.arc_served.proofs.Blocks.{nested_forth}
+use Rattle.arc_served.specs.Programs.{GoesForth, declared_of, phases_in, phases_of, count_of_vars, vars_of}
 use Rattle.arc_ops.specs.declared.stepper.Held.{Held}
-use Rattle.arc_ops.specs.Served.{IsServed, IsServedThread, IsServedVar, IsServedOp}
-use Rattle.arc_spelled.proofs.Declared.{op-kinds}
+use Rattle.arc_served.specs.Served.{IsServed, IsServedThread, IsServedVar, IsServedOp}
+use Rattle.arc_spelled.proofs.Declared.{declared as declared-as, op-kinds, op-cells, globals-served}
 use Rattle.arc_ops.specs.declared.stepper.Doing.{Doing}
 use Rattle.arc_ops.specs.declared.stepper.Doing.TheVariants.{Ready, Making, Gaining, Naming, Opening, Closing, Setting, Clearing, Dropping, Dying, Vacating, Ended}
 use Rattle.arc_ops.specs.Begins.{phase_end}
@@ -44,7 +39,7 @@ use Rattle.arc_schedule.proofs.Tells.{idle}
 use Rattle.arc_schedule.proofs.Idle.{IsIdle, idle-here}
 use Rattle.arc_schedule.proofs.Outside.{begun-outside}
 use Rattle.arc_schedule.proofs.Newer.{idle-outside}
-use Rattle.arc_schedule.proofs.Stands.{Task, Job, kinds_here, AreServed, refs, state_of, step_in, Stands, StandsFirst}
+use Rattle.arc_schedule.proofs.Stands.{Task, Job, kinds_here, classes_here, AreServed, refs, state_of, step_in, Stands, StandsFirst}
 use Rattle.arc_schedule.proofs.Keeps.{begins-phase}
 use Rattle.arc_schedule.proofs.Asks.{waits-for-phase, has-ended, ended-stays}
 use Rattle.arc_schedule.proofs.Stages.{task_of, AllStand, AllInside}
@@ -65,41 +60,19 @@ forth ops nested i o here =
 pub globals-are-many : (script : Script) → IsScript script → length script.shape.globals ≡ length script.globals
 globals-are-many script valid = ap length valid.heading.of_globals ∙ length-map script.globals (λ (v : VarDecl). record { kind = v.kind; class = v.class })
 
-pub globals-served : (script : Script) → IsScript script → IsServed script → All (λ (r : RefShape). IsCountedInline r.kind) script.shape.globals
-globals-served script valid served =
-    subst (All (λ (r : RefShape). IsCountedInline r.kind)) (sym valid.heading.of_globals) (All-map (λ (r : RefShape). IsCountedInline r.kind) (λ (v : VarDecl). record { kind = v.kind; class = v.class }) script.globals served.globals)
-
-op-cells : (classes : List ClassDecl) (globals vars : List VarDecl) (o : Op) → IsOp classes globals vars o → IsServedOp o → CellFits (length globals) o
-op-cells classes globals vars (op.New to class) h s = tt
-op-cells classes globals vars (op.Copy to from) h s = tt
-op-cells classes globals vars (op.Move to from) h s = tt
-op-cells classes globals vars (op.Drop v) h s = tt
-op-cells classes globals vars (op.Unown to of) h s = tt
-op-cells classes globals vars (op.Weak to of) h s = tt
-op-cells classes globals vars (op.Load to of) h s = tt
-op-cells classes globals vars (op.Get to (opcell.Global g)) h s = h.1
-op-cells classes globals vars (op.Get to (opcell.Field owner field)) h s = absurd s
-op-cells classes globals vars (op.Set (opcell.Global g) from) h s = h.1
-op-cells classes globals vars (op.Set (opcell.Field owner field) from) h s = absurd s
-op-cells classes globals vars (op.IfNil v to) h s = tt
-op-cells classes globals vars (op.IfSome v to) h s = tt
-
 pub job-served : (script : Script) (some : 0 < script.shape.slots) → IsScript script → IsServed script → (i : ℕ) (decl : ThreadDecl) → slice_get script.threads i ≡ Some decl → (p : ℕ) (ops : List Op) → slice_get decl.phases p ≡ Some ops →
-    AreServed script.shape (kinds_here (task_of script some i decl)) ops
+    AreServed script.shape (classes_here (task_of script some i decl)) (kinds_here (task_of script some i decl)) ops
 job-served script some valid served i decl there p ops here = record {
   served = all-there (All IsServedOp) decl.phases p ops thread.ops here;
-  kinds_fit = λ x o at. subst (λ (rs : List RefShape). KindsFit rs (kinds_here (task_of script some i decl)) o) (sym valid.heading.of_globals)
-      (op-kinds script.classes script.globals decl.vars (recursion_from_All IsServedVar decl.vars thread.vars) o (is-op x o at));
-  cells_fit = λ x o at. subst (λ (n : ℕ). CellFits n o) (sym globals-many) (op-cells script.classes script.globals decl.vars o (is-op x o at) (all-there IsServedOp ops x o (all-there (All IsServedOp) decl.phases p ops thread.ops here) at));
+  kinds_fit = λ x o at. op-kinds script.shape script.classes script.globals decl.vars (declared-as script valid) (recursion_from_All IsServedVar decl.vars thread.vars) o (is-op x o at);
+  cells_fit = λ x o at. op-cells script.shape script.classes script.globals decl.vars (declared-as script valid) o (is-op x o at);
   globals = globals-served script valid served;
+  without_fields = served.without_fields;
   forth = forth ops (phase-nested decl.phases p ops declared_so.nested here);
 }
   where
     among : {X : Type 0} (P : X → Type 0) (xs : List X) (i : ℕ) (x : X) → AllByRecursion P xs → slice_get xs i ≡ Some x → P x
     among P xs i x all at = all-there P xs i x (All-from_recursion P xs all) at
-
-    globals-many : length script.shape.globals ≡ length script.globals
-    globals-many = globals-are-many script valid
 
     thread : IsServedThread decl
     thread = all-there IsServedThread script.threads i decl served.threads there
@@ -247,7 +220,7 @@ first-stands script = record { layout_is = refl; shape_is = refl; thread_is = re
 
 -- a thread whose phase begins is outside
 pub begun-away : (t : Thread) → takes t None → t.asked ≡ moves.PhaseEnd → (k : Task) (n : ℕ) (now : List Made) → Stands k n t now → accesses (turned t None) ≡ false
-begun-away t takes asked k n now st = go t.doing (idle-here k n t now st (ap step_in asked)) takes
+begun-away t takes asked k n now st = go t.doing (idle-here k n t now st (ap step_in asked)) takes.0
   where
     go : (d : Doing) → IsIdle d → takes_at t.shape None d → accesses (turned_at None d (idle t)) ≡ false
     go Ready i takes = begun-outside t.index (drop t.index (take (phase_end t) t.program)) (idle t) refl

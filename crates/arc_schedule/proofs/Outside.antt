@@ -28,7 +28,7 @@ use Rattle.arc_cells.specs.declared.cascade.CascadeNext.TheVariants as says
 use Rattle.arc_cells.specs.Begins.{Beginning}
 use Rattle.arc_cells.specs.Ends.{AccessEnd}
 use Rattle.arc_cells.specs.Swaps.{SwapAttempt}
-use Rattle.arc_cells.specs.BareCascades.{CascadeState, cascade_turned, cascade_answer}
+use Rattle.arc_cells.specs.Cascades.{CascadeState, cascade_turned, cascade_answer}
 use Rattle.arc_script.specs.declared.script.Op.{Op}
 use Rattle.arc_script.specs.declared.script.Op.TheVariants as op
 use Rattle.arc_script.specs.declared.script.OpCell.TheVariants as opcell
@@ -39,12 +39,13 @@ use Rattle.arc_ops.specs.declared.cell.Cell.{Cell}
 use Rattle.arc_ops.specs.declared.gain.Gain.{Gain}
 use Rattle.arc_ops.specs.declared.gain.Gain.TheVariants as gains
 use Rattle.arc_ops.specs.Thread.{Thread, value, is_held, put, set_var, in_access}
-use Rattle.arc_ops.specs.Cells.{held_in, hand_in, swapped, clear_begun}
+use Rattle.arc_served.specs.Programs.{class_of}
+use Rattle.arc_ops.specs.Cells.{field_of, held_in, hand_in, swapped, clear_begun}
 use Rattle.arc_ops.specs.Gains.{gained, came_by, gained_on, named_on}
 use Rattle.arc_ops.specs.Gets.{opened_on, closed_on}
 use Rattle.arc_ops.specs.Sets.{set_on}
 use Rattle.arc_ops.specs.Takes.{IsGainAnswer}
-use Rattle.arc_ops.specs.Begins.{skipped, moved, begun_nil, begun_gain, begun_move, begun_drop, phase_end, phase_over, block_goes_on, at_place, begun_op, begun_at, has_globals, scope_drop, scope_at, scope_begun, next_op}
+use Rattle.arc_ops.specs.Begins.{skipped, moved, begun_nil, begun_gain, begun_move, begun_drop, begun_get, begun_set, phase_end, phase_over, block_goes_on, at_place, begun_op, begun_at, has_globals, scope_drop, scope_at, scope_begun, next_op}
 use Rattle.arc_ops.specs.Drops.{last_gone, dropped_on, dying_asks, dying_on, vacated_on, replaced_old}
 use Rattle.arc_ops.specs.Makes.{strong_to, made_on}
 use Rattle.arc_schedule.proofs.Tells.{idle, in_hand, in_cell}
@@ -102,9 +103,17 @@ op-outside (op.Drop v) t rest out e = go (value t.vars v)
     go None = e (skipped answers.Nil t) out
 op-outside (op.Weak to of) t rest out e = e (skipped answers.Nil t) out
 op-outside (op.Get to (opcell.Global g)) t rest out e = refl
-op-outside (op.Get to (opcell.Field owner field)) t rest out e = e (skipped answers.Nil t) out
+op-outside (op.Get to (opcell.Field owner field)) t rest out e = go (value t.vars owner)
+  where
+    go : (held : Option Held) → IsOutside (begun_get to (field_of t.shape (class_of t.classes owner) field held) (value t.vars to) t rest)
+    go (Some h) = refl
+    go None = nil-outside to (value t.vars to) t rest (e (skipped answers.Nil t) out)
 op-outside (op.Set (opcell.Global g) from) t rest out e = refl
-op-outside (op.Set (opcell.Field owner field) from) t rest out e = e (skipped answers.Nil t) out
+op-outside (op.Set (opcell.Field owner field) from) t rest out e = go (value t.vars owner)
+  where
+    go : (held : Option Held) → IsOutside (begun_set from (field_of t.shape (class_of t.classes owner) field held) t rest)
+    go (Some h) = refl
+    go None = e (skipped answers.Nil t) out
 op-outside (op.IfNil v past) t rest out e = e (at_place (block_goes_on t.vars t.index (op.IfNil v past)) t) out
 op-outside (op.IfSome v past) t rest out e = e (at_place (block_goes_on t.vars t.index (op.IfSome v past)) t) out
 

@@ -4,7 +4,7 @@ use Rattle.std.proofs.lemmas.List.{length-append, length-map}
 use Rattle.std.specs.Prelude.{slice_get, flat_map, Some}
 use Rattle.arc_script.specs.declared.script.Op.{Op}
 use Rattle.arc_script.specs.OneList.{in_one_list, moved_behind}
-use Rattle.arc_ops.specs.Programs.{ops_in_first}
+use Rattle.arc_served.specs.Programs.{ops_in_first}
 use Rattle.arc_schedule.proofs.Lists.{take-over, drop-over}
 
 -- all operations, phase by phase

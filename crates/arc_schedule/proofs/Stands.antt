@@ -7,8 +7,8 @@ use Rattle.arc_model.specs.declared.event.Origin.{Origin}
 use Rattle.arc_model.specs.declared.event.Origin.TheVariants as origins
 use Rattle.arc_model.specs.declared.event.CellName.{CellName}
 use Rattle.arc_model.specs.declared.event.CellName.TheVariants as cells
-use Rattle.arc_model.specs.declared.shape.RefShape.{RefShape}
 use Rattle.arc_model.specs.declared.shape.Kind.{Kind}
+use Rattle.arc_model.specs.declared.shape.Kind.TheVariants.{Unowned}
 use Rattle.arc_model.specs.Shapes.{HeapShape, class_at}
 use Rattle.arc_model.specs.Spelling.{field_count}
 use Rattle.arc_rule.specs.Extents.{Extent}
@@ -21,20 +21,23 @@ use Rattle.arc_rule.specs.declared.step.Step.{Step}
 use Rattle.arc_rule.specs.declared.step.Step.TheVariants as steps
 use Rattle.arc_plan.specs.declared.slots.Making.{Making as Search}
 use Rattle.arc_plan.specs.declared.slots.Making.TheVariants as search
+use Rattle.arc_plan.specs.declared.slots.Once.TheVariants as onces
 use Rattle.arc_plan.specs.declared.unowned.UnownedDownAnswer.TheVariants as unowneds
-use Rattle.arc_plan.specs.Attempts.{Attempt}
 use Rattle.arc_side.specs.declared.up.UpAnswer.{UpAnswer}
 use Rattle.arc_side.specs.Ups.{Rise}
-use Rattle.arc_side.specs.Downs.{Fall}
+use Rattle.arc_side.specs.Downs.{Fall, inline_fall}
 use Rattle.arc_side.specs.Inline.{IsCountedInline}
 use Rattle.arc_cells.specs.declared.begin.BeginAnswer.TheVariants as begins
 use Rattle.arc_cells.specs.Begins.{Beginning}
 use Rattle.arc_cells.specs.Ends.{AccessEnd}
 use Rattle.arc_cells.specs.Swaps.{SwapAttempt}
 use Rattle.arc_plan.specs.Slots.{Creation, OneStep}
-use Rattle.arc_cells.specs.declared.bare.At.{At as CascadeAt}
-use Rattle.arc_cells.specs.declared.bare.At.TheVariants as at
-use Rattle.arc_cells.specs.BareCascades.{CascadeState}
+use Rattle.arc_side.specs.declared.slot_end.At.TheVariants as slot_end
+use Rattle.arc_side.specs.SlotEnds.{SlotEnding}
+use Rattle.arc_cells.specs.declared.parent.Parent.{Parent}
+use Rattle.arc_cells.specs.declared.cascade.At.{At as CascadeAt}
+use Rattle.arc_cells.specs.declared.cascade.At.TheVariants as at
+use Rattle.arc_cells.specs.Cascades.{CascadeState, HasNoFields}
 use Rattle.arc_script.specs.declared.script.ThreadDecl.{ThreadDecl}
 use Rattle.arc_script.specs.declared.script.Op.{Op}
 use Rattle.arc_script.specs.declared.script.Op.TheVariants as op
@@ -50,8 +53,8 @@ use Rattle.arc_ops.specs.declared.stepper.Move.TheVariants as moves
 use Rattle.arc_ops.specs.declared.gain.Gain.{Gain}
 use Rattle.arc_ops.specs.declared.gain.Gain.TheVariants as gains
 use Rattle.arc_ops.specs.Plans.{op_of, of_hand, list_of}
-use Rattle.arc_ops.specs.Programs.{GoesForth, KindsFit, CellFits, ops_in_first, kinds_in, kind_of}
-use Rattle.arc_ops.specs.Served.{IsServedOp}
+use Rattle.arc_served.specs.Programs.{GoesForth, KindsFit, CellFits, ops_in_first, kinds_in, kind_of, classes_in}
+use Rattle.arc_served.specs.Served.{IsServedOp, IsServedRef}
 use Rattle.arc_ops.specs.Thread.{Thread, value}
 use Rattle.arc_ops.specs.Steppers.{IsHeld, HeldFits, IsOpeningIn, IsSwappingIn}
 use Rattle.arc_spelled.specs.StepperStands.{AreOfKinds}
@@ -123,16 +126,21 @@ pub record Job (k : Task) : Type 0 where
   pub base : List Made
   pub before : PhasesDone k.shape k.thread k.decl phase first base
 
--- the kinds of its variables
+-- the kinds and the classes of its variables
 abbrev pub kinds_here : Task → List Kind
 kinds_here k = kinds_in (Some k.decl)
 
--- the operations of a phase are served, on variables of their kinds and globals that there are, and its blocks go forth within it
-pub record AreServed (shape : HeapShape) (kinds : List Kind) (ops : List Op) : Type 0 where
+abbrev pub classes_here : Task → List ℕ
+classes_here k = classes_in (Some k.decl)
+
+-- the operations of a phase are served, on variables of their kinds and cells that are there, and its blocks go forth within it; no class has
+-- a field
+pub record AreServed (shape : HeapShape) (classes : List ℕ) (kinds : List Kind) (ops : List Op) : Type 0 where
   pub served : All IsServedOp ops
-  pub kinds_fit : (i : ℕ) (o : Op) → slice_get ops i ≡ Some o → KindsFit shape.globals kinds o
-  pub cells_fit : (i : ℕ) (o : Op) → slice_get ops i ≡ Some o → CellFits (length shape.globals) o
-  pub globals : All (λ (r : RefShape). IsCountedInline r.kind) shape.globals
+  pub kinds_fit : (i : ℕ) (o : Op) → slice_get ops i ≡ Some o → KindsFit shape classes kinds o
+  pub cells_fit : (i : ℕ) (o : Op) → slice_get ops i ≡ Some o → CellFits shape classes o
+  pub globals : All IsServedRef shape.globals
+  pub without_fields : HasNoFields shape
   pub forth : (i : ℕ) (o : Op) → slice_get ops i ≡ Some o → GoesForth i (length ops) o
 
 -- how many operations stand before it
@@ -308,24 +316,30 @@ pub record IsEntered (shape : HeapShape) (point : Point) (slot : ℕ) (base now 
   pub stored : ℕ
   pub now_is : now ≡ stores shape point (NextPlace slot) 0 stored ∷ base
 
-pub record IsFinishing (shape : HeapShape) (point : Point) (slot : ℕ) (base now : List Made) (p : Attempt) (asked : Option Step) : Type 0 where
+-- no deinit waits for it, and its object has no entry, so the count lies in the inline word
+pub record IsFinishing (shape : HeapShape) (point : Point) (slot : ℕ) (base now : List Made) (parent : Option Parent) (p : Fall) (asked : Option Step) : Type 0 where
+  pub alone : parent ≡ None
+  pub plan : p ≡ record { layout = extent_of shape; slot = slot; list = Unowned; entry = None; at = p.at }
   pub left : List Made
   pub all : AllDone shape point slot base left
-  pub waits : Waits (finish (extent_of shape) slot) point (loads shape point (NextPlace slot) 0 ∷ left) now p asked
+  pub waits : Waits (finish (extent_of shape) slot) point (loads shape point (NextPlace slot) 0 ∷ left) now (inline_fall p) asked
 
-pub record IsVacating (shape : HeapShape) (point : Point) (slot : ℕ) (base now : List Made) (p : OneStep) (asked : Option Step) : Type 0 where
+pub record IsVacating (shape : HeapShape) (point : Point) (slot : ℕ) (base now : List Made) (parent : Option Parent) (p : SlotEnding) (asked : Option Step) : Type 0 where
+  pub alone : parent ≡ None
+  pub plan : p ≡ record { layout = extent_of shape; slot = slot; entry = None; at = slot_end.Vacating; event = p.event }
   pub left : List Made
   pub all : AllDone shape point slot base left
   pub mid : List Made
   pub finished : Gives (finish (extent_of shape) slot) point (loads shape point (NextPlace slot) 0 ∷ left) unowneds.Last mid
-  pub waits : Waits (vacate (extent_of shape) slot) point mid now p asked
+  pub waits : Waits (vacate (extent_of shape) slot) point mid now (record { layout = extent_of shape; slot = slot; at = onces.Asked }) asked
 
+-- where the deinit of an object without fields may be
 abbrev pub CascadeUpTo : HeapShape → Point → ℕ → (base now : List Made) → Option Step → CascadeAt → Type 0
 CascadeUpTo shape point slot base now asked at.Entering = (now ≡ base) × (asked ≡ Some (steps.Store (number (extent_of shape) (NextPlace slot)) 0))
 CascadeUpTo shape point slot base now asked at.Naming = IsEntered shape point slot base now × (asked ≡ Some (steps.Load (number (extent_of shape) (Isa slot))))
 CascadeUpTo shape point slot base now asked at.Leaving = AllDone shape point slot base now × (asked ≡ Some (steps.Load (number (extent_of shape) (NextPlace slot))))
-CascadeUpTo shape point slot base now asked (at.Finishing p) = IsFinishing shape point slot base now p asked
-CascadeUpTo shape point slot base now asked (at.Vacating p) = IsVacating shape point slot base now p asked
+CascadeUpTo shape point slot base now asked (at.Finishing parent p) = IsFinishing shape point slot base now parent p asked
+CascadeUpTo shape point slot base now asked (at.Ending parent p) = IsVacating shape point slot base now parent p asked
 CascadeUpTo shape point slot base now asked _ = ⊥
 
 pub record IsDying (shape : HeapShape) (point : Point) (Over : List Made → Type 0) (c : CascadeState) (asked : Option Step) (now : List Made) : Type 0 where
@@ -335,6 +349,15 @@ pub record IsDying (shape : HeapShape) (point : Point) (Over : List Made → Typ
   pub ends : (after : List Made) → IsCascade shape point c.slot base after → Over after
   pub place : CascadeUpTo shape point c.slot base now asked c.at
   pub within : c.slot < shape.slots
+
+-- no deinit waits for another, and the count of the object that dies lies in its inline word
+abbrev pub IsLoneAt : CascadeAt → Type 0
+IsLoneAt (at.Finishing parent p) = (parent ≡ None) × (p.entry ≡ None)
+IsLoneAt _ = ⊤
+
+abbrev pub IsLone : Doing → Type 0
+IsLone (Dying c) = IsLoneAt c.at
+IsLone _ = ⊤
 
 -- ---- the stepper
 

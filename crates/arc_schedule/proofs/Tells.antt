@@ -10,6 +10,7 @@ use Rattle.arc_model.specs.declared.event.Act.TheVariants as acts
 use Rattle.arc_model.specs.declared.event.Origin.TheVariants as origins
 use Rattle.arc_model.specs.declared.event.CellName.{CellName}
 use Rattle.arc_model.specs.declared.event.CellName.TheVariants as cells
+use Rattle.arc_rule.specs.Extents.{Extent}
 use Rattle.arc_rule.specs.declared.plan.Next.{Next}
 use Rattle.arc_rule.specs.declared.plan.Next.TheVariants as nexts
 use Rattle.arc_plan.specs.declared.slots.Making.{Making as Search}
@@ -23,11 +24,11 @@ use Rattle.arc_side.specs.Ups.{Rise}
 use Rattle.arc_side.specs.Downs.{Fall}
 use Rattle.arc_plan.specs.declared.unowned.UnownedDownAnswer.{UnownedDownAnswer}
 use Rattle.arc_plan.specs.declared.unowned.UnownedDownAnswer.TheVariants as unowneds
-use Rattle.arc_plan.specs.Attempts.{Attempt}
 use Rattle.arc_plan.specs.Slots.{Creation, OneStep, free_slot, looked, looked_answer, making_turned, making_answer, looking, counting}
 use Rattle.arc_rule.specs.Bits.{words_of, bit_of}
-use Rattle.arc_cells.specs.declared.bare.At.TheVariants as at
-use Rattle.arc_cells.specs.BareCascades.{CascadeState, finish_turned, finish_says, vacated, vacate_says}
+use Rattle.arc_cells.specs.declared.cascade.At.TheVariants as at
+use Rattle.arc_cells.specs.Cascades.{CascadeState, CascadeTurn, finishes}
+use Rattle.arc_side.proofs.Parts.{as_unowned_down}
 use Rattle.arc_script.specs.declared.script.Op.{Op}
 use Rattle.arc_script.specs.declared.script.Op.TheVariants as op
 use Rattle.arc_script.specs.declared.script.OpCell.TheVariants as opcell
@@ -46,12 +47,13 @@ use Rattle.arc_ops.specs.declared.gain.Gain.TheVariants as gains
 use Rattle.arc_ops.specs.Thread.{Thread, value, is_held, put, set_var}
 use Rattle.arc_ops.specs.declared.cell.Cell.{Cell}
 use Rattle.arc_ops.specs.declared.gain.Source.{Source}
-use Rattle.arc_ops.specs.Cells.{held_in, hand_in, swapped, clear_begun, next_global}
+use Rattle.arc_served.specs.Programs.{class_of}
+use Rattle.arc_ops.specs.Cells.{field_of, held_in, hand_in, swapped, clear_begun, next_global}
 use Rattle.arc_ops.specs.Gets.{opened_on, closed_on}
 use Rattle.arc_ops.specs.Sets.{set_on, cleared_on}
 use Rattle.arc_ops.specs.Gains.{gained, came_by, gained_on, named_on}
 use Rattle.arc_ops.specs.Takes.{IsGainAnswer}
-use Rattle.arc_ops.specs.Begins.{skipped, moved, begun_nil, begun_gain, begun_move, begun_drop, phase_end, phase_over, block_goes_on, at_place, begun_op, begun_at, has_globals, scope_drop, scope_at, scope_begun, next_op}
+use Rattle.arc_ops.specs.Begins.{skipped, moved, begun_nil, begun_gain, begun_move, begun_drop, begun_get, begun_set, phase_end, phase_over, block_goes_on, at_place, begun_op, begun_at, has_globals, scope_drop, scope_at, scope_begun, next_op}
 use Rattle.arc_ops.specs.Drops.{last_gone, dropped_on, dying_on, vacated_on, replaced_old, replaced}
 use Rattle.arc_ops.specs.Makes.{strong_to, made_on}
 use Rattle.arc_schedule.specs.Plans.{told_by, making_told, up_told, down_told, finish_told, vacate_told, begin_told, swap_told, hand_for}
@@ -111,9 +113,17 @@ op-event (op.Drop v) t rest e = go (value t.vars v)
     go None = e (skipped answers.Nil t)
 op-event (op.Weak to of) t rest e = e (skipped answers.Nil t)
 op-event (op.Get to (opcell.Global g)) t rest e = refl
-op-event (op.Get to (opcell.Field owner field)) t rest e = e (skipped answers.Nil t)
+op-event (op.Get to (opcell.Field owner field)) t rest e = go (value t.vars owner)
+  where
+    go : (held : Option Held) → (begun_get to (field_of t.shape (class_of t.classes owner) field held) (value t.vars to) t rest).event ≡ t.event
+    go (Some h) = refl
+    go None = nil-event to (value t.vars to) t rest (e (skipped answers.Nil t))
 op-event (op.Set (opcell.Global g) from) t rest e = refl
-op-event (op.Set (opcell.Field owner field) from) t rest e = e (skipped answers.Nil t)
+op-event (op.Set (opcell.Field owner field) from) t rest e = go (value t.vars owner)
+  where
+    go : (held : Option Held) → (begun_set from (field_of t.shape (class_of t.classes owner) field held) t rest).event ≡ t.event
+    go (Some h) = refl
+    go None = e (skipped answers.Nil t)
 op-event (op.IfNil v past) t rest e = e (at_place (block_goes_on t.vars t.index (op.IfNil v past)) t)
 op-event (op.IfSome v past) t rest e = e (at_place (block_goes_on t.vars t.index (op.IfSome v past)) t)
 
@@ -126,7 +136,7 @@ begun-event at (o ∷ rest) t = go (λ u. begun-event (at + 1) rest u) (ltb at t
     go e true = e t
     go e false = op-event o t (λ (behind : Thread). begun_at (at + 1) rest behind) e
 
-next-event : (t : Thread) → (next_op t).event ≡ t.event
+pub next-event : (t : Thread) → (next_op t).event ≡ t.event
 next-event t =
     begun-event (cond (ltb t.index (length t.program)) (t.index + 1) t.index) (drop (cond (ltb t.index (length t.program)) (t.index + 1) t.index) (take (phase_end t) t.program)) (record t { doing = Ended; index = cond (ltb t.index (length t.program)) (t.index + 1) t.index })
 
@@ -258,16 +268,14 @@ pub ends-tells : (t : Thread) (slot : ℕ) (next : OneStep) (n : Next (Unit {0})
 ends-tells t slot next (nexts.Step s) = refl
 ends-tells t slot next (nexts.Done a) = next-event (record (idle t) { event = Some (acts.Vacate slot) })
 
-pub finish-tells : (t : Thread) (c : CascadeState) (next : Attempt) (n : Next UnownedDownAnswer) →
-    (dying_on (finish_turned (record c { at = at.Ended; event = None }) next n) (finish_says c n) (record (idle t) { event = (finish_turned (record c { at = at.Ended; event = None }) next n).event })).event ≡
-    told_by (finish_told c.slot) n
-finish-tells t c next (nexts.Step s) = refl
-finish-tells t c next (nexts.Done unowneds.More) = next-event (record (idle t) { event = Some (acts.Finish c.slot false) })
-finish-tells t c next (nexts.Done unowneds.Last) = refl
-finish-tells t c next (nexts.Done (unowneds.Slow e)) = next-event (record (idle t) { event = None })
-finish-tells t c next (nexts.Done (unowneds.Again x)) = refl
+-- what the stepper is behind a turn of the cascade that takes nothing out of a field
+abbrev pub dies_by : CascadeTurn → Thread → Thread
+dies_by turn t = dying_on turn.after turn.says (record t { event = turn.after.event })
 
-pub vacates-tells : (t : Thread) (c : CascadeState) (next : OneStep) (n : Next (Unit {0})) →
-    (dying_on (vacated (record c { at = at.Ended; event = None }) next n) (vacate_says n) (record (idle t) { event = (vacated (record c { at = at.Ended; event = None }) next n).event })).event ≡ told_by (vacate_told c.slot) n
-vacates-tells t c next (nexts.Step s) = refl
-vacates-tells t c next (nexts.Done a) = next-event (record (idle t) { event = Some (acts.Vacate c.slot) })
+pub finish-tells : (t : Thread) (c : CascadeState) (l : Extent) (next : Fall) (n : Next UnownedDownAnswer) →
+    (dies_by (finishes (record c { at = at.Ended; event = None }) None next (as_unowned_down l n)) (idle t)).event ≡ told_by (finish_told c.slot) n
+finish-tells t c l next (nexts.Step s) = refl
+finish-tells t c l next (nexts.Done unowneds.More) = next-event (record (idle t) { event = Some (acts.Finish c.slot false) })
+finish-tells t c l next (nexts.Done unowneds.Last) = refl
+finish-tells t c l next (nexts.Done (unowneds.Slow e)) = refl
+finish-tells t c l next (nexts.Done (unowneds.Again x)) = refl

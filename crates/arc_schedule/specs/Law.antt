@@ -3,7 +3,7 @@ use Rattle.std.specs.Prelude.{ℕ, ◌≡◌, ◌+◌, List, [], ◌∷◌, leng
 use Rattle.arc_script.specs.declared.script.Script.{Script}
 use Rattle.arc_script.specs.Valid.{IsScript}
 use Rattle.arc_ops.specs.declared.told.Stamped.{Stamped}
-use Rattle.arc_ops.specs.Served.{IsServed}
+use Rattle.arc_served.specs.Served.{IsServed}
 use Rattle.arc_replays.specs.Stages.{Stage, IsRun, stamped}
 use Rattle.arc_schedule.specs.Made.{Made}
 use Rattle.arc_schedule.specs.Orders.{IsScheduleRun}

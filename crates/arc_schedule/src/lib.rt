@@ -1,4 +1,11 @@
-//! The steps of a script as a list that a reader can check, and that a replay makes these.
+//! The steps of a script as a list that a reader can check, and that a replay makes these. No function does anything: the contracts are laws.
+//!
+//! The list is made by the schedule: its places in order, and behind them each phase to its end. What a step does is told by the plan that
+//! asks for it and what that answers, without a stepper and without notes; each step has its thread, its place, the word that it finds and the
+//! event that it tells. Worked lists of small scripts stand beside the definition.
+//!
+//! It promises that a replay makes exactly these steps. It doesn't say that a script has one list alone, and nothing of runs on real threads, in
+//! which the order isn't given.
 #![tactic(auto)]
 
 ghost use Rattle.arc_schedule.specs.Law.{ReplaysAreScheduleRuns};

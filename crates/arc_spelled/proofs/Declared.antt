@@ -1,25 +1,28 @@
 -- What a thread of a script works on that is served: operations that are served, over variables of their kinds.
-use Rattle.std.proofs.Common.{◌≡◌, ℕ, zero, suc, ◌-◌, ◌+◌, Bool, true, false, cond, eqb, List, [], ◌∷◌, Option, Some, None, refl, sym, ap, ◌∙◌}
-use Rattle.std.proofs.lemmas.List.Elements.{All-from_recursion, recursion_from_All, All-nil, All-map}
+use Rattle.std.proofs.Common.{◌≡◌, ℕ, zero, suc, ◌-◌, ◌+◌, ◌<◌, Bool, true, false, cond, eqb, List, [], ◌∷◌, length, get_or, Option, Some, None, refl, sym, ap, subst, ◌∙◌}
+use Rattle.std.proofs.lemmas.List.{length-map}
+use Rattle.std.proofs.lemmas.List.Elements.{All-from_recursion, recursion_from_All, All-nil, All-same, All-map}
 use Rattle.std.specs.Prelude.{slice_get, All, map}
 use Rattle.std.specs.List.{AllByRecursion}
 use Rattle.arc_script.specs.declared.script.Op.{Op}
+use Rattle.arc_model.specs.Shapes.{ObjectClass, HeapShape, class_at}
 use Rattle.arc_model.specs.declared.shape.RefShape.{RefShape}
 use Rattle.arc_model.specs.declared.shape.Kind.{Kind}
 use Rattle.arc_model.specs.declared.shape.Kind.TheVariants.{Strong, Unowned, Weak}
 use Rattle.arc_side.specs.Inline.{IsCountedInline}
 use Rattle.arc_script.specs.declared.script.ClassDecl.{ClassDecl}
+use Rattle.arc_script.specs.declared.script.FieldDecl.{FieldDecl}
 use Rattle.arc_script.specs.declared.script.VarDecl.{VarDecl}
 use Rattle.arc_script.specs.declared.script.ThreadDecl.{ThreadDecl}
 use Rattle.arc_script.specs.declared.script.Script.{Script}
 use Rattle.arc_script.specs.declared.script.Op.TheVariants as op
 use Rattle.arc_script.specs.declared.script.OpCell.{OpCell}
 use Rattle.arc_script.specs.declared.script.OpCell.TheVariants as opcell
-use Rattle.arc_script.specs.Valid.{IsScript, IsThread, IsOp, ArePair, kind_at, ref_at, var_refs, cell_ref}
+use Rattle.arc_script.specs.Valid.{IsScript, IsThread, IsOp, IsCell, ArePair, kind_at, ref_at, field_refs, var_refs, class_refs, fields_at, owner_fields, cell_ref}
 use Rattle.arc_script.specs.OneList.{in_one_list, moved_behind}
 use Rattle.arc_script.proofs.OneList.{all_in_one}
-use Rattle.arc_ops.specs.Programs.{declared_of, phases_in, program_of, vars_of, kinds_in, kinds_of, kind_of, classes_in, classes_of, class_of, KindOfCell, KindsFit, ClassOfCell, ClassesFit}
-use Rattle.arc_ops.specs.Served.{IsServed, IsServedThread, IsServedVar, IsServedOp}
+use Rattle.arc_served.specs.Programs.{declared_of, phases_in, program_of, vars_of, kinds_in, kinds_of, kind_of, classes_in, classes_of, class_of, ref_of, HasCell, CellFits, OwnsStrongly, KindOfCell, KindsFit, ClassesFit}
+use Rattle.arc_served.specs.Served.{IsServed, IsServedThread, IsServedVar, IsServedOp, IsServedRef, IsServedClass}
 use Rattle.std.proofs.ByRecursion.{All-weaker}
 
 -- ---- the declaration of a thread
@@ -100,75 +103,151 @@ other-kind (d ∷ vars) zero served differ = go d.kind served.0 differ
     go Weak counted differ = absurd counted
 other-kind (d ∷ vars) (suc v) served differ = other-kind vars v served.1 differ
 
--- a variable is declared as the cell that an operation names is
-kind-of-cell : (classes : List ClassDecl) (globals vars : List VarDecl) (v : ℕ) (c : OpCell) → ref_at (var_refs vars) v ≡ cell_ref classes globals vars c → KindOfCell (var_refs globals) (map (λ (d : VarDecl). d.kind) vars) v c
-kind-of-cell classes globals vars v (opcell.Global g) e = kind-declared vars v ∙ ap (λ (r : RefShape). r.kind) e
-kind-of-cell classes globals vars v (opcell.Field owner field) e = tt
-
-class-of-cell : (classes : List ClassDecl) (globals vars : List VarDecl) (v : ℕ) (c : OpCell) → ref_at (var_refs vars) v ≡ cell_ref classes globals vars c → ClassOfCell (var_refs globals) (map (λ (d : VarDecl). d.class) vars) v c
-class-of-cell classes globals vars v (opcell.Global g) e = class-declared vars v ∙ ap (λ (r : RefShape). r.class) e
-class-of-cell classes globals vars v (opcell.Field owner field) e = tt
-
-pub op-kinds : (classes : List ClassDecl) (globals vars : List VarDecl) → AllByRecursion IsServedVar vars → (o : Op) → IsOp classes globals vars o → KindsFit (var_refs globals) (map (λ (d : VarDecl). d.kind) vars) o
-op-kinds classes globals vars served (op.New to class) h = kind-declared vars to ∙ ap (λ (r : RefShape). r.kind) h.2
-op-kinds classes globals vars served (op.Copy to from) h = let k = pair-kinds vars to from (kind_at vars from) (kind_at vars from) h.0 in k.0 ∙ sym k.1
-op-kinds classes globals vars served (op.Move to from) h = let k = pair-kinds vars to from (kind_at vars from) (kind_at vars from) h.0 in k.0 ∙ sym k.1
-op-kinds classes globals vars served (op.Drop v) h = tt
-op-kinds classes globals vars served (op.Unown to of) h = pair-kinds vars to of Unowned Strong h
-op-kinds classes globals vars served (op.Weak to of) h = tt
-op-kinds classes globals vars served (op.Load to of) h = let k = pair-kinds vars to of Strong (kind_at vars of) h.0 in (k.0, k.1 ∙ other-kind vars of served h.1)
-op-kinds classes globals vars served (op.Get to cell) h = kind-of-cell classes globals vars to cell h.2
-op-kinds classes globals vars served (op.Set cell from) h = kind-of-cell classes globals vars from cell h.2
-op-kinds classes globals vars served (op.IfNil var to) h = tt
-op-kinds classes globals vars served (op.IfSome var to) h = tt
-
-op-classes : (classes : List ClassDecl) (globals vars : List VarDecl) (o : Op) → IsOp classes globals vars o → ClassesFit (var_refs globals) (map (λ (d : VarDecl). d.class) vars) o
-op-classes classes globals vars (op.New to class) h = class-declared vars to ∙ ap (λ (r : RefShape). r.class) h.2
-op-classes classes globals vars (op.Copy to from) h = pair-classes vars to from (kind_at vars from) (kind_at vars from) h.0
-op-classes classes globals vars (op.Move to from) h = pair-classes vars to from (kind_at vars from) (kind_at vars from) h.0
-op-classes classes globals vars (op.Drop v) h = tt
-op-classes classes globals vars (op.Unown to of) h = pair-classes vars to of Unowned Strong h
-op-classes classes globals vars (op.Weak to of) h = tt
-op-classes classes globals vars (op.Load to of) h = pair-classes vars to of Strong (kind_at vars of) h.0
-op-classes classes globals vars (op.Get to cell) h = class-of-cell classes globals vars to cell h.2
-op-classes classes globals vars (op.Set cell from) h = class-of-cell classes globals vars from cell h.2
-op-classes classes globals vars (op.IfNil var to) h = tt
-op-classes classes globals vars (op.IfSome var to) h = tt
+-- the heap has the classes and globals that are declared
+pub record IsDeclared (shape : HeapShape) (classes : List ClassDecl) (globals : List VarDecl) : Type 0 where
+  pub classes_are : shape.classes ≡ class_refs classes
+  pub globals_are : shape.globals ≡ var_refs globals
 
 -- the kinds and the classes of the variables that are declared
-abbrev kinds-in : ThreadDecl → List Kind
-kinds-in d = map (λ (v : VarDecl). v.kind) d.vars
+abbrev kinds-in : List VarDecl → List Kind
+kinds-in vars = map (λ (d : VarDecl). d.kind) vars
 
-abbrev classes-in : ThreadDecl → List ℕ
-classes-in d = map (λ (v : VarDecl). v.class) d.vars
+abbrev classes-in : List VarDecl → List ℕ
+classes-in vars = map (λ (d : VarDecl). d.class) vars
 
-pub program-kinds : (s : Script) (p : ℕ) → IsScript s → IsServed s → All (KindsFit s.shape.globals (kinds_of s p)) (program_of s p)
-program-kinds s p valid served = rw valid.heading.of_globals
-    (All-from_recursion (KindsFit (var_refs s.globals) (kinds_of s p)) (program_of s p)
-    (of-declared (IsThread s.classes s.globals) IsServedThread (λ o. AllByRecursion (KindsFit (var_refs s.globals) (kinds_in o)) (in_one_list 0 (phases_in o))) tt of-thread s p valid.threads (recursion_from_All IsServedThread s.threads served.threads)))
+-- what a field, a variable or a global refers to
+abbrev field-ref : FieldDecl → RefShape
+field-ref f = record { kind = f.kind; class = f.class }
+
+abbrev var-ref : VarDecl → RefShape
+var-ref v = record { kind = v.kind; class = v.class }
+
+class-fields : (classes : List ClassDecl) (i : ℕ) → (get_or (class_refs classes) i (record { fields = []; immortal = false })).fields ≡ field_refs (fields_at classes i)
+class-fields [] i = refl
+class-fields (c ∷ classes) zero = refl
+class-fields (c ∷ classes) (suc i) = class-fields classes i
+
+-- the fields that an owner has
+fields-declared : (shape : HeapShape) (classes : List ClassDecl) (globals vars : List VarDecl) → IsDeclared shape classes globals → (owner : ℕ) →
+    (class_at shape (class_of (classes-in vars) owner)).fields ≡ field_refs (owner_fields classes vars owner)
+fields-declared shape classes globals vars d owner =
+    ap (λ (cs : List ObjectClass). (get_or cs (class_of (classes-in vars) owner) (record { fields = []; immortal = false })).fields) d.classes_are
+    ∙ class-fields classes (class_of (classes-in vars) owner)
+    ∙ ap (λ (n : ℕ). field_refs (fields_at classes n)) (class-declared vars owner)
+
+-- a cell is what it is declared as
+ref-declared : (shape : HeapShape) (classes : List ClassDecl) (globals vars : List VarDecl) → IsDeclared shape classes globals → (c : OpCell) → ref_of shape (classes-in vars) c ≡ cell_ref classes globals vars c
+ref-declared shape classes globals vars d (opcell.Global g) = ap (λ (refs : List RefShape). ref_at refs g) d.globals_are
+ref-declared shape classes globals vars d (opcell.Field owner field) = ap (λ (refs : List RefShape). ref_at refs field) (fields-declared shape classes globals vars d owner)
+
+cell-there : (shape : HeapShape) (classes : List ClassDecl) (globals vars : List VarDecl) → IsDeclared shape classes globals → (c : OpCell) → IsCell classes globals vars c → HasCell shape (classes-in vars) c
+cell-there shape classes globals vars d (opcell.Global g) h = subst (λ (n : ℕ). g < n) (sym (ap (λ (refs : List RefShape). length refs) d.globals_are ∙ length-map globals var-ref)) h
+cell-there shape classes globals vars d (opcell.Field owner field) h =
+    subst (λ (n : ℕ). field < n) (sym (ap (λ (refs : List RefShape). length refs) (fields-declared shape classes globals vars d owner) ∙ length-map (owner_fields classes vars owner) field-ref)) h.2
+
+owner-strong : (classes : List ClassDecl) (globals vars : List VarDecl) (c : OpCell) → IsCell classes globals vars c → OwnsStrongly (kinds-in vars) c
+owner-strong classes globals vars (opcell.Global g) h = tt
+owner-strong classes globals vars (opcell.Field owner field) h = kind-declared vars owner ∙ h.1
+
+-- a variable is declared as the cell that an operation names is
+kind-of-cell : (shape : HeapShape) (classes : List ClassDecl) (globals vars : List VarDecl) → IsDeclared shape classes globals → (v : ℕ) (c : OpCell) → IsCell classes globals vars c → ref_at (var_refs vars) v ≡ cell_ref classes globals vars c →
+    KindOfCell shape (classes-in vars) (kinds-in vars) v c
+kind-of-cell shape classes globals vars d v c there e =
+    (kind-declared vars v ∙ ap (λ (r : RefShape). r.kind) (e ∙ sym (ref-declared shape classes globals vars d c)), owner-strong classes globals vars c there)
+
+class-of-cell : (shape : HeapShape) (classes : List ClassDecl) (globals vars : List VarDecl) → IsDeclared shape classes globals → (v : ℕ) (c : OpCell) → ref_at (var_refs vars) v ≡ cell_ref classes globals vars c →
+    class_of (classes-in vars) v ≡ (ref_of shape (classes-in vars) c).class
+class-of-cell shape classes globals vars d v c e = class-declared vars v ∙ ap (λ (r : RefShape). r.class) (e ∙ sym (ref-declared shape classes globals vars d c))
+
+pub op-kinds : (shape : HeapShape) (classes : List ClassDecl) (globals vars : List VarDecl) → IsDeclared shape classes globals → AllByRecursion IsServedVar vars → (o : Op) → IsOp classes globals vars o →
+    KindsFit shape (classes-in vars) (kinds-in vars) o
+op-kinds shape classes globals vars d served (op.New to class) h = kind-declared vars to ∙ ap (λ (r : RefShape). r.kind) h.2
+op-kinds shape classes globals vars d served (op.Copy to from) h = let k = pair-kinds vars to from (kind_at vars from) (kind_at vars from) h.0 in k.0 ∙ sym k.1
+op-kinds shape classes globals vars d served (op.Move to from) h = let k = pair-kinds vars to from (kind_at vars from) (kind_at vars from) h.0 in k.0 ∙ sym k.1
+op-kinds shape classes globals vars d served (op.Drop v) h = tt
+op-kinds shape classes globals vars d served (op.Unown to of) h = pair-kinds vars to of Unowned Strong h
+op-kinds shape classes globals vars d served (op.Weak to of) h = tt
+op-kinds shape classes globals vars d served (op.Load to of) h = let k = pair-kinds vars to of Strong (kind_at vars of) h.0 in (k.0, k.1 ∙ other-kind vars of served h.1)
+op-kinds shape classes globals vars d served (op.Get to cell) h = kind-of-cell shape classes globals vars d to cell h.1 h.2
+op-kinds shape classes globals vars d served (op.Set cell from) h = kind-of-cell shape classes globals vars d from cell h.1 h.2
+op-kinds shape classes globals vars d served (op.IfNil var to) h = tt
+op-kinds shape classes globals vars d served (op.IfSome var to) h = tt
+
+op-classes : (shape : HeapShape) (classes : List ClassDecl) (globals vars : List VarDecl) → IsDeclared shape classes globals → (o : Op) → IsOp classes globals vars o → ClassesFit shape (classes-in vars) o
+op-classes shape classes globals vars d (op.New to class) h = class-declared vars to ∙ ap (λ (r : RefShape). r.class) h.2
+op-classes shape classes globals vars d (op.Copy to from) h = pair-classes vars to from (kind_at vars from) (kind_at vars from) h.0
+op-classes shape classes globals vars d (op.Move to from) h = pair-classes vars to from (kind_at vars from) (kind_at vars from) h.0
+op-classes shape classes globals vars d (op.Drop v) h = tt
+op-classes shape classes globals vars d (op.Unown to of) h = pair-classes vars to of Unowned Strong h
+op-classes shape classes globals vars d (op.Weak to of) h = tt
+op-classes shape classes globals vars d (op.Load to of) h = pair-classes vars to of Strong (kind_at vars of) h.0
+op-classes shape classes globals vars d (op.Get to cell) h = class-of-cell shape classes globals vars d to cell h.2
+op-classes shape classes globals vars d (op.Set cell from) h = class-of-cell shape classes globals vars d from cell h.2
+op-classes shape classes globals vars d (op.IfNil var to) h = tt
+op-classes shape classes globals vars d (op.IfSome var to) h = tt
+
+-- the cells that they name are there
+pub op-cells : (shape : HeapShape) (classes : List ClassDecl) (globals vars : List VarDecl) → IsDeclared shape classes globals → (o : Op) → IsOp classes globals vars o → CellFits shape (classes-in vars) o
+op-cells shape classes globals vars d (op.New to class) h = tt
+op-cells shape classes globals vars d (op.Copy to from) h = tt
+op-cells shape classes globals vars d (op.Move to from) h = tt
+op-cells shape classes globals vars d (op.Drop v) h = tt
+op-cells shape classes globals vars d (op.Unown to of) h = tt
+op-cells shape classes globals vars d (op.Weak to of) h = tt
+op-cells shape classes globals vars d (op.Load to of) h = tt
+op-cells shape classes globals vars d (op.Get to cell) h = cell-there shape classes globals vars d cell h.1
+op-cells shape classes globals vars d (op.Set cell from) h = cell-there shape classes globals vars d cell h.1
+op-cells shape classes globals vars d (op.IfNil var to) h = tt
+op-cells shape classes globals vars d (op.IfSome var to) h = tt
+
+-- ---- and so do all of a thread
+
+-- said of each operation of a thread, for the kinds and the classes of its variables
+abbrev OfThread : (List Kind → List ℕ → Op → Type 0) → Option ThreadDecl → Type 0
+OfThread P o = AllByRecursion (P (kinds_in o) (classes_in o)) (in_one_list 0 (phases_in o))
+
+-- what follows of each operation of a script that is served, wherever its block ends, holds of the program
+of-each : (s : Script) (p : ℕ) → IsScript s → IsServed s → (P : List Kind → List ℕ → Op → Type 0) →
+    ((kinds : List Kind) (classes : List ℕ) (v to end : ℕ) → P kinds classes (op.IfNil v to) → P kinds classes (op.IfNil v end)) →
+    ((kinds : List Kind) (classes : List ℕ) (v to end : ℕ) → P kinds classes (op.IfSome v to) → P kinds classes (op.IfSome v end)) →
+    ((vars : List VarDecl) → AllByRecursion IsServedVar vars → (o : Op) → IsOp s.classes s.globals vars o → P (kinds-in vars) (classes-in vars) o) → All (P (kinds_of s p) (classes_of s p)) (program_of s p)
+of-each s p valid served P nil some each =
+    All-from_recursion (P (kinds_of s p) (classes_of s p)) (program_of s p)
+    (of-declared (IsThread s.classes s.globals) IsServedThread (OfThread P) tt of-thread s p valid.threads (recursion_from_All IsServedThread s.threads served.threads))
   where
-    of-thread : (d : ThreadDecl) → IsThread s.classes s.globals d → IsServedThread d → AllByRecursion (KindsFit (var_refs s.globals) (kinds-in d)) (in_one_list 0 d.phases)
-    of-thread d h served = all_in_one (KindsFit (var_refs s.globals) (kinds-in d)) (moved-stays (KindsFit (var_refs s.globals) (kinds-in d)) (λ v to end x. tt) (λ v to end x. tt)) 0 d.phases
-        (All-weaker (AllByRecursion (IsOp s.classes s.globals d.vars)) (AllByRecursion (KindsFit (var_refs s.globals) (kinds-in d)))
-        (All-weaker (IsOp s.classes s.globals d.vars) (KindsFit (var_refs s.globals) (kinds-in d)) (op-kinds s.classes s.globals d.vars (recursion_from_All IsServedVar d.vars served.vars))) d.phases h.ops)
+    of-thread : (d : ThreadDecl) → IsThread s.classes s.globals d → IsServedThread d → OfThread P (Some d)
+    of-thread d h served =
+        let Q : Op → Type 0 = P (kinds-in d.vars) (classes-in d.vars) in
+        all_in_one Q (moved-stays Q (nil (kinds-in d.vars) (classes-in d.vars)) (some (kinds-in d.vars) (classes-in d.vars))) 0 d.phases
+        (All-weaker (AllByRecursion (IsOp s.classes s.globals d.vars)) (AllByRecursion Q)
+        (All-weaker (IsOp s.classes s.globals d.vars) Q (each d.vars (recursion_from_All IsServedVar d.vars served.vars))) d.phases h.ops)
 
-pub program-classes : (s : Script) (p : ℕ) → IsScript s → All (ClassesFit s.shape.globals (classes_of s p)) (program_of s p)
-program-classes s p valid = rw valid.heading.of_globals
-    (All-from_recursion (ClassesFit (var_refs s.globals) (classes_of s p)) (program_of s p)
-    (of-declared (IsThread s.classes s.globals) (IsThread s.classes s.globals) (λ o. AllByRecursion (ClassesFit (var_refs s.globals) (classes_in o)) (in_one_list 0 (phases_in o))) tt of-thread s p valid.threads valid.threads))
+pub declared : (s : Script) → IsScript s → IsDeclared s.shape s.classes s.globals
+declared s valid = record { classes_are = valid.heading.of_classes; globals_are = valid.heading.of_globals }
+
+pub program-kinds : (s : Script) (p : ℕ) → IsScript s → IsServed s → All (KindsFit s.shape (classes_of s p) (kinds_of s p)) (program_of s p)
+program-kinds s p valid served =
+    of-each s p valid served (λ kinds classes. KindsFit s.shape classes kinds) (λ kinds classes v to end x. tt) (λ kinds classes v to end x. tt) (λ vars all o h. op-kinds s.shape s.classes s.globals vars (declared s valid) all o h)
+
+pub program-classes : (s : Script) (p : ℕ) → IsScript s → IsServed s → All (ClassesFit s.shape (classes_of s p)) (program_of s p)
+program-classes s p valid served =
+    of-each s p valid served (λ kinds classes. ClassesFit s.shape classes) (λ kinds classes v to end x. tt) (λ kinds classes v to end x. tt) (λ vars all o h. op-classes s.shape s.classes s.globals vars (declared s valid) o h)
+
+pub program-cells : (s : Script) (p : ℕ) → IsScript s → IsServed s → All (CellFits s.shape (classes_of s p)) (program_of s p)
+program-cells s p valid served =
+    of-each s p valid served (λ kinds classes. CellFits s.shape classes) (λ kinds classes v to end x. tt) (λ kinds classes v to end x. tt) (λ vars all o h. op-cells s.shape s.classes s.globals vars (declared s valid) o h)
+
+-- ---- globals and classes
+
+pub globals-served : (s : Script) → IsScript s → IsServed s → All IsServedRef s.shape.globals
+globals-served s valid served = All-same IsServedRef s.shape.globals (var_refs s.globals) valid.heading.of_globals (All-map IsServedRef var-ref s.globals served.globals)
+
+pub classes-served : (s : Script) → IsServed s → All IsServedClass s.shape.classes
+classes-served s served =
+    All-from_recursion IsServedClass s.shape.classes (All-weaker (λ (c : ObjectClass). c.fields ≡ []) IsServedClass bare s.shape.classes (recursion_from_All (λ (c : ObjectClass). c.fields ≡ []) s.shape.classes served.without_fields))
   where
-    of-thread : (d : ThreadDecl) → IsThread s.classes s.globals d → IsThread s.classes s.globals d → AllByRecursion (ClassesFit (var_refs s.globals) (classes-in d)) (in_one_list 0 d.phases)
-    of-thread d h again = all_in_one (ClassesFit (var_refs s.globals) (classes-in d)) (moved-stays (ClassesFit (var_refs s.globals) (classes-in d)) (λ v to end x. tt) (λ v to end x. tt)) 0 d.phases
-        (All-weaker (AllByRecursion (IsOp s.classes s.globals d.vars)) (AllByRecursion (ClassesFit (var_refs s.globals) (classes-in d)))
-        (All-weaker (IsOp s.classes s.globals d.vars) (ClassesFit (var_refs s.globals) (classes-in d)) (op-classes s.classes s.globals d.vars)) d.phases h.ops)
-
--- ---- globals
-
-pub globals-served : (s : Script) → IsScript s → IsServed s → All (λ (r : RefShape). IsCountedInline r.kind) s.shape.globals
-globals-served s valid served = rw valid.heading.of_globals (All-map (λ (r : RefShape). IsCountedInline r.kind) ref_of s.globals served.globals)
-  where
-    ref_of : VarDecl → RefShape
-    ref_of v = record { kind = v.kind; class = v.class }
+    bare : (c : ObjectClass) → c.fields ≡ [] → IsServedClass c
+    bare c e = All-same IsServedRef c.fields [] e (All-nil IsServedRef)
 
 -- thread 0 has neither operations nor variables
 pub clears-alone : (s : Script) (p : ℕ) → p ≡ 0 → (program_of s p ≡ []) × (vars_of s p ≡ 0)

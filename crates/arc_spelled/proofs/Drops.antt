@@ -1,5 +1,5 @@
 -- A stepper that drops a reference keeps what it stands for, and one that gives up a slot.
-use Rattle.std.proofs.Common.{◌≡◌, ℕ, Bool, true, false, cond, eqb, List, ◌∷◌, Option, Some, None, refl, sym, ap, ◌∙◌}
+use Rattle.std.proofs.Common.{◌≡◌, ℕ, Bool, true, false, cond, eqb, List, ◌∷◌, Option, Some, None, refl, sym, ap, ◌∙◌, arith}
 use Rattle.std.proofs.lemmas.Bool.{eqb-true}
 use Rattle.std.specs.Option.{unwrap_or}
 use Rattle.arc_bits.specs.declared.packing.Word.{Word}
@@ -39,22 +39,22 @@ use Rattle.arc_plan.specs.Strong.{strong_down_row, strong_down_end}
 use Rattle.arc_plan.specs.Unowned.{unowned_down_row, unowned_down_end}
 use Rattle.arc_plan.specs.Slots.{OneStep, once_takes, once_turned, once_answer, vacating}
 use Rattle.arc_rule.specs.declared.step.Intent.TheVariants as intents
-use Rattle.arc_cells.specs.BareCascades.{IsInline}
 use Rattle.arc_ops.specs.declared.stepper.Held.{Held}
 use Rattle.arc_ops.specs.declared.stepper.Doing.TheVariants.{Ended}
 use Rattle.arc_ops.specs.Thread.{Thread}
 use Rattle.arc_ops.specs.Plans.{drop_begun}
 use Rattle.arc_ops.specs.Begins.{next_op}
 use Rattle.arc_ops.specs.Drops.{dropped_on, last_gone, vacated_on}
-use Rattle.arc_ops.specs.Takes.{IsInlineAt, takes}
-use Rattle.arc_spelled.specs.Shown.ReadsName.{nothing as read_nothing}
+use Rattle.arc_ops.specs.Takes.{IsInline, IsInlineAt, takes}
+use Rattle.arc_spelled.specs.Shown.Reads.{nothing as read_nothing}
 use Rattle.arc_spelled.specs.Shown.TakesLast.{drop as drop_takes}
 use Rattle.arc_spelled.specs.Shown.FindsReference.{nothing as refers_nothing}
-use Rattle.arc_spelled.specs.Shown.FindsNoEntry.{no_entry}
+use Rattle.arc_spelled.specs.Shown.FindsEntry.{entry as found_entry}
 use Rattle.arc_spelled.specs.Shown.Says.{nothing}
-use Rattle.arc_spelled.specs.CascadeStands.{AwaitsExchange}
+use Rattle.arc_spelled.specs.Releases.{AwaitsExchange}
 use Rattle.arc_spelled.specs.StepperStands.{Work, IsServedWork, IsOver, DropEnds, IsDropping, IsVacating, step_in, IsCounted}
-use Rattle.arc_spelled.proofs.StepperSteps.{drop-asks, goes-on}
+use Rattle.arc_spelled.proofs.StepperSteps.{drop-asks}
+use Rattle.arc_spelled.proofs.Begins.{goes-on}
 use Rattle.arc_spelled.proofs.Turning.{IsAtWork, given, Turns, turned-by, plainly}
 
 -- what was under way is over, behind an event that brings no reference
@@ -92,8 +92,9 @@ drops-last w t word new c now work held asks holds kinds.Strong counted ends = p
     number = work.number;
     asks = tt;
     up_to = record {
+      root = held.place;
       base = Did (acts.Drop held.hand true) ∷ now;
-      stands = refl;
+      stands = record { hands = omega (arith, work.counts.hands_are); up_to = (refl, refl) };
       layout = work.works.layout_is;
       shape = work.works.shape_is;
       ends = λ after x. ends after (last_strong x);
@@ -102,7 +103,7 @@ drops-last w t word new c now work held asks holds kinds.Strong counted ends = p
 })
 drops-last w t word new c now work held asks holds kinds.Unowned counted ends =
     let behind : List Note = Entry held.place None ∷ Did (acts.Drop held.hand true) ∷ now in
-    turned-by w t _ (Some word) now (Some (acts.Drop held.hand true)) behind (record { read = now; reads = read_nothing; referred = now; refers = refers_nothing; finds = no_entry refl asks drop_takes refl holds }) (record {
+    turned-by w t _ (Some word) now (Some (acts.Drop held.hand true)) behind (record { read = now; reads = read_nothing; referred = now; refers = refers_nothing; finds = found_entry {entry = None} refl asks drop_takes refl (c, holds) }) (record {
       after = behind;
       says = nothing;
       event = refl;

@@ -34,7 +34,7 @@ use Rattle.arc_rule.specs.declared.attempt.Choice.{Choice}
 use Rattle.arc_model.specs.Shapes.{CapNumbers}
 use Rattle.arc_plan.specs.declared.strong.StrongUpAnswer.TheVariants as strongs
 use Rattle.arc_plan.specs.declared.unowned.UnownedUpAnswer.TheVariants as unowneds
-use Rattle.arc_ops.specs.Kept.{Kept}
+use Rattle.arc_served.specs.Kept.{Kept}
 use Rattle.arc_model.specs.declared.answer.Answer.{Answer}
 use Rattle.arc_side.specs.Inline.{entry_named, entry_met}
 use Rattle.arc_side.specs.Ups.{Rise, of_strong_up, of_unowned_up, UpWordAt, up_choice_at, up_in, up_moved, up_place}
@@ -48,7 +48,7 @@ use Rattle.arc_script.specs.declared.script.Op.TheVariants as op
 use Rattle.arc_programs.specs.Variables as programs
 use Rattle.arc_programs.specs.Programs.{IsAnswered}
 use Rattle.arc_programs.specs.Programs.IsAnswered.{copied, unowned_formed, loaded as loads_held, found_dead as finds_dead}
-use Rattle.arc_ops.specs.Programs.{ordinal, kind_of, KindsFit}
+use Rattle.arc_served.specs.Programs.{ordinal, kind_of, KindsFit}
 use Rattle.arc_ops.specs.declared.stepper.Held.{Held}
 use Rattle.arc_ops.specs.declared.gain.Gain.{Gain}
 use Rattle.arc_ops.specs.declared.gain.Gain.TheVariants as gains
@@ -62,12 +62,13 @@ use Rattle.arc_ops.specs.Takes.{FindsDead, IsGainWord, IsInlineAt}
 use Rattle.arc_ops.specs.Thread as thread
 use Rattle.arc_spelled.specs.Came.{copied_out, came_out, KnowsWhatComes}
 use Rattle.arc_spelled.specs.Shown.IsNamedFor.{line as for_line}
-use Rattle.arc_spelled.specs.Shown.ReadsName.{nothing as read_nothing, name as read_name}
+use Rattle.arc_spelled.specs.Shown.Reads.{nothing as read_nothing, name as read_name}
 use Rattle.arc_spelled.specs.Shown.FindsReference.{nothing as refers_nothing, refers}
-use Rattle.arc_spelled.specs.Shown.FindsNoEntry.{nothing as found_nothing}
+use Rattle.arc_spelled.specs.Shown.FindsEntry.{nothing as found_nothing}
 use Rattle.arc_spelled.specs.Shown.Says.{nothing, line}
 use Rattle.arc_spelled.specs.StepperStands.{Work, IsServedWork, held_in, variables, IsGaining, IsGetting, GainsUpTo, IsLoaded, step_in, IsCounted}
-use Rattle.arc_spelled.proofs.StepperSteps.{comes-after, counted-line, number-here, value-held, replaces}
+use Rattle.arc_spelled.proofs.StepperSteps.{comes-after, counted-line, number-here, value-held}
+use Rattle.arc_spelled.proofs.Begins.{replaces}
 use Rattle.arc_spelled.proofs.KindsKept.{holds-at, FitsKind, fits-some, gained-kind}
 use Rattle.arc_spelled.proofs.Turning.{IsAtWork, given, Turns, turned-by, plainly}
 
@@ -99,7 +100,7 @@ counted-gain w hands objects kept now gains.Load from k c = record { hands_are =
 -- the new reference is of the kind of its variable
 gained-fits : (w : Work) → IsServedWork w → (t : Thread) (now : List Note) → IsAtWork w t now → (gain : Gain) (to : ℕ) (from : Held) → IsGaining w t.index gain to from t.vars now → list_of gain (of_hand from) ≡ kind_of w.kinds to
 gained-fits w served t now work gain to from u =
-    gained-kind w.shape.globals w.kinds gain to u.of (of_hand from) (holds-at (KindsFit w.shape.globals w.kinds) w.program t.index (op_of gain to u.of) served.kinds_fit u.begun.there) (work.works.kinds u.of from u.source)
+    gained-kind w.shape w.classes w.kinds gain to u.of (of_hand from) (holds-at (KindsFit w.shape w.classes w.kinds) w.program t.index (op_of gain to u.of) served.kinds_fit u.begun.there) (work.works.kinds u.of from u.source)
 
 -- how the operation answers, where it did what it began
 abbrev pub AnswersIn : Work → Thread → Op → ℕ → (new : Option Held) → Answer → (before after : List Note) → Type 0
@@ -163,7 +164,7 @@ load-finds-dead w served t last now work to from u =
     P b = AnswersIn w t (op.Load to u.of) to None answers.Dead b (Did (acts.Load from.hand gots.Dead) ∷ now)
 
     unowned : from.kind ≡ kinds.Unowned
-    unowned = work.works.kinds u.of from u.source ∙ (holds-at (KindsFit w.shape.globals w.kinds) w.program t.index (op.Load to u.of) served.kinds_fit u.begun.there).1
+    unowned = work.works.kinds u.of from u.source ∙ (holds-at (KindsFit w.shape w.classes w.kinds) w.program t.index (op.Load to u.of) served.kinds_fit u.begun.there).1
 
     answered : AnswersIn w t (op.Load to u.of) to None answers.Dead now (Did (acts.Load from.hand gots.Dead) ∷ now)
     answered = finds_dead (value-held t.vars u.of (Some from) u.source) unowned (record { spare = Unclaimed; decided = now; ready = ready; settled = unclaimed }) (record { replaced = refl; old = refl })
@@ -316,8 +317,8 @@ named w served t word now work to held plan u =
     found : List Note
     found = Name held.place (isa_name_of word) ∷ now
 
-    fit : KindsFit w.shape.globals w.kinds (op.Load to g.of)
-    fit = holds-at (KindsFit w.shape.globals w.kinds) w.program t.index (op.Load to g.of) served.kinds_fit g.begun.there
+    fit : KindsFit w.shape w.classes w.kinds (op.Load to g.of)
+    fit = holds-at (KindsFit w.shape w.classes w.kinds) w.program t.index (op.Load to g.of) served.kinds_fit g.begun.there
 
     unowned : u.from.kind ≡ kinds.Unowned
     unowned = work.works.kinds g.of u.from g.source ∙ fit.1

@@ -1,9 +1,8 @@
--- A stepper that reads a global keeps what it stands for: the access begins, its reference is copied, and the access ends.
+-- A stepper that reads a cell keeps what it stands for: the access begins, its reference is copied, and the access ends.
 use Rattle.std.proofs.Common.{◌≡◌, ℕ, ◌+◌, Bool, true, false, cond, eqb, List, ◌∷◌, Option, Some, None, refl, sym, ap, subst, ◌∙◌}
 use Rattle.std.specs.Option.{unwrap_or}
 use Rattle.arc_model.specs.declared.answer.Answer.TheVariants as answers
 use Rattle.arc_model.specs.declared.event.CellName.{CellName}
-use Rattle.arc_model.specs.declared.event.CellName.TheVariants as cells
 use Rattle.arc_model.specs.declared.event.Origin.TheVariants as origins
 use Rattle.arc_model.specs.declared.event.Act.TheVariants as acts
 use Rattle.arc_model.specs.Spelling.{Note, hands_of}
@@ -25,14 +24,12 @@ use Rattle.arc_cells.specs.Begins.{Beginning, begin_row}
 use Rattle.arc_cells.specs.Ends.{AccessEnd, ending}
 use Rattle.arc_script.specs.declared.script.Op.{Op}
 use Rattle.arc_script.specs.declared.script.Op.TheVariants as op
-use Rattle.arc_script.specs.declared.script.OpCell.TheVariants as opcell
-use Rattle.arc_script.specs.Valid.{ref_at}
 use Rattle.arc_programs.specs.Programs.IsAnswered.{looked, got}
 use Rattle.arc_ops.specs.declared.cell.Cell.{Cell}
 use Rattle.arc_ops.specs.declared.gain.Gain.TheVariants as gains
 use Rattle.arc_ops.specs.declared.stepper.Held.{Held}
 use Rattle.arc_ops.specs.declared.stepper.Doing.TheVariants.{Ended}
-use Rattle.arc_ops.specs.Programs.{ordinal, KindsFit}
+use Rattle.arc_served.specs.Programs.{ordinal, KindsFit}
 use Rattle.arc_ops.specs.Cells.{source_in, open_begun}
 use Rattle.arc_ops.specs.Plans.{gain_begun}
 use Rattle.arc_ops.specs.Gets.{found_nil, opened_on, closed_on}
@@ -40,7 +37,9 @@ use Rattle.arc_ops.specs.Thread.{Thread, put}
 use Rattle.arc_ops.specs.Thread as thread
 use Rattle.arc_spelled.specs.Shown.Says.{nothing, line}
 use Rattle.arc_spelled.specs.StepperStands.{Work, IsServedWork, IsGetting, IsGot}
-use Rattle.arc_spelled.proofs.StepperSteps.{comes-after, counted-line, number-here, replaces}
+use Rattle.arc_spelled.proofs.StepperSteps.{comes-after, counted-line, number-here}
+use Rattle.arc_spelled.proofs.Begins.{replaces}
+use Rattle.arc_spelled.proofs.Cells.{cell-named, cell-kind}
 use Rattle.arc_spelled.proofs.KindsKept.{holds-at, FitsKind, fits-some}
 use Rattle.arc_spelled.proofs.Turning.{IsAtWork, given, Turns, plainly}
 use Rattle.arc_spelled.proofs.Gains.{AnswersIn}
@@ -79,25 +78,19 @@ finds-nil : (w : Work) → IsServedWork w → (t : Thread) (last : Option ℕ) (
 finds-nil w served t last now work to cell u =
     plainly w t _ last now (Some (acts.Look cell.name))
     (comes-after w _ (Some (acts.Look cell.name)) (Did (acts.Look cell.name) ∷ now) (Line answers.Nil ∷ Did (acts.Look cell.name) ∷ now) (line nothing)
-    (replaces w served (put answers.Nil (record t { doing = Ended; first = false; event = Some (acts.Look cell.name) })) to None (op.Get to (opcell.Global u.global)) answers.Nil u.begun.base (Did (acts.Look cell.name) ∷ now) work.works
+    (replaces w served (put answers.Nil (record t { doing = Ended; first = false; event = Some (acts.Look cell.name) })) to None (op.Get to u.of) answers.Nil u.begun.base (Did (acts.Look cell.name) ∷ now) work.works
     (counted-line w t.hands t.made t.kept (thread.number_of t) answers.Nil (Did (acts.Look cell.name) ∷ now) (number-here w t (Did (acts.Look cell.name) ∷ now) work.works work.number)
     (record { hands_are = work.counts.hands_are; made_is = work.counts.made_is; lines_are = work.counts.lines_are }))
-    work.number work.phase u.begun.done u.begun.there (λ h e. absurd (cc)) (subst P (sym u.begun.now_is) (subst Q (sym name_is) answered))))
+    work.number work.phase u.begun.done u.begun.there (λ h e. absurd (cc)) (subst P (sym u.begun.now_is) answered)))
   where
-    name_is : cell.name ≡ cells.Global u.global
-    name_is = ap (λ (c : Cell). c.name) u.cell_is
-
     start : List Note
     start = Operation (ordinal w.program t.index) ∷ u.begun.base
 
     P : List Note → Type 0
-    P ns = AnswersIn w t (op.Get to (opcell.Global u.global)) to None answers.Nil start (Did (acts.Look cell.name) ∷ ns)
+    P ns = AnswersIn w t (op.Get to u.of) to None answers.Nil start (Did (acts.Look cell.name) ∷ ns)
 
-    Q : CellName → Type 0
-    Q name = AnswersIn w t (op.Get to (opcell.Global u.global)) to None answers.Nil start (Did (acts.Look name) ∷ start)
-
-    answered : Q (cells.Global u.global)
-    answered = looked refl (record { replaced = refl; old = refl })
+    answered : P start
+    answered = looked (cell-named w.shape w.classes t.vars u.of cell u.cell_is) (record { replaced = refl; old = refl })
 
 pub opens-on : (w : Work) → IsServedWork w → (t : Thread) (last : Option ℕ) (now : List Note) → IsAtWork w t now → (to : ℕ) (cell : Cell) (plan : Beginning) (a : At) → IsGetting w t.index to cell t.vars now → attempt_takes (λ v. Unit {0}) a last →
     Turns w t (opened_on to cell (record plan { at = attempt_turned begin_row a (unwrap_or last 0) }) (attempt_answer begin_row begins.Held begins.Again plan.place a (unwrap_or last 0)) (given t)) last now
@@ -134,27 +127,22 @@ got-at-last w served t last now work to cell held plan u =
     g = u.getting
 
     o : Op
-    o = op.Get to (opcell.Global g.global)
+    o = op.Get to g.of
 
     start : List Note
     start = Operation (ordinal w.program t.index) ∷ g.begun.base
 
-    name_is : cell ≡ cells.Global g.global
-    name_is = ap (λ (c : Cell). c.name) g.cell_is
+    there : Cell
+    there = record { name = cell; kind = held.kind }
 
-    kind_is : held.kind ≡ (ref_at w.shape.globals g.global).kind
-    kind_is = ap (λ (c : Cell). c.kind) g.cell_is
-
-    fit : KindsFit w.shape.globals w.kinds o
-    fit = holds-at (KindsFit w.shape.globals w.kinds) w.program t.index o served.kinds_fit g.begun.there
+    fit : KindsFit w.shape w.classes w.kinds o
+    fit = holds-at (KindsFit w.shape w.classes w.kinds) w.program t.index o served.kinds_fit g.begun.there
 
     fits : FitsKind w.kinds to (Some held)
-    fits = fits-some w.kinds to held (kind_is ∙ sym fit)
+    fits = fits-some w.kinds to held (cell-kind w.shape w.classes t.vars g.of there g.cell_is ∙ sym fit.0)
 
-    now_is : now ≡ Did (acts.Copy (origins.Cell (cells.Global g.global)) held.hand) ∷ Refers (cells.Global g.global) held.kind held.place ∷ start
-    now_is =
-        u.now_is ∙ ap (λ (name : CellName). Did (acts.Copy (origins.Cell name) held.hand) ∷ Refers name held.kind held.place ∷ u.before) name_is
-        ∙ ap (λ (ns : List Note). Did (acts.Copy (origins.Cell (cells.Global g.global)) held.hand) ∷ Refers (cells.Global g.global) held.kind held.place ∷ ns) g.begun.now_is
+    now_is : now ≡ Did (acts.Copy (origins.Cell cell) held.hand) ∷ Refers cell held.kind held.place ∷ start
+    now_is = u.now_is ∙ ap (λ (ns : List Note). Did (acts.Copy (origins.Cell cell) held.hand) ∷ Refers cell held.kind held.place ∷ ns) g.begun.now_is
 
     hand_is : held.hand ≡ hands_of start + 1
     hand_is = u.hand_is ∙ ap (λ (ns : List Note). hands_of ns + 1) g.begun.now_is
@@ -162,8 +150,10 @@ got-at-last w served t last now work to cell held plan u =
     P : List Note → Type 0
     P ns = AnswersIn w t o to (Some held) answers.Ok start ns
 
-    answered : P (Did (acts.Copy (origins.Cell (cells.Global g.global)) held.hand) ∷ Refers (cells.Global g.global) held.kind held.place ∷ start)
-    answered = got refl hand_is u.came (record { spare = Unclaimed; decided = Refers (cells.Global g.global) held.kind held.place ∷ start; ready = ready; settled = unclaimed }) (record { replaced = refl; old = refl })
+    answered : P (Did (acts.Copy (origins.Cell cell) held.hand) ∷ Refers cell held.kind held.place ∷ start)
+    answered =
+        got (cell-named w.shape w.classes t.vars g.of there g.cell_is) hand_is u.came (record { spare = Unclaimed; decided = Refers cell held.kind held.place ∷ start; ready = ready; settled = unclaimed })
+        (record { replaced = refl; old = refl })
 
 pub closes-on : (w : Work) → IsServedWork w → (t : Thread) (last : Option ℕ) (now : List Note) → IsAtWork w t now → (to : ℕ) (cell : CellName) (held : Held) (plan : AccessEnd) (a : Once) → IsGot w t.index to cell held t.vars now → once_takes (λ v. Unit {0}) a last →
     Turns w t (closed_on to cell held (record plan { at = once_turned a }) (once_answer (ending plan) tt a) (given t)) last now

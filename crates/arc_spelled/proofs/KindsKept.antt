@@ -1,5 +1,5 @@
 -- Variables keep references of their kinds.
-use Rattle.std.proofs.Common.{◌≡◌, ℕ, zero, suc, List, [], ◌∷◌, set, Option, Some, None, ◌⊎◌, inl, inr, refl, sym, ap, subst, ◌∙◌}
+use Rattle.std.proofs.Common.{◌≡◌, ℕ, zero, suc, false, List, [], ◌∷◌, set, get_or, Option, Some, None, ◌⊎◌, inl, inr, refl, sym, ap, subst, ◌∙◌}
 use Rattle.std.specs.Prelude.{slice_get, All}
 use Rattle.std.specs.List.{AllByRecursion}
 use Rattle.std.proofs.lemmas.List.Elements.{All-get_or, recursion_from_All}
@@ -7,13 +7,17 @@ use Rattle.std.proofs.lemmas.Option.{slice_get_within, get_or_from_slice_get}
 use Rattle.arc_model.specs.declared.shape.Kind.{Kind}
 use Rattle.arc_side.specs.Inline.{IsCountedInline}
 use Rattle.arc_model.specs.declared.shape.RefShape.{RefShape}
+use Rattle.arc_model.specs.Shapes.{ObjectClass, HeapShape, class_at}
 use Rattle.arc_script.specs.declared.script.Op.{Op}
+use Rattle.arc_script.specs.declared.script.OpCell.{OpCell}
+use Rattle.arc_script.specs.declared.script.OpCell.TheVariants as opcell
 use Rattle.arc_script.specs.Valid.{ref_at}
 use Rattle.arc_ops.specs.declared.stepper.Held.{Held}
 use Rattle.arc_ops.specs.declared.gain.Gain.{Gain}
 use Rattle.arc_ops.specs.declared.gain.Gain.TheVariants as gains
 use Rattle.arc_ops.specs.declared.gain.Source.{Source}
-use Rattle.arc_ops.specs.Programs.{kind_of, KindsFit}
+use Rattle.arc_served.specs.Programs.{kind_of, class_of, ref_of, KindsFit}
+use Rattle.arc_served.specs.Served.{IsServedRef, IsServedClass}
 use Rattle.arc_ops.specs.Thread.{value}
 use Rattle.arc_ops.specs.Plans.{list_of, op_of}
 use Rattle.arc_spelled.specs.StepperStands.{Work, IsServedWork, AreOfKinds}
@@ -61,13 +65,23 @@ pub counted-in : (w : Work) → IsServedWork w → (vars : List (Option Held)) (
 counted-in w served vars v h all e = rw (all v h e) (counted-kind w.kinds v (recursion_from_All IsCountedInline w.kinds served.kinds))
 
 -- a reference that is gained is of the kind of its variable
-pub gained-kind : (globals : List RefShape) (kinds : List Kind) (gain : Gain) (to of : ℕ) (from : Source) → KindsFit globals kinds (op_of gain to of) → from.kind ≡ kind_of kinds of → list_of gain from ≡ kind_of kinds to
-gained-kind globals kinds gains.Copy to of from fits e = e ∙ sym fits
-gained-kind globals kinds gains.Unown to of from fits e = sym fits.0
-gained-kind globals kinds gains.Load to of from fits e = sym fits.0
+pub gained-kind : (shape : HeapShape) (classes : List ℕ) (kinds : List Kind) (gain : Gain) (to of : ℕ) (from : Source) → KindsFit shape classes kinds (op_of gain to of) → from.kind ≡ kind_of kinds of → list_of gain from ≡ kind_of kinds to
+gained-kind shape classes kinds gains.Copy to of from fits e = e ∙ sym fits
+gained-kind shape classes kinds gains.Unown to of from fits e = sym fits.0
+gained-kind shape classes kinds gains.Load to of from fits e = sym fits.0
 
--- each global is counted in an inline word
-pub counted-global : (globals : List RefShape) (g : ℕ) → AllByRecursion (λ (r : RefShape). IsCountedInline r.kind) globals → IsCountedInline (ref_at globals g).kind
-counted-global [] g all = tt
-counted-global (r ∷ globals) zero all = all.0
-counted-global (r ∷ globals) (suc g) all = counted-global globals g all.1
+-- and so is each global and each field
+counted-ref : (refs : List RefShape) (i : ℕ) → AllByRecursion IsServedRef refs → IsCountedInline (ref_at refs i).kind
+counted-ref [] i all = tt
+counted-ref (r ∷ refs) zero all = all.0
+counted-ref (r ∷ refs) (suc i) all = counted-ref refs i all.1
+
+class-fields : (classes : List ObjectClass) (i : ℕ) → AllByRecursion IsServedClass classes → AllByRecursion IsServedRef (get_or classes i (record { fields = []; immortal = false })).fields
+class-fields [] i all = tt
+class-fields (c ∷ classes) zero all = recursion_from_All IsServedRef c.fields all.0
+class-fields (c ∷ classes) (suc i) all = class-fields classes i all.1
+
+pub counted-cell : (w : Work) → IsServedWork w → (c : OpCell) → IsCountedInline (ref_of w.shape w.classes c).kind
+counted-cell w served (opcell.Global g) = counted-ref w.shape.globals g (recursion_from_All IsServedRef w.shape.globals served.globals)
+counted-cell w served (opcell.Field owner field) =
+    counted-ref (class_at w.shape (class_of w.classes owner)).fields field (class-fields w.shape.classes (class_of w.classes owner) (recursion_from_All IsServedClass w.shape.classes served.served_classes))

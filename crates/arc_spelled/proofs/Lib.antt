@@ -1,6 +1,8 @@
-pub mod CascadeKeeps
 pub mod KindsKept
 pub mod StepperSteps
+pub mod Cells
+pub mod Owners
+pub mod Begins
 pub mod Turning
 pub mod Makes
 pub mod Gains
@@ -8,6 +10,8 @@ pub mod Drops
 pub mod Gets
 pub mod Sets
 pub mod MoreKnown
+pub mod DeinitTurns
+pub mod Deinits
 pub mod StepperKeeps
 pub mod Declared
 pub mod SteppersSpell

@@ -20,7 +20,7 @@ use Rattle.arc_programs.specs.Variables as programs
 use Rattle.arc_programs.specs.Programs.{made_of, IsAnswered}
 use Rattle.arc_programs.specs.Programs.IsAnswered.{made}
 use Rattle.arc_programs.proofs.ProgramsSteps.{answers_last, new_full}
-use Rattle.arc_ops.specs.Programs.{ordinal, KindsFit}
+use Rattle.arc_served.specs.Programs.{ordinal, KindsFit}
 use Rattle.arc_ops.specs.declared.stepper.Doing.TheVariants.{Making, Ended}
 use Rattle.arc_ops.specs.Thread.{Thread, value, put, asking}
 use Rattle.arc_ops.specs.Plans.{make_begun_as}
@@ -28,7 +28,8 @@ use Rattle.arc_ops.specs.Makes.{strong_to, came_to, made_on}
 use Rattle.arc_ops.specs.Thread as thread
 use Rattle.arc_spelled.specs.Shown.Says.{nothing, line}
 use Rattle.arc_spelled.specs.StepperStands.{Work, IsServedWork, held_of, variables, IsOver, IsBegun, IsMaking, IsMade, MakesUpTo}
-use Rattle.arc_spelled.proofs.StepperSteps.{comes-after, counted-line, number-here, over-done, goes-on, replaces}
+use Rattle.arc_spelled.proofs.StepperSteps.{comes-after, counted-line, number-here, over-done}
+use Rattle.arc_spelled.proofs.Begins.{goes-on, replaces}
 use Rattle.arc_spelled.proofs.KindsKept.{holds-at, FitsKind, fits-some}
 use Rattle.arc_spelled.proofs.Turning.{IsAtWork, given, Turns, plainly}
 
@@ -128,7 +129,7 @@ makes w served t last now work to name plan (search.Naming s) u = plainly w t _ 
     now_is = let n = m.now_is in let o = b.now_is in let h = work.counts.hands_are in let k = ap hands_of m.now_is in cc
 
     fits : FitsKind w.kinds to (Some (strong_to t.hands s))
-    fits = fits-some w.kinds to (strong_to t.hands s) (sym (holds-at (KindsFit w.shape.globals w.kinds) w.program t.index (op.New to name.class) served.kinds_fit b.there))
+    fits = fits-some w.kinds to (strong_to t.hands s) (sym (holds-at (KindsFit w.shape w.classes w.kinds) w.program t.index (op.New to name.class) served.kinds_fit b.there))
 
     answered : IsAnswered w.thread w.came (op.New to name.class) (variables t.vars) (Operation (ordinal w.program t.index) ∷ b.base)
         (programs.put (variables t.vars) to (Some (held_of (strong_to t.hands s)))) (answers.New name) (programs.value (variables t.vars) to) now

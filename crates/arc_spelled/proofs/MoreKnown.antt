@@ -7,6 +7,7 @@ use Rattle.arc_model.specs.declared.event.Origin.TheVariants as origins
 use Rattle.arc_model.specs.declared.shape.Kind.{Kind}
 use Rattle.arc_model.specs.Shapes.{HeapShape}
 use Rattle.arc_model.specs.Spelling.{Note}
+use Rattle.arc_cells.specs.Chains.{Frame}
 use Rattle.arc_plan.specs.declared.slots.Making.{Making as Search}
 use Rattle.arc_plan.specs.declared.slots.Making.TheVariants as search
 use Rattle.arc_script.specs.declared.script.Op.{Op}
@@ -105,7 +106,7 @@ gaining-too : {w : Work} {more : Hands} {i to : ℕ} {gain : Gain} {from : HeldB
 gaining-too x g = record { of = g.of; begun = begun-too x g.begun; source = g.source }
 
 getting-too : {w : Work} {more : Hands} {i to : ℕ} {cell : Cell} {vars : List (Option HeldByStepper)} {now : List Note} → Extends w.came more → IsGetting w i to cell vars now → IsGetting (knowing more w) i to cell vars now
-getting-too x g = record { global = g.global; begun = begun-too x g.begun; cell_is = g.cell_is }
+getting-too x g = record { of = g.of; begun = begun-too x g.begun; cell_is = g.cell_is }
 
 gains-too : (w : Work) (more : Hands) → Extends w.came more → (i : ℕ) (gain : Gain) (to : ℕ) (origin : Origin) (kind : Kind) (place : ℕ) (vars : List (Option HeldByStepper)) (now : List Note) →
     GainsUpTo w i gain to origin kind place vars now → GainsUpTo (knowing more w) i gain to origin kind place vars now
@@ -116,19 +117,19 @@ ended-too : (w : Work) (more : Hands) → Extends w.came more → (now : List No
 ended-too w more x now true c = cleared-too x c
 ended-too w more x now false g = program-too x g
 
-up-to-too : (w : Work) (more : Hands) → Extends w.came more → (i : ℕ) (vars : List (Option HeldByStepper)) (n : ℕ) (asked : Move) (now : List Note) (d : Doing) → StepperUpTo w i vars n asked now d → StepperUpTo (knowing more w) i vars n asked now d
-up-to-too w more x i vars n asked now Ready u = record { done = done-too x u.done; uncleared = u.uncleared }
-up-to-too w more x i vars n asked now (Making to name plan) u = makes-too w more x i to name vars now plan.at u
-up-to-too w more x i vars n asked now (Gaining gain to from plan) u = gains-too w more x i gain to from.origin from.kind from.place vars now u
-up-to-too w more x i vars n asked now (Naming to held plan) u = record { from = u.from; before = u.before; gaining = gaining-too x u.gaining; held_is = u.held_is; now_is = u.now_is; waits = u.waits; asks = u.asks }
-up-to-too w more x i vars n asked now (Opening to cell plan) u = getting-too x u
-up-to-too w more x i vars n asked now (Closing to cell held plan) u = record { before = u.before; getting = getting-too x u.getting; hand_is = u.hand_is; came = x held.hand _ u.came; now_is = u.now_is }
-up-to-too w more x i vars n asked now (Setting from cell plan) u = record { global = u.global; begun = begun-too x u.begun; cell_is = u.cell_is }
-up-to-too w more x i vars n asked now (Clearing plan) u = record { thread_is = u.thread_is; within = u.within; so_far = has-cleared-too x u.so_far }
-up-to-too w more x i vars n asked now (Dropping held plan) u = record { counted = u.counted; releasing = u.releasing; ends = λ after d. over-too w more x i vars n after (u.ends after d) }
-up-to-too w more x i vars n asked now (Dying c) u = record { base = u.base; stands = u.stands; layout = u.layout; shape = u.shape; ends = λ after d. over-too w more x i vars n after (u.ends after d) }
-up-to-too w more x i vars n asked now (Vacating slot plan) u = record { before = u.before; now_is = u.now_is; ends = λ after d. over-too w more x i vars n after (u.ends after d) }
-up-to-too w more x i vars n asked now Ended u = ended-too w more x now (eqb w.thread 0) u
+up-to-too : (w : Work) (more : Hands) → Extends w.came more → (i : ℕ) (vars : List (Option HeldByStepper)) (n : ℕ) (fs : List Frame) (asked : Move) (now : List Note) (d : Doing) → StepperUpTo w i vars n fs asked now d → StepperUpTo (knowing more w) i vars n fs asked now d
+up-to-too w more x i vars n fs asked now Ready u = record { done = done-too x u.done; uncleared = u.uncleared }
+up-to-too w more x i vars n fs asked now (Making to name plan) u = makes-too w more x i to name vars now plan.at u
+up-to-too w more x i vars n fs asked now (Gaining gain to from plan) u = gains-too w more x i gain to from.origin from.kind from.place vars now u
+up-to-too w more x i vars n fs asked now (Naming to held plan) u = record { from = u.from; before = u.before; gaining = gaining-too x u.gaining; held_is = u.held_is; now_is = u.now_is; waits = u.waits; asks = u.asks }
+up-to-too w more x i vars n fs asked now (Opening to cell plan) u = getting-too x u
+up-to-too w more x i vars n fs asked now (Closing to cell held plan) u = record { before = u.before; getting = getting-too x u.getting; hand_is = u.hand_is; came = x held.hand _ u.came; now_is = u.now_is }
+up-to-too w more x i vars n fs asked now (Setting from cell plan) u = record { of = u.of; begun = begun-too x u.begun; cell_is = u.cell_is }
+up-to-too w more x i vars n fs asked now (Clearing plan) u = record { thread_is = u.thread_is; within = u.within; so_far = has-cleared-too x u.so_far }
+up-to-too w more x i vars n fs asked now (Dropping held plan) u = record { counted = u.counted; releasing = u.releasing; ends = λ after d. over-too w more x i vars n after (u.ends after d) }
+up-to-too w more x i vars n fs asked now (Dying c) u = record { root = u.root; base = u.base; stands = u.stands; layout = u.layout; shape = u.shape; ends = λ after d. over-too w more x i vars n after (u.ends after d) }
+up-to-too w more x i vars n fs asked now (Vacating slot plan) u = record { before = u.before; now_is = u.now_is; ends = λ after d. over-too w more x i vars n after (u.ends after d) }
+up-to-too w more x i vars n fs asked now Ended u = ended-too w more x now (eqb w.thread 0) u
 
 -- ---- and of its place
 
@@ -155,11 +156,11 @@ numbered-too w more i now true n = n
 numbered-too w more i now false n = n
 
 pub more_is_known : MoreIsKnown
-more_is_known w more t now s x = record {
-  works = record { layout_is = s.works.layout_is; shape_is = s.works.shape_is; thread_is = s.works.thread_is; phases_is = s.works.phases_is; program_is = s.works.program_is; kinds = s.works.kinds };
+more_is_known w more t fs now s x = record {
+  works = record { layout_is = s.works.layout_is; shape_is = s.works.shape_is; thread_is = s.works.thread_is; phases_is = s.works.phases_is; program_is = s.works.program_is; classes_are = s.works.classes_are; kinds = s.works.kinds };
   in_phase = in-phase-too w more t.phase t.index t.doing s.in_phase;
   counts = record { hands_are = s.counts.hands_are; made_is = s.counts.made_is; lines_are = s.counts.lines_are };
   number = numbered-too w more t.index now (is_busy t.doing) s.number;
   asks = s.asks;
-  up_to = up-to-too w more x t.index t.vars t.cleared t.asked now t.doing s.up_to;
+  up_to = up-to-too w more x t.index t.vars t.cleared fs t.asked now t.doing s.up_to;
 }

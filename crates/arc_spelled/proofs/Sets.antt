@@ -1,15 +1,12 @@
--- A stepper that writes a global, or clears one, keeps what it stands for.
+-- A stepper that writes a cell, or clears a global, keeps what it stands for.
 use Rattle.std.proofs.Common.{◌≡◌, ℕ, ◌+◌, ◌-◌, ◌<◌, Bool, true, false, cond, eqb, ltb, List, ◌∷◌, length, set, Option, Some, None, refl, sym, ap, subst, ◌∙◌, arith}
 use Rattle.std.proofs.lemmas.Bool.{ltb-true}
-use Rattle.std.proofs.lemmas.List.Elements.{recursion_from_All}
 use Rattle.std.proofs.lemmas.Option.{slice_get_within}
 use Rattle.std.specs.Option.{unwrap_or}
 use Rattle.arc_model.specs.declared.answer.Answer.TheVariants as answers
-use Rattle.arc_model.specs.declared.event.CellName.{CellName}
 use Rattle.arc_model.specs.declared.event.CellName.TheVariants as cells
 use Rattle.arc_model.specs.declared.event.Act.{Act}
 use Rattle.arc_model.specs.declared.event.Act.TheVariants as acts
-use Rattle.arc_model.specs.declared.shape.RefShape.{RefShape}
 use Rattle.arc_model.specs.Spelling.{Note, hands_of}
 use Rattle.arc_model.specs.Spelling.Note.{Did, Line, Operation}
 use Rattle.arc_rule.specs.Attempts.{exchanging, chosen, takes_at as attempt_takes, turned_at as attempt_turned, answer_at as attempt_answer}
@@ -26,7 +23,6 @@ use Rattle.arc_cells.specs.Swaps.{SwapAttempt, swap_row}
 use Rattle.arc_script.specs.declared.script.Op.{Op}
 use Rattle.arc_script.specs.declared.script.Op.TheVariants as op
 use Rattle.arc_script.specs.declared.script.OpCell.TheVariants as opcell
-use Rattle.arc_script.specs.Valid.{ref_at}
 use Rattle.arc_programs.specs.Variables as programs
 use Rattle.arc_programs.specs.Programs.{IsAnswered}
 use Rattle.arc_programs.specs.Programs.IsAnswered.{put_in_nil, swapped as exchanged}
@@ -35,16 +31,18 @@ use Rattle.arc_programs.proofs.ProgramsSteps.{IsNext, answers_last, drops_last}
 use Rattle.arc_ops.specs.declared.cell.Cell.{Cell}
 use Rattle.arc_ops.specs.declared.stepper.Held.{Held}
 use Rattle.arc_ops.specs.declared.stepper.Doing.TheVariants.{Ended}
-use Rattle.arc_ops.specs.Programs.{ordinal}
+use Rattle.arc_served.specs.Programs.{ordinal}
 use Rattle.arc_ops.specs.Cells.{hand_in, set_begun, clear_begun, next_global}
 use Rattle.arc_ops.specs.Sets.{set_to, set_on, cleared, cleared_on}
-use Rattle.arc_ops.specs.Thread.{Thread, value, set_var, put}
+use Rattle.arc_ops.specs.Thread.{Thread, value, put}
 use Rattle.arc_ops.specs.Thread as thread
 use Rattle.arc_spelled.specs.Came.{was_there, swapped_out, came_out, KnowsWhatComes}
 use Rattle.arc_spelled.specs.Shown.Says.{nothing, line}
 use Rattle.arc_spelled.specs.StepperStands.{Work, IsServedWork, held_of, held_in, variables, HasCleared, IsAtEnd, IsOverIf, IsOver, IsPutting, IsClearing, WorksOn, IsCounted}
-use Rattle.arc_spelled.proofs.StepperSteps.{value-held, put-held, works-over, comes-after, counted-line, number-here, over-done, drop-asks, goes-on}
-use Rattle.arc_spelled.proofs.KindsKept.{kinds-nil, counted-global}
+use Rattle.arc_spelled.proofs.StepperSteps.{value-held, put-held, works-over, comes-after, counted-line, number-here, over-done, drop-asks}
+use Rattle.arc_spelled.proofs.Begins.{goes-on}
+use Rattle.arc_spelled.proofs.Cells.{cell-named, cell-kind}
+use Rattle.arc_spelled.proofs.KindsKept.{kinds-nil, counted-cell}
 use Rattle.arc_spelled.proofs.Turning.{IsAtWork, given, Turns, plainly}
 
 -- what the exchange brings comes out of the cell
@@ -77,10 +75,6 @@ same-hand (Some h) = refl
 hand-put : (vars : List (Option Held)) (from : ℕ) → hand_in (value vars from) ≡ programs.hand_in (programs.value (variables vars) from)
 hand-put vars from = same-hand (value vars from) ∙ ap programs.hand_in (sym (value-held vars from (value vars from) refl))
 
--- each global is counted in an inline word
-global-counted : (w : Work) → IsServedWork w → (g : ℕ) → IsCountedInline (ref_at w.shape.globals g).kind
-global-counted w served g = counted-global w.shape.globals g (recursion_from_All (λ (r : RefShape). IsCountedInline r.kind) w.shape.globals served.globals)
-
 -- the reference, or nil, is in the cell, and what the cell had is dropped last
 sets-to : (w : Work) → IsServedWork w → (t : Thread) (last : Option ℕ) (now : List Note) → IsAtWork w t now → KnowsWhatComes w.came t last → (from : ℕ) (cell : Cell) (place : ℕ) → IsPutting w t.index from cell t.vars now → (nil : Bool) →
     was_there cell.name (cond nil None (Some (record { hand = t.hands + 1; kind = cell.kind; place = place }))) ≡ came_out t last →
@@ -91,13 +85,13 @@ sets-to w served t last now work knows from cell place u = go
     put_there = hand_in (value t.vars from)
 
     o : Op
-    o = op.Set (opcell.Global u.global) from
+    o = op.Set u.of from
 
     there : Held
     there = record { hand = t.hands + 1; kind = cell.kind; place = place }
 
-    name_is : cell.name ≡ cells.Global u.global
-    name_is = ap (λ (c : Cell). c.name) u.cell_is
+    named : programs.cell_of (variables t.vars) u.of ≡ Some cell.name
+    named = cell-named w.shape w.classes t.vars u.of cell u.cell_is
 
     start : List Note
     start = Operation (ordinal w.program t.index) ∷ u.begun.base
@@ -108,19 +102,17 @@ sets-to w served t last now work knows from cell place u = go
     within : t.index < length w.program
     within = slice_get_within w.program t.index o u.begun.there
 
-    works : WorksOn w t.layout t.shape t.thread t.phases t.program (set t.vars from None)
+    works : WorksOn w t.layout t.shape t.thread t.phases t.program t.classes (set t.vars from None)
     works = works-over w t work.works (kinds-nil w.kinds t.vars from work.works.kinds)
 
-    AnswersWith : (name : CellName) → (out : Option ℕ) → Option programs.Held → List Note → Type 0
-    AnswersWith name out old ns = IsAnswered w.thread w.came o (variables t.vars) start (programs.put (variables t.vars) from None) answers.Ok old (Did (acts.Swap name put_there out) ∷ ns)
+    AnswersWith : (out : Option ℕ) → Option programs.Held → List Note → Type 0
+    AnswersWith out old ns = IsAnswered w.thread w.came o (variables t.vars) start (programs.put (variables t.vars) from None) answers.Ok old (Did (acts.Swap cell.name put_there out) ∷ ns)
 
-    nothing_there : AnswersWith cell.name None None now
-    nothing_there = subst (λ (ns : List Note). AnswersWith cell.name None None ns) (sym u.begun.now_is) (subst (λ (name : CellName). AnswersWith name None None start) (sym name_is) (put_in_nil refl (hand-put t.vars from) refl))
+    nothing_there : AnswersWith None None now
+    nothing_there = subst (λ (ns : List Note). AnswersWith None None ns) (sym u.begun.now_is) (put_in_nil named (hand-put t.vars from) refl)
 
-    something_there : w.came (t.hands + 1) ≡ Some (record { kind = cell.kind; place = place }) → AnswersWith cell.name (Some (t.hands + 1)) (Some (held_of there)) now
-    something_there came =
-        subst (λ (ns : List Note). AnswersWith cell.name (Some (t.hands + 1)) (Some (held_of there)) ns) (sym u.begun.now_is)
-        (subst (λ (name : CellName). AnswersWith name (Some (t.hands + 1)) (Some (held_of there)) start) (sym name_is) (exchanged refl (hand-put t.vars from) refl hand_is came refl))
+    something_there : w.came (t.hands + 1) ≡ Some (record { kind = cell.kind; place = place }) → AnswersWith (Some (t.hands + 1)) (Some (held_of there)) now
+    something_there came = subst (λ (ns : List Note). AnswersWith (Some (t.hands + 1)) (Some (held_of there)) ns) (sym u.begun.now_is) (exchanged named (hand-put t.vars from) refl hand_is came refl)
       where
         hand_is : t.hands + 1 ≡ hands_of start + 1
         hand_is = ap (λ (n : ℕ). n + 1) work.counts.hands_are ∙ ap (λ (ns : List Note). hands_of ns + 1) u.begun.now_is
@@ -144,7 +136,7 @@ sets-to w served t last now work knows from cell place u = go
           event = refl;
           stands = drop-asks w (put answers.Ok (record t { doing = Ended; first = false; event = Some event; hands = t.hands + 1; vars = set t.vars from None })) there (Line answers.Ok ∷ Did event ∷ now) works
               (counted-line w (t.hands + 1) t.made t.kept (thread.number_of t) answers.Ok (Did event ∷ now) (number-here w t (Did event ∷ now) work.works work.number) counts)
-              work.number work.phase (rw (ap (λ (c : Cell). c.kind) u.cell_is) (global-counted w served u.global))
+              work.number work.phase (rw (cell-kind w.shape w.classes t.vars u.of cell u.cell_is) (counted-cell w served u.of))
               (λ after x. over-done w t.index (set t.vars from None) t.cleared after within (rw (put-held t.vars from None) (drops_last next (something_there came) x)));
         })
 
@@ -202,7 +194,7 @@ clears-it w served t last now work knows place u = go
     there = record { hand = t.hands + 1; kind = (next_global t).kind; place = place }
 
     counted : IsCountedInline there.kind
-    counted = rw work.works.shape_is (global-counted w served t.cleared)
+    counted = rw work.works.shape_is (counted-cell w served (opcell.Global t.cleared))
 
     go : (nil : Bool) → was_there (next_global t).name (cond nil None (Some there)) ≡ came_out t last → Turns w t (cleared (next_global t) (cond nil None (Some there)) (given t)) last now
     go true out =

@@ -1,8 +1,8 @@
--- The steps of a stepper over its notes: an operation begins, a reference is dropped, the scope ends.
+-- The steps of a stepper over its notes: what an operation begins with, a reference is dropped, the scope ends.
 use Rattle.std.proofs.Common.{◌≡◌, ◌≢◌, ℕ, zero, suc, ◌+◌, ◌<◌, ◌≤◌, Bool, true, false, not, cond, ◌&&◌, eqb, ltb, List, [], ◌∷◌, ◌++◌, length, take, drop, set, get_or, Option, Some, None, ◌⊎◌, inl, inr, refl, sym, ap, subst, ◌∙◌, arith, add-one}
 use Rattle.std.proofs.lemmas.Bool.{eqb-true, ltb-true, ltb-false, lt-ltb, cases_lt}
 use Rattle.std.proofs.Math.ListN.{get_or-map}
-use Rattle.std.proofs.lemmas.List.{map-set, set-get_or, length-set, length-append, length-map, length-take, length-take-le, take_all, take-append-le, reverse-append, get_or-set_same, get_or-set_other, drop_all}
+use Rattle.std.proofs.lemmas.List.{map-set, set-get_or, length-set, length-append, length-map, length-take-le, take_all, take-append-le, reverse-append, get_or-set_same, get_or-set_other}
 use Rattle.std.proofs.lemmas.List.Quantifiers.{position-Some}
 use Rattle.std.proofs.lemmas.List.Sums.{prefix_len_passes}
 use Rattle.std.proofs.lemmas.Option.{slice_get_within}
@@ -15,12 +15,12 @@ use Rattle.arc_model.specs.Spelling.{Note, acts_of, IsDrop}
 use Rattle.arc_model.specs.Spelling.Note.{Line, Operation}
 use Rattle.arc_model.specs.Shapes.{HeapShape}
 use Rattle.arc_rule.specs.Extents.{Extent}
+use Rattle.arc_cells.specs.Chains.{Frame}
 use Rattle.arc_rule.specs.declared.step.Step.{Step}
 use Rattle.arc_rule.specs.declared.step.Intent.{Intent}
 use Rattle.arc_script.specs.declared.answer.Line.{Line as Told}
 use Rattle.arc_script.specs.declared.script.Op.{Op}
 use Rattle.arc_script.specs.declared.script.Op.TheVariants as op
-use Rattle.arc_script.specs.declared.script.OpCell.TheVariants as opcell
 use Rattle.arc_side.specs.Inline.{IsCountedInline}
 use Rattle.arc_script.specs.Valid.{begins_block}
 use Rattle.arc_script.proofs.OneList.{length_in_one}
@@ -39,25 +39,24 @@ use Rattle.arc_ops.specs.declared.gain.Gain.{Gain}
 use Rattle.arc_ops.specs.declared.gain.Gain.TheVariants as gains
 use Rattle.arc_ops.specs.declared.stepper.Doing.TheVariants.{Ready, Ended}
 use Rattle.arc_ops.specs.declared.stepper.Move.TheVariants as moves
-use Rattle.arc_ops.specs.Kept.{Kept, with_line}
-use Rattle.arc_ops.specs.Programs.{ordinal, ops_in_first, kind_of, KindsFit}
+use Rattle.arc_served.specs.Kept.{Kept, with_line}
+use Rattle.arc_served.specs.Programs.{ordinal, ops_in_first, kind_of, KindsFit}
 use Rattle.arc_ops.proofs.Passed.{goes_forth}
-use Rattle.arc_ops.proofs.Counts.{first_few, first_all}
-use Rattle.arc_ops.specs.Served.{IsServedOp}
+use Rattle.arc_served.proofs.Counts.{first_few, first_all}
+use Rattle.arc_served.specs.Served.{IsServedOp}
 use Rattle.arc_ops.specs.Thread.{Thread, value, is_held, put, set_var}
 use Rattle.arc_ops.specs.Plans.{drop_begun, op_of}
-use Rattle.arc_ops.specs.Cells.{global_of, clear_begun}
-use Rattle.arc_ops.specs.Begins.{skipped, begun_nil, begun_gain, moved, begun_move, begun_drop, begun_op, block_goes_on, phase_over, begun_at, begun, scope_drop, has_globals, scope_at, scope_begun, next_op}
-use Rattle.arc_ops.specs.Drops.{replaced_old, replaced}
+use Rattle.arc_ops.specs.Cells.{clear_begun}
+use Rattle.arc_ops.specs.Begins.{skipped, begun_nil, begun_gain, moved, begun_move, begun_drop, block_goes_on, phase_over, begun_at, scope_drop, has_globals, scope_at, scope_begun}
 use Rattle.arc_ops.specs.Thread as thread
 use Rattle.arc_spelled.specs.Came.{CameOut}
-use Rattle.arc_spelled.specs.Shown.{ReadsName, FindsReference, FindsNoEntry, Says, Adds, with_act, with_event}
-use Rattle.arc_spelled.specs.Shown.ReadsName.{nothing as read_nothing, name as read_name}
+use Rattle.arc_spelled.specs.Shown.{Reads, FindsReference, FindsEntry, Says, Adds, with_act, with_event}
+use Rattle.arc_spelled.specs.Shown.Reads.{nothing as read_nothing, name as read_name, nil_field, reference}
 use Rattle.arc_spelled.specs.Shown.FindsReference.{nothing as refers_nothing, refers}
-use Rattle.arc_spelled.specs.Shown.FindsNoEntry.{nothing as found_nothing, no_entry}
+use Rattle.arc_spelled.specs.Shown.FindsEntry.{nothing as found_nothing, entry as found_entry}
 use Rattle.arc_spelled.specs.Shown.Says.{nothing, line, operation}
-use Rattle.arc_spelled.specs.StepperStands.{Work, IsServedWork, held_of, held_in, variables, AreOfKinds, AreDone, IsInScope, HasCleared, IsAtEnd, IsOverIf, IsOver, HasEnded, DropEnds, WorksOn, first_lines, IsCounted, number_at, IsOfPhaseIf, IsOfPhase, StandsFor}
-use Rattle.arc_spelled.proofs.KindsKept.{holds-at, FitsKind, fits-some, kinds-set, kinds-nil, counted-in}
+use Rattle.arc_spelled.specs.StepperStands.{Work, IsServedWork, held_of, held_in, variables, AreOfKinds, AreDone, IsInScope, HasCleared, IsAtEnd, IsOver, HasEnded, DropEnds, WorksOn, first_lines, IsCounted, number_at, IsOfPhase, StandsFor}
+use Rattle.arc_spelled.proofs.KindsKept.{holds-at, fits-some, kinds-set, kinds-nil, counted-in}
 
 -- ---- variables
 
@@ -126,22 +125,23 @@ pub counted-operation : (w : Work) (hands made : ℕ) (kept : Kept) (n : ℕ) (n
 counted-operation w hands made kept n now c = record { hands_are = c.hands_are; made_is = c.made_is; lines_are = c.lines_are }
 
 -- the line of an operation that is done at once
-skipped-line : (w : Work) (t : Thread) (a : Answer) (now : List Note) → WorksOn w t.layout t.shape t.thread t.phases t.program t.vars → IsCounted w t.hands t.made t.kept (Operation (ordinal w.program t.index) ∷ now) →
+pub skipped-line : (w : Work) (t : Thread) (a : Answer) (now : List Note) → WorksOn w t.layout t.shape t.thread t.phases t.program t.classes t.vars → IsCounted w t.hands t.made t.kept (Operation (ordinal w.program t.index) ∷ now) →
     IsCounted w t.hands t.made (with_line (record { operation = ordinal t.program t.index; answer = a }) t.kept) (Line a ∷ Operation (ordinal w.program t.index) ∷ now)
 skipped-line w t a now works c = counted-line w t.hands t.made t.kept (ordinal t.program t.index) a (Operation (ordinal w.program t.index) ∷ now) (ap (λ (p : List Op). ordinal p t.index) works.program_is) c
 
 -- the number that the stepper gives a line is that of the notes
-pub number-here : (w : Work) (t : Thread) (now : List Note) → WorksOn w t.layout t.shape t.thread t.phases t.program t.vars → number_of now ≡ number_at w t.index → thread.number_of t ≡ number_of now
+pub number-here : (w : Work) (t : Thread) (now : List Note) → WorksOn w t.layout t.shape t.thread t.phases t.program t.classes t.vars → number_of now ≡ number_at w t.index → thread.number_of t ≡ number_of now
 number-here w t now works e = ap (λ (p : List Op). cond (ltb t.index (length p)) (ordinal p t.index) 0) works.program_is ∙ sym e
 
 -- it works on the same over other variables
-pub works-over : (w : Work) (t : Thread) {vars : List (Option Held)} → WorksOn w t.layout t.shape t.thread t.phases t.program t.vars → AreOfKinds w.kinds vars → WorksOn w t.layout t.shape t.thread t.phases t.program vars
+pub works-over : (w : Work) (t : Thread) {vars : List (Option Held)} → WorksOn w t.layout t.shape t.thread t.phases t.program t.classes t.vars → AreOfKinds w.kinds vars → WorksOn w t.layout t.shape t.thread t.phases t.program t.classes vars
 works-over w t works kinds = record {
   layout_is = works.layout_is;
   shape_is = works.shape_is;
   thread_is = works.thread_is;
   phases_is = works.phases_is;
   program_is = works.program_is;
+  classes_are = works.classes_are;
   kinds = kinds;
 }
 
@@ -161,29 +161,35 @@ acts-with : (e : Option Act) (ns : List Note) → acts_of (with_act e ns) ≡ wi
 acts-with None ns = refl
 acts-with (Some a) ns = refl
 
-acts-read : {layout : Extent} {asked : Option (Step × Intent)} {last : Option ℕ} {b ns : List Note} → ReadsName layout asked last b ns → acts_of ns ≡ acts_of b
+acts-read : {shape : HeapShape} {layout : Extent} {asked : Option (Step × Intent)} {last : Option ℕ} {b ns : List Note} → Reads shape layout asked last b ns → acts_of ns ≡ acts_of b
 acts-read read_nothing = refl
 acts-read (read_name a n l) = refl
+acts-read (nil_field a l n f) = refl
+acts-read (reference a l r n f) = refl
 
-acts-found : {layout : Extent} {asked : Option (Step × Intent)} {last : Option ℕ} {e : Option Act} {b ns : List Note} → FindsNoEntry layout asked last e b ns → acts_of ns ≡ acts_of b
+acts-found : {layout : Extent} {asked : Option (Step × Intent)} {last : Option ℕ} {e : Option Act} {b ns : List Note} → FindsEntry layout asked last e b ns → acts_of ns ≡ acts_of b
 acts-found found_nothing = refl
-acts-found (no_entry a l n w c) = refl
+acts-found (found_entry e a t l c) = refl
 
 acts-referred : {e : Option Act} {out : Option CameOut} {b ns : List Note} → FindsReference e out b ns → acts_of ns ≡ acts_of b
 acts-referred refers_nothing = refl
 acts-referred (refers o e) = refl
 
 -- the event that is told is the newest of the events
-pub acts-added : {layout : Extent} {asked : Option (Step × Intent)} {last : Option ℕ} {out : Option CameOut} {b ns : List Note} (e : Option Act) → Adds layout asked last e out b ns → acts_of ns ≡ with_event e (acts_of b)
+pub acts-added : {shape : HeapShape} {layout : Extent} {asked : Option (Step × Intent)} {last : Option ℕ} {out : Option CameOut} {b ns : List Note} (e : Option Act) → Adds shape layout asked last e out b ns → acts_of ns ≡ with_event e (acts_of b)
 acts-added e a =
     acts-said a.says ∙ acts-found a.shows.finds ∙ acts-with e a.shows.referred ∙ ap (λ (acts : List Act). with_event e acts) (acts-referred a.shows.refers ∙ acts-read a.shows.reads)
 
--- a stepper that has come to its place, behind lines and beginnings of operations
-pub record Comes (w : Work) (t : Thread) (e : Option Act) (now : List Note) : Type 0 where
+-- a stepper that has come to its place, behind lines and beginnings of operations, under a chain of deinits that wait
+pub record ComesUnder (w : Work) (t : Thread) (e : Option Act) (fs : List Frame) (now : List Note) : Type 0 where
   pub after : List Note
   pub says : Says now after
   pub event : t.event ≡ e
-  pub stands : StandsFor w t after
+  pub stands : StandsFor w t fs after
+
+-- and where none waits
+abbrev pub Comes : Work → Thread → Option Act → List Note → Type 0
+Comes w t e now = ComesUnder w t e [] now
 
 pub comes-after : (w : Work) (t : Thread) (e : Option Act) (b now : List Note) → Says b now → Comes w t e now → Comes w t e b
 comes-after w t e b now s c = record { after = c.after; says = says-on s c.says; event = c.event; stands = c.stands }
@@ -196,7 +202,7 @@ number-within w i within = rw (lt-ltb i (length w.program) within) refl
 pub over-done : (w : Work) (i : ℕ) (vars : List (Option Held)) (cleared : ℕ) (now : List Note) → i < length w.program → AreDone w (i + 1) vars now → IsOver w i vars cleared now
 over-done w i vars cleared now within d = rw (lt-ltb i (length w.program) within) d
 
-served-at : (w : Work) (i : ℕ) (o : Op) → IsServedWork w → slice_get w.program i ≡ Some o → IsServedOp o
+pub served-at : (w : Work) (i : ℕ) (o : Op) → IsServedWork w → slice_get w.program i ≡ Some o → IsServedOp o
 served-at w i o served there = holds-at IsServedOp w.program i o served.ops there
 
 get-drop_suc : {X : Type 0} (xs rest : List X) (i : ℕ) (x : X) → x ∷ rest ≡ drop i xs → (slice_get xs i ≡ Some x) × (rest ≡ drop (suc i) xs)
@@ -205,7 +211,7 @@ get-drop_suc [] rest (suc i) x e = absurd (cc)
 get-drop_suc (y ∷ xs) rest zero x e = (cc, cc)
 get-drop_suc (y ∷ xs) rest (suc i) x e = get-drop_suc xs rest i x e
 
-get-drop : {X : Type 0} (xs rest : List X) (i : ℕ) (x : X) → x ∷ rest ≡ drop i xs → (slice_get xs i ≡ Some x) × (rest ≡ drop (i + 1) xs)
+pub get-drop : {X : Type 0} (xs rest : List X) (i : ℕ) (x : X) → x ∷ rest ≡ drop i xs → (slice_get xs i ≡ Some x) × (rest ≡ drop (i + 1) xs)
 get-drop xs rest i x e = rw add-one (get-drop_suc xs rest i x e)
 
 nothing-left : {X : Type 0} (xs : List X) (i : ℕ) → [] ≡ drop i xs → length xs ≤ i
@@ -214,8 +220,8 @@ nothing-left (y ∷ xs) zero e = absurd (cc)
 nothing-left (y ∷ xs) (suc i) e = let h = nothing-left xs i e in omega arith
 
 -- a drop begins
-pub drop-asks : (w : Work) (t : Thread) (held : Held) (now : List Note) → WorksOn w t.layout t.shape t.thread t.phases t.program t.vars → IsCounted w t.hands t.made t.kept now → number_of now ≡ number_at w t.index →
-    IsOfPhase w t.phase t.index → IsCountedInline held.kind → DropEnds w t.index held t.vars t.cleared now → StandsFor w (drop_begun held t) now
+pub drop-asks : (w : Work) (t : Thread) (held : Held) (now : List Note) → WorksOn w t.layout t.shape t.thread t.phases t.program t.classes t.vars → IsCounted w t.hands t.made t.kept now → number_of now ≡ number_at w t.index →
+    IsOfPhase w t.phase t.index → IsCountedInline held.kind → DropEnds w t.index held t.vars t.cleared now → StandsFor w (drop_begun held t) [] now
 drop-asks w t held now works counts number phase counted ends = record {
   works = works;
   in_phase = phase;
@@ -228,7 +234,7 @@ drop-asks w t held now works counts number phase counted ends = record {
 -- ---- the end of the scope
 
 -- nothing is left to do
-ended : (w : Work) (t : Thread) (now : List Note) → WorksOn w t.layout t.shape t.thread t.phases t.program t.vars → IsCounted w t.hands t.made t.kept now → HasEnded (eqb w.thread 0) w now →
+ended : (w : Work) (t : Thread) (now : List Note) → WorksOn w t.layout t.shape t.thread t.phases t.program t.classes t.vars → IsCounted w t.hands t.made t.kept now → HasEnded (eqb w.thread 0) w now →
     Comes w (record t { doing = Ended; asked = moves.Ended }) t.event now
 ended w t now works counts u = record {
   after = now;
@@ -248,7 +254,7 @@ few-cleared (global_nil c within e) = omega (arith, e)
 few-cleared (global_cleared c within e k there x) = omega (arith, e)
 
 -- of a thread that has one
-scopes : (w : Work) → IsServedWork w → (t : Thread) (now : List Note) → WorksOn w t.layout t.shape t.thread t.phases t.program t.vars → IsCounted w t.hands t.made t.kept now → ltb t.index (length w.program) ≡ false → number_of now ≡ 0 →
+scopes : (w : Work) → IsServedWork w → (t : Thread) (now : List Note) → WorksOn w t.layout t.shape t.thread t.phases t.program t.classes t.vars → IsCounted w t.hands t.made t.kept now → ltb t.index (length w.program) ≡ false → number_of now ≡ 0 →
     length w.phases ≤ t.phase + 1 → eqb w.thread 0 ≡ false → IsInScope w t.vars now → Comes w (scope_begun t) t.event now
 scopes w served t now works counts past number last scoped s = go (position is_held t.vars) refl
   where
@@ -318,7 +324,7 @@ scopes w served t now works counts past number last scoped s = go (position is_h
         at (Some h) f g = held v h f found.0 found.2
 
 -- thread 0 clears its next global, or has cleared all
-clears : (w : Work) (t : Thread) (now : List Note) → WorksOn w t.layout t.shape t.thread t.phases t.program t.vars → IsCounted w t.hands t.made t.kept now → ltb t.index (length w.program) ≡ false → number_of now ≡ 0 →
+clears : (w : Work) (t : Thread) (now : List Note) → WorksOn w t.layout t.shape t.thread t.phases t.program t.classes t.vars → IsCounted w t.hands t.made t.kept now → ltb t.index (length w.program) ≡ false → number_of now ≡ 0 →
     length w.phases ≤ t.phase + 1 → eqb w.thread 0 ≡ true → HasCleared w t.vars t.cleared now → Comes w (scope_begun t) t.event now
 clears w t now works counts past number last ends c = rw (no-variable t.vars c.no_vars, first_zero) (go (ltb t.cleared (length w.shape.globals)) refl)
   where
@@ -346,7 +352,7 @@ clears w t now works counts past number last ends c = rw (no-variable t.vars c.n
         ended w t now works counts (rw ends (rw (sym all) c.globals))
 
 -- the scope ends, or thread 0 clears the globals
-ends-on : (w : Work) → IsServedWork w → (t : Thread) (now : List Note) → WorksOn w t.layout t.shape t.thread t.phases t.program t.vars → IsCounted w t.hands t.made t.kept now → ltb t.index (length w.program) ≡ false → number_of now ≡ 0 →
+pub ends-on : (w : Work) → IsServedWork w → (t : Thread) (now : List Note) → WorksOn w t.layout t.shape t.thread t.phases t.program t.classes t.vars → IsCounted w t.hands t.made t.kept now → ltb t.index (length w.program) ≡ false → number_of now ≡ 0 →
     length w.phases ≤ t.phase + 1 → IsAtEnd (eqb w.thread 0) w t.vars t.cleared now → Comes w (scope_begun t) t.event now
 ends-on w served t now works counts past number last s = go (eqb w.thread 0) refl s
   where
@@ -356,21 +362,21 @@ ends-on w served t now works counts past number last s = go (eqb w.thread 0) ref
 
 -- ---- the operations of a phase
 
-get-take : {X : Type 0} (n : ℕ) (xs : List X) (i : ℕ) (x : X) → slice_get (take n xs) i ≡ Some x → (slice_get xs i ≡ Some x) × (i < n)
+pub get-take : {X : Type 0} (n : ℕ) (xs : List X) (i : ℕ) (x : X) → slice_get (take n xs) i ≡ Some x → (slice_get xs i ≡ Some x) × (i < n)
 get-take zero xs i x e = absurd (cc)
 get-take (suc n) [] i x e = absurd (cc)
 get-take (suc n) (y ∷ xs) zero x e = (e, omega arith)
 get-take (suc n) (y ∷ xs) (suc i) x e = let h = get-take n xs i x e in (h.0, omega arith)
 
 -- the operation at this place of the phase that is under way, and the rest of the phase behind it
-record IsHere (w : Work) (t : Thread) (o : Op) (rest : List Op) : Type 0 where
-  there : slice_get w.program t.index ≡ Some o
-  within : t.index < length w.program
-  in_phase : IsOfPhase w t.phase t.index
-  before_end : t.index + 1 ≤ ops_in_first (t.phase + 1) w.phases
-  behind : rest ≡ drop (t.index + 1) (take (ops_in_first (t.phase + 1) w.phases) w.program)
+pub record IsHere (w : Work) (t : Thread) (o : Op) (rest : List Op) : Type 0 where
+  pub there : slice_get w.program t.index ≡ Some o
+  pub within : t.index < length w.program
+  pub in_phase : IsOfPhase w t.phase t.index
+  pub before_end : t.index + 1 ≤ ops_in_first (t.phase + 1) w.phases
+  pub behind : rest ≡ drop (t.index + 1) (take (ops_in_first (t.phase + 1) w.phases) w.program)
 
-is-here : (w : Work) (t : Thread) (o : Op) (rest : List Op) → o ∷ rest ≡ drop t.index (take (ops_in_first (t.phase + 1) w.phases) w.program) → IsHere w t o rest
+pub is-here : (w : Work) (t : Thread) (o : Op) (rest : List Op) → o ∷ rest ≡ drop t.index (take (ops_in_first (t.phase + 1) w.phases) w.program) → IsHere w t o rest
 is-here w t o rest r =
     let g = get-drop (take (ops_in_first (t.phase + 1) w.phases) w.program) rest t.index o r in
     let here = get-take (ops_in_first (t.phase + 1) w.phases) w.program t.index o g.0 in
@@ -390,7 +396,7 @@ nothing-done w i vars now empty bare d = go empty bare d
     go {program = program} empty bare (one_done {i = i} {o = o} d there e x) = absurd (none-there program i o empty there)
     go {program = program} empty bare (block {i = i} {o = o} d there b n f) = absurd (none-there program i o empty there)
 
-no-operation : (w : Work) → IsServedWork w → (i : ℕ) (o : Op) → slice_get w.program i ≡ Some o → w.thread ≡ 0 → ⊥
+pub no-operation : (w : Work) → IsServedWork w → (i : ℕ) (o : Op) → slice_get w.program i ≡ Some o → w.thread ≡ 0 → ⊥
 no-operation w served i o there first = none-there w.program i o (served.clearing first).0 there
 
 -- before its operations a thread has cleared no global, where it is thread 0
@@ -398,7 +404,7 @@ abbrev pub Uncleared : Work → ℕ → Type 0
 Uncleared w cleared = w.thread ≡ 0 → cleared ≡ 0
 
 -- the operations of the phase are done: it waits for the next phase, or the scope ends
-ends-phase : (w : Work) → IsServedWork w → (at : ℕ) (t : Thread) (now : List Note) → WorksOn w t.layout t.shape t.thread t.phases t.program t.vars → IsCounted w t.hands t.made t.kept now →
+pub ends-phase : (w : Work) → IsServedWork w → (at : ℕ) (t : Thread) (now : List Note) → WorksOn w t.layout t.shape t.thread t.phases t.program t.classes t.vars → IsCounted w t.hands t.made t.kept now →
     [] ≡ drop at (take (ops_in_first (t.phase + 1) w.phases) w.program) → at ≤ t.index → t.index ≤ ops_in_first (t.phase + 1) w.phases → AreDone w t.index t.vars now → Uncleared w t.cleared → Comes w (phase_over t) t.event now
 ends-phase w served at t now works counts r past_it before d none = subst P (sym works.phases_is) (go (ltb (t.phase + 1) (length w.phases)) refl)
   where
@@ -454,12 +460,12 @@ ends-phase w served at t now works counts r past_it before d none = subst P (sym
     go false e = ending (ltb-false (t.phase + 1) (length w.phases) e)
 
 -- an operation that is next, with what every operation needs
-record Opens (w : Work) (t : Thread) (now : List Note) (o : Op) : Type 0 where
-  next : IsNext w.shape w.thread w.came w.program w.count t.index o (variables t.vars) now
-  number : number_of (Operation (ordinal w.program t.index) ∷ now) ≡ number_at w t.index
-  opened : IsCounted w t.hands t.made t.kept (Operation (ordinal w.program t.index) ∷ now)
+pub record Opens (w : Work) (t : Thread) (now : List Note) (o : Op) : Type 0 where
+  pub next : IsNext w.shape w.thread w.came w.program w.count t.index o (variables t.vars) now
+  pub number : number_of (Operation (ordinal w.program t.index) ∷ now) ≡ number_at w t.index
+  pub opened : IsCounted w t.hands t.made t.kept (Operation (ordinal w.program t.index) ∷ now)
 
-opens : (w : Work) (t : Thread) (now : List Note) (o : Op) (rest : List Op) → IsHere w t o rest → IsCounted w t.hands t.made t.kept now → AreDone w t.index t.vars now → Opens w t now o
+pub opens : (w : Work) (t : Thread) (now : List Note) (o : Op) (rest : List Op) → IsHere w t o rest → IsCounted w t.hands t.made t.kept now → AreDone w t.index t.vars now → Opens w t now o
 opens w t now o rest here counts d = record {
   next = record { done = d; there = here.there };
   number = sym (number-within w t.index here.within);
@@ -467,7 +473,7 @@ opens w t now o rest here counts d = record {
 }
 
 -- a nil reference is taken for a variable
-from-nil : (w : Work) → IsServedWork w → (t : Thread) (now : List Note) (o : Op) (rest : List Op) (to : ℕ) (go : Thread → Thread) → WorksOn w t.layout t.shape t.thread t.phases t.program t.vars → IsHere w t o rest → Opens w t now o →
+pub from-nil : (w : Work) → IsServedWork w → (t : Thread) (now : List Note) (o : Op) (rest : List Op) (to : ℕ) (go : Thread → Thread) → WorksOn w t.layout t.shape t.thread t.phases t.program t.classes t.vars → IsHere w t o rest → Opens w t now o →
     IsFromNil (variables t.vars) o to →
     (AreDone w (t.index + 1) t.vars (Line answers.Nil ∷ Operation (ordinal w.program t.index) ∷ now) → Comes w (go (skipped answers.Nil t)) t.event (Line answers.Nil ∷ Operation (ordinal w.program t.index) ∷ now)) →
     Comes w (begun_nil to (value t.vars to) t go) t.event now
@@ -492,7 +498,7 @@ from-nil w served t now o rest to go works here x nil skip = at (value t.vars to
         comes-after w (go (skipped answers.Nil t)) t.event now (Line answers.Nil ∷ Operation (ordinal w.program t.index) ∷ now) (line (operation nothing)) (skip (rw same at (answers_last x.next (answered None e))))
 
 -- a reference is gained from that in another variable
-gaining : (w : Work) → IsServedWork w → (t : Thread) (now : List Note) (gain : Gain) (to of : ℕ) (rest : List Op) (go : Thread → Thread) → WorksOn w t.layout t.shape t.thread t.phases t.program t.vars → IsHere w t (op_of gain to of) rest →
+pub gaining : (w : Work) → IsServedWork w → (t : Thread) (now : List Note) (gain : Gain) (to of : ℕ) (rest : List Op) (go : Thread → Thread) → WorksOn w t.layout t.shape t.thread t.phases t.program t.classes t.vars → IsHere w t (op_of gain to of) rest →
     Opens w t now (op_of gain to of) → AreDone w t.index t.vars now →
     (AreDone w (t.index + 1) t.vars (Line answers.Nil ∷ Operation (ordinal w.program t.index) ∷ now) → Comes w (go (skipped answers.Nil t)) t.event (Line answers.Nil ∷ Operation (ordinal w.program t.index) ∷ now)) →
     Comes w (begun_gain gain to (value t.vars of) (value t.vars to) t go) t.event now
@@ -520,7 +526,7 @@ gaining w served t now gain to of rest go works here x d skip = at (value t.vars
     at None e = from-nil w served t now (op_of gain to of) rest to go works here x (nil gain (value-held t.vars of None e)) skip
 
 -- a reference is moved
-moving : (w : Work) → IsServedWork w → (t : Thread) (now : List Note) (to from : ℕ) (rest : List Op) (go : Thread → Thread) → WorksOn w t.layout t.shape t.thread t.phases t.program t.vars → IsHere w t (op.Move to from) rest →
+pub moving : (w : Work) → IsServedWork w → (t : Thread) (now : List Note) (to from : ℕ) (rest : List Op) (go : Thread → Thread) → WorksOn w t.layout t.shape t.thread t.phases t.program t.classes t.vars → IsHere w t (op.Move to from) rest →
     Opens w t now (op.Move to from) →
     (AreDone w (t.index + 1) t.vars (Line answers.Nil ∷ Operation (ordinal w.program t.index) ∷ now) → Comes w (go (skipped answers.Nil t)) t.event (Line answers.Nil ∷ Operation (ordinal w.program t.index) ∷ now)) →
     ((held : Held) → AreOfKinds w.kinds (set (set t.vars to (Some held)) from None) → AreDone w (t.index + 1) (set (set t.vars to (Some held)) from None) (Line answers.Ok ∷ Operation (ordinal w.program t.index) ∷ now) →
@@ -530,7 +536,7 @@ moving w served t now to from rest go works here x skip move = at (value t.vars 
   where
     kinds : (h : Held) → value t.vars from ≡ Some h → AreOfKinds w.kinds (set (set t.vars to (Some h)) from None)
     kinds h e =
-        let fits : h.kind ≡ kind_of w.kinds to = works.kinds from h e ∙ sym (holds-at (KindsFit w.shape.globals w.kinds) w.program t.index (op.Move to from) served.kinds_fit here.there) in
+        let fits : h.kind ≡ kind_of w.kinds to = works.kinds from h e ∙ sym (holds-at (KindsFit w.shape w.classes w.kinds) w.program t.index (op.Move to from) served.kinds_fit here.there) in
         kinds-nil w.kinds (set t.vars to (Some h)) from (kinds-set w.kinds t.vars to (Some h) (fits-some w.kinds to h fits) works.kinds)
 
     replaced_vars : (h : Held) → variables (set (set t.vars to (Some h)) from None) ≡ put_var (put_var (variables t.vars) to (Some (held_of h))) from None
@@ -560,7 +566,7 @@ moving w served t now to from rest go works here x skip move = at (value t.vars 
     at None e = from-nil w served t now (op.Move to from) rest to go works here x (move_from_nil (value-held t.vars from None e)) skip
 
 -- a reference is dropped
-dropping : (w : Work) → IsServedWork w → (t : Thread) (now : List Note) (v : ℕ) (rest : List Op) (go : Thread → Thread) → WorksOn w t.layout t.shape t.thread t.phases t.program t.vars → IsHere w t (op.Drop v) rest → Opens w t now (op.Drop v) →
+pub dropping : (w : Work) → IsServedWork w → (t : Thread) (now : List Note) (v : ℕ) (rest : List Op) (go : Thread → Thread) → WorksOn w t.layout t.shape t.thread t.phases t.program t.classes t.vars → IsHere w t (op.Drop v) rest → Opens w t now (op.Drop v) →
     (AreDone w (t.index + 1) t.vars (Line answers.Nil ∷ Operation (ordinal w.program t.index) ∷ now) → Comes w (go (skipped answers.Nil t)) t.event (Line answers.Nil ∷ Operation (ordinal w.program t.index) ∷ now)) →
     Comes w (begun_drop v (value t.vars v) t go) t.event now
 dropping w served t now v rest go works here x skip = at (value t.vars v) refl
@@ -580,12 +586,12 @@ dropping w served t now v rest go works here x skip = at (value t.vars v) refl
         (skip (answers_last x.next (drop_of_nil w.thread v w.came (variables t.vars) (Operation (ordinal w.program t.index) ∷ now) (value-held t.vars v None e))))
 
 -- what goes on behind an operation of the phase
-abbrev GoesOnBehind : Work → ℕ → List Op → ℕ → Type 0
-GoesOnBehind w at rest phase = (u : Thread) (ns : List Note) → WorksOn w u.layout u.shape u.thread u.phases u.program u.vars → IsCounted w u.hands u.made u.kept ns → u.phase ≡ phase →
+abbrev pub GoesOnBehind : Work → ℕ → List Op → ℕ → Type 0
+GoesOnBehind w at rest phase = (u : Thread) (ns : List Note) → WorksOn w u.layout u.shape u.thread u.phases u.program u.classes u.vars → IsCounted w u.hands u.made u.kept ns → u.phase ≡ phase →
     at + 1 ≤ u.index → u.index ≤ ops_in_first (phase + 1) w.phases → AreDone w u.index u.vars ns → Comes w (begun_at (at + 1) rest u) u.event ns
 
 -- a variable holds a reference for the stepper exactly where it does for the notes
-same-held : (vars : List (Option Held)) (v : ℕ) → is_some (programs.value (variables vars) v) ≡ is_held (value vars v)
+pub same-held : (vars : List (Option Held)) (v : ℕ) → is_some (programs.value (variables vars) v) ≡ is_held (value vars v)
 same-held vars v = ap is_some (value-held vars v (value vars v) refl) ∙ go (value vars v)
   where
     go : (o : Option Held) → is_some (held_in o) ≡ is_held o
@@ -593,7 +599,7 @@ same-held vars v = ap is_some (value-held vars v (value vars v) refl) ∙ go (va
     go (Some h) = refl
 
 -- a block begins: the thread goes on in it, or behind it
-comes-to-block : (w : Work) → IsServedWork w → (at : ℕ) (o : Op) (rest : List Op) (t : Thread) (now : List Note) → WorksOn w t.layout t.shape t.thread t.phases t.program t.vars → IsCounted w t.hands t.made t.kept now → at ≡ t.index →
+pub comes-to-block : (w : Work) → IsServedWork w → (at : ℕ) (o : Op) (rest : List Op) (t : Thread) (now : List Note) → WorksOn w t.layout t.shape t.thread t.phases t.program t.classes t.vars → IsCounted w t.hands t.made t.kept now → at ≡ t.index →
     IsHere w t o rest → AreDone w t.index t.vars now → GoesOnBehind w at rest t.phase → begins_block o ≡ true → (n : ℕ) → block_goes_on t.vars t.index o ≡ Some n → n ≡ programs_go_on (variables t.vars) t.index o →
     Comes w (begun_at (at + 1) rest (record t { index = n })) t.event now
 comes-to-block w served at o rest t now works counts place here d on begins n goes same =
@@ -604,179 +610,9 @@ comes-to-block w served at o rest t now works counts place here d on begins n go
     on (record t { index = n }) now works counts refl (omega (arith, past, place)) forth.1 (block d here.there begins same past)
 
 -- an operation begins that gains a reference
-comes-to-gain : (w : Work) → IsServedWork w → (at : ℕ) (gain : Gain) (to of : ℕ) (rest : List Op) (t : Thread) (now : List Note) → WorksOn w t.layout t.shape t.thread t.phases t.program t.vars → IsCounted w t.hands t.made t.kept now → at ≡ t.index →
+pub comes-to-gain : (w : Work) → IsServedWork w → (at : ℕ) (gain : Gain) (to of : ℕ) (rest : List Op) (t : Thread) (now : List Note) → WorksOn w t.layout t.shape t.thread t.phases t.program t.classes t.vars → IsCounted w t.hands t.made t.kept now → at ≡ t.index →
     IsHere w t (op_of gain to of) rest → AreDone w t.index t.vars now → GoesOnBehind w at rest t.phase → Comes w (begun_gain gain to (value t.vars of) (value t.vars to) t (λ behind. begun_at (at + 1) rest behind)) t.event now
 comes-to-gain w served at gain to of rest t now works counts place here d on =
     let x = opens w t now (op_of gain to of) rest here counts d in
     gaining w served t now gain to of rest (λ behind. begun_at (at + 1) rest behind) works here x d
     (λ done. on (skipped answers.Nil t) (Line answers.Nil ∷ Operation (ordinal w.program t.index) ∷ now) works (skipped-line w t answers.Nil now works x.opened) refl (omega (arith, place)) here.before_end done)
-
--- the operation begins where the thread stands
-comes-to : (w : Work) → IsServedWork w → (at : ℕ) (o : Op) (rest : List Op) (t : Thread) (now : List Note) → WorksOn w t.layout t.shape t.thread t.phases t.program t.vars → IsCounted w t.hands t.made t.kept now → at ≡ t.index →
-    IsHere w t o rest → AreDone w t.index t.vars now → GoesOnBehind w at rest t.phase → Comes w (begun_op o t (λ behind. begun_at (at + 1) rest behind)) t.event now
-comes-to w served at (op.New to class) rest t now works counts place here d on = record {
-  after = Operation (ordinal w.program t.index) ∷ now;
-  says = operation nothing;
-  event = refl;
-  stands = record {
-    works = works;
-    in_phase = here.in_phase;
-    counts = counted-operation w t.hands t.made t.kept (ordinal w.program t.index) now counts;
-    number = sym (number-within w t.index here.within);
-    asks = tt;
-    up_to = record {
-      begun = record { base = now; done = d; there = here.there; now_is = refl };
-      named = rw (works.thread_is, counts.made_is) refl;
-    };
-  };
-}
-comes-to w served at (op.Copy to from) rest t now works counts place here d on = comes-to-gain w served at gains.Copy to from rest t now works counts place here d on
-comes-to w served at (op.Unown to of) rest t now works counts place here d on = comes-to-gain w served at gains.Unown to of rest t now works counts place here d on
-comes-to w served at (op.Load to of) rest t now works counts place here d on = comes-to-gain w served at gains.Load to of rest t now works counts place here d on
-comes-to w served at (op.Move to from) rest t now works counts place here d on =
-    let x = opens w t now (op.Move to from) rest here counts d in
-    moving w served t now to from rest (λ behind. begun_at (at + 1) rest behind) works here x
-    (λ done. on (skipped answers.Nil t) (Line answers.Nil ∷ Operation (ordinal w.program t.index) ∷ now) works (skipped-line w t answers.Nil now works x.opened) refl (omega (arith, place)) here.before_end done)
-    (λ held kinds done. on (moved to from held (skipped answers.Ok t)) (Line answers.Ok ∷ Operation (ordinal w.program t.index) ∷ now) (works-over w t works kinds) (skipped-line w t answers.Ok now works x.opened) refl (omega (arith, place)) here.before_end done)
-comes-to w served at (op.Drop v) rest t now works counts place here d on =
-    let x = opens w t now (op.Drop v) rest here counts d in
-    dropping w served t now v rest (λ behind. begun_at (at + 1) rest behind) works here x
-    (λ done. on (skipped answers.Nil t) (Line answers.Nil ∷ Operation (ordinal w.program t.index) ∷ now) works (skipped-line w t answers.Nil now works x.opened) refl (omega (arith, place)) here.before_end done)
-comes-to w served at (op.IfNil v to) rest t now works counts place here d on =
-    comes-to-block w served at (op.IfNil v to) rest t now works counts place here d on refl (cond (is_held (value t.vars v)) to (t.index + 1)) refl (ap (λ (b : Bool). cond b to (t.index + 1)) (sym (same-held t.vars v)))
-comes-to w served at (op.IfSome v to) rest t now works counts place here d on =
-    comes-to-block w served at (op.IfSome v to) rest t now works counts place here d on refl (cond (is_held (value t.vars v)) (t.index + 1) to) refl (ap (λ (b : Bool). cond b (t.index + 1) to) (sym (same-held t.vars v)))
-comes-to w served at (op.Weak to of) rest t now works counts place here d on = absurd (served-at w t.index (op.Weak to of) served here.there)
-comes-to w served at (op.Get to (opcell.Global g)) rest t now works counts place here d on = record {
-  after = Operation (ordinal w.program t.index) ∷ now;
-  says = operation nothing;
-  event = refl;
-  stands = record {
-    works = works;
-    in_phase = here.in_phase;
-    counts = counted-operation w t.hands t.made t.kept (ordinal w.program t.index) now counts;
-    number = sym (number-within w t.index here.within);
-    asks = tt;
-    up_to = record {
-      global = g;
-      begun = record { base = now; done = d; there = here.there; now_is = refl };
-      cell_is = ap (λ (shape : HeapShape). global_of shape g) works.shape_is;
-    };
-  };
-}
-comes-to w served at (op.Set (opcell.Global g) from) rest t now works counts place here d on = record {
-  after = Operation (ordinal w.program t.index) ∷ now;
-  says = operation nothing;
-  event = refl;
-  stands = record {
-    works = works;
-    in_phase = here.in_phase;
-    counts = counted-operation w t.hands t.made t.kept (ordinal w.program t.index) now counts;
-    number = sym (number-within w t.index here.within);
-    asks = tt;
-    up_to = record {
-      global = g;
-      begun = record { base = now; done = d; there = here.there; now_is = refl };
-      cell_is = ap (λ (shape : HeapShape). global_of shape g) works.shape_is;
-    };
-  };
-}
-comes-to w served at (op.Get to (opcell.Field owner field)) rest t now works counts place here d on = absurd (served-at w t.index (op.Get to (opcell.Field owner field)) served here.there)
-comes-to w served at (op.Set (opcell.Field owner field) from) rest t now works counts place here d on = absurd (served-at w t.index (op.Set (opcell.Field owner field) from) served here.there)
-
--- the thread has gone past the operation, or it begins
-passes-or-comes : (w : Work) → IsServedWork w → (at : ℕ) (o : Op) (rest : List Op) (t : Thread) (now : List Note) → WorksOn w t.layout t.shape t.thread t.phases t.program t.vars → IsCounted w t.hands t.made t.kept now →
-    o ∷ rest ≡ drop at (take (ops_in_first (t.phase + 1) w.phases) w.program) → at ≤ t.index → t.index ≤ ops_in_first (t.phase + 1) w.phases → AreDone w t.index t.vars now → GoesOnBehind w at rest t.phase → Comes w (begun_at at (o ∷ rest) t) t.event now
-passes-or-comes w served at o rest t now works counts r past before d on = go (ltb at t.index) refl
-  where
-    go : (b : Bool) → ltb at t.index ≡ b → Comes w (cond b (begun_at (at + 1) rest t) (begun_op o t (λ behind. begun_at (at + 1) rest behind))) t.event now
-    go true e = let less = ltb-true at t.index e in on t now works counts refl (omega (arith, less)) before d
-    go false e =
-        let not_less = ltb-false at t.index e in
-        let place : at ≡ t.index = omega (arith, past, not_less) in
-        let P : ℕ → Type 0 = λ (i : ℕ). o ∷ rest ≡ drop i (take (ops_in_first (t.phase + 1) w.phases) w.program) in
-        comes-to w served at o rest t now works counts place (is-here w t o rest (subst P place r)) d on
-
--- thread 0 has no operation
-some-left : (w : Work) → IsServedWork w → (at : ℕ) (o : Op) (rest : List Op) (t : Thread) → o ∷ rest ≡ drop at (take (ops_in_first (t.phase + 1) w.phases) w.program) → w.thread ≡ 0 → ⊥
-some-left w served at o rest t r first = let h = (get-take (ops_in_first (t.phase + 1) w.phases) w.program at o (get-drop (take (ops_in_first (t.phase + 1) w.phases) w.program) rest at o r).0).0 in no-operation w served at o h first
-
--- the first operation of the rest of the phase that asks for a step begins, or the phase is over
-pub begins : (w : Work) → IsServedWork w → (at : ℕ) (rest : List Op) (t : Thread) (now : List Note) → WorksOn w t.layout t.shape t.thread t.phases t.program t.vars → IsCounted w t.hands t.made t.kept now →
-    rest ≡ drop at (take (ops_in_first (t.phase + 1) w.phases) w.program) → at ≤ t.index → t.index ≤ ops_in_first (t.phase + 1) w.phases → AreDone w t.index t.vars now → Uncleared w t.cleared → Comes w (begun_at at rest t) t.event now
-begins w served at [] t now works counts r past before d none = ends-phase w served at t now works counts r past before d none
-begins w served at (o ∷ rest) t now works counts r past before d none =
-    passes-or-comes w served at o rest t now works counts r past before d
-    (λ u ns works_u counts_u phase past_u before_u d_u.
-    begins w served (at + 1) rest u ns works_u counts_u
-    (let P : ℕ → Type 0 = λ (k : ℕ). rest ≡ drop (at + 1) (take (ops_in_first (k + 1) w.phases) w.program) in subst P (sym phase) (get-drop (take (ops_in_first (t.phase + 1) w.phases) w.program) rest at o r).1)
-    past_u
-    (let P : ℕ → Type 0 = λ (k : ℕ). u.index ≤ ops_in_first (k + 1) w.phases in subst P (sym phase) before_u)
-    d_u (λ first. absurd (some-left w served at o rest t r first)))
-
--- what was under way is over
-pub goes-on : (w : Work) → IsServedWork w → (t : Thread) (now : List Note) → WorksOn w t.layout t.shape t.thread t.phases t.program t.vars → IsCounted w t.hands t.made t.kept now →
-    number_of now ≡ number_at w t.index → IsOfPhase w t.phase t.index → IsOver w t.index t.vars t.cleared now → Comes w (next_op t) t.event now
-goes-on w served t now works counts number phase over =
-    let P : List Op → Type 0 = λ (p : List Op). Comes w (begun (record t { doing = Ended; index = cond (ltb t.index (length p)) (t.index + 1) t.index })) t.event now in
-    subst P (sym works.program_is) (go (ltb t.index (length w.program)) refl over number phase)
-  where
-    -- the rest of the phase at a place
-    rest_is : (i : ℕ) → drop i (take (ops_in_first (t.phase + 1) t.phases) t.program) ≡ drop i (take (ops_in_first (t.phase + 1) w.phases) w.program)
-    rest_is i = ap (λ ps. drop i (take (ops_in_first (t.phase + 1) ps) t.program)) works.phases_is ∙ ap (λ (p : List Op). drop i (take (ops_in_first (t.phase + 1) w.phases) p)) works.program_is
-
-    go : (b : Bool) → ltb t.index (length w.program) ≡ b → IsOverIf b w t.index t.vars t.cleared now → number_of now ≡ cond b (ordinal w.program t.index) 0 → IsOfPhaseIf b w t.phase t.index →
-        Comes w (begun (record t { doing = Ended; index = cond b (t.index + 1) t.index })) t.event now
-    go true e over number phase =
-        begins w served (t.index + 1) (drop (t.index + 1) (take (ops_in_first (t.phase + 1) t.phases) t.program)) (record t { doing = Ended; index = t.index + 1 }) now works counts (rest_is (t.index + 1)) (omega arith) (omega arith) over
-        (λ first. absurd (let bare = ap (λ (p : List Op). length p) (served.clearing first).0 in let below = ltb-true t.index (length w.program) e in omega arith))
-    go false e over number phase = subst Q (sym none) (subst R (sym works.phases_is) (last (ltb (t.phase + 1) (length w.phases)) refl))
-      where
-        past : length w.program ≤ t.index
-        past = ltb-false t.index (length w.program) e
-
-        none : drop t.index (take (ops_in_first (t.phase + 1) t.phases) t.program) ≡ []
-        none =
-            let short = length-take (ops_in_first (t.phase + 1) w.phases) w.program in
-            let most = past in
-            rest_is t.index ∙ drop_all t.index (take (ops_in_first (t.phase + 1) w.phases) w.program) (omega arith)
-
-        Q : List Op → Type 0
-        Q rest = Comes w (begun_at t.index rest (record t { doing = Ended; index = t.index })) t.event now
-
-        R : List (List Op) → Type 0
-        R phases = Comes w
-            (cond (ltb (t.phase + 1) (length phases)) (record t { doing = Ready; asked = moves.PhaseEnd; phase = t.phase + 1 }) (scope_begun (record t { doing = Ended; index = t.index }))) t.event now
-
-        last : (b : Bool) → ltb (t.phase + 1) (length w.phases) ≡ b →
-            Comes w (cond b (record t { doing = Ready; asked = moves.PhaseEnd; phase = t.phase + 1 }) (scope_begun (record t { doing = Ended; index = t.index }))) t.event now
-        last true f = let more = ltb-true (t.phase + 1) (length w.phases) f in absurd (omega arith)
-        last false f = ends-on w served (record t { doing = Ended; index = t.index }) now works counts e number phase over
-
--- the destination has its new value, and what it held is dropped last
-pub replaces : (w : Work) → IsServedWork w → (t : Thread) (to : ℕ) (new : Option Held) (o : Op) (answer : Answer) (base ns : List Note) → WorksOn w t.layout t.shape t.thread t.phases t.program t.vars →
-    IsCounted w t.hands t.made t.kept (Line answer ∷ ns) → number_of ns ≡ number_at w t.index → IsOfPhase w t.phase t.index → AreDone w t.index t.vars base → slice_get w.program t.index ≡ Some o → FitsKind w.kinds to new →
-    IsAnswered w.thread w.came o (variables t.vars) (Operation (ordinal w.program t.index) ∷ base) (put_var (variables t.vars) to (held_in new)) answer (programs.value (variables t.vars) to) ns →
-    Comes w (replaced to new t) t.event (Line answer ∷ ns)
-replaces w served t to new o answer base ns works counts number phase done there fits answered = go (value t.vars to) refl
-  where
-    within : t.index < length w.program
-    within = slice_get_within w.program t.index o there
-
-    next : IsNext w.shape w.thread w.came w.program w.count t.index o (variables t.vars) base
-    next = record { done = done; there = there }
-
-    works_then : WorksOn w t.layout t.shape t.thread t.phases t.program (set t.vars to new)
-    works_then = works-over w t works (kinds-set w.kinds t.vars to new fits works.kinds)
-
-    go : (old : Option Held) → value t.vars to ≡ old → Comes w (replaced_old old (set_var to new t)) t.event (Line answer ∷ ns)
-    go None e =
-        let d : AreDone w (t.index + 1) (set t.vars to new) (Line answer ∷ ns) = rw (put-held t.vars to new) (answers_last next (rw (value-held t.vars to None e) at answered)) in
-        goes-on w served (set_var to new t) (Line answer ∷ ns) works_then counts number phase (over-done w t.index (set t.vars to new) t.cleared (Line answer ∷ ns) within d)
-    go (Some old) e = record {
-      after = Line answer ∷ ns;
-      says = nothing;
-      event = refl;
-      stands = drop-asks w (set_var to new t) old (Line answer ∷ ns) works_then counts number phase (counted-in w served t.vars to old works.kinds e)
-          (λ after x. over-done w t.index (set t.vars to new) t.cleared after within (rw (put-held t.vars to new) (drops_last next (rw (value-held t.vars to (Some old) e) at answered) x)));
-    }

@@ -12,6 +12,7 @@ use Rattle.arc_model.specs.SpellingTies.Ties.{own, noted}
 use Rattle.arc_model.specs.declared.event.Act.{Act}
 use Rattle.arc_rule.specs.Extents.{Extent}
 use Rattle.arc_rule.specs.declared.step.Step.{Step}
+use Rattle.arc_cells.specs.Chains.{Frame}
 use Rattle.arc_rule.specs.declared.step.Intent.{Intent}
 use Rattle.arc_model.specs.declared.shape.Kind.{Kind}
 use Rattle.arc_script.specs.declared.script.ThreadDecl.{ThreadDecl}
@@ -29,19 +30,19 @@ use Rattle.arc_ops.specs.declared.stepper.Held.{Held as HeldByStepper}
 use Rattle.arc_ops.specs.declared.stepper.Doing.{Doing}
 use Rattle.arc_ops.specs.declared.stepper.Doing.TheVariants.{Ready, Making, Gaining, Naming, Opening, Closing, Setting, Clearing, Dropping, Dying, Vacating, Ended}
 use Rattle.arc_ops.specs.declared.stepper.Move.TheVariants as moves
-use Rattle.arc_ops.specs.Programs.{phases_in, program_of, ops_in_first, count_of_vars, vars_of, kinds_of, room_in}
-use Rattle.arc_ops.specs.Kept.{Kept}
-use Rattle.arc_ops.specs.Served.{IsServed}
+use Rattle.arc_served.specs.Programs.{phases_in, program_of, ops_in_first, count_of_vars, vars_of, kinds_of, room_in}
+use Rattle.arc_served.specs.Kept.{Kept}
+use Rattle.arc_served.specs.Served.{IsServed}
 use Rattle.arc_ops.specs.Thread.{Thread, value}
 use Rattle.arc_spelled.specs.Came.{CameOut}
-use Rattle.arc_spelled.specs.Shown.{ReadsName, FindsReference, FindsNoEntry, Says, with_act}
-use Rattle.arc_spelled.specs.Shown.ReadsName.{nothing as read_nothing, name as read_name}
+use Rattle.arc_spelled.specs.Shown.{Reads, FindsReference, FindsEntry, Says, with_act}
+use Rattle.arc_spelled.specs.Shown.Reads.{nothing as read_nothing, name as read_name, nil_field, reference}
 use Rattle.arc_spelled.specs.Shown.FindsReference.{nothing as refers_nothing, refers}
-use Rattle.arc_spelled.specs.Shown.FindsNoEntry.{nothing as found_nothing, no_entry as found_no_entry}
+use Rattle.arc_spelled.specs.Shown.FindsEntry.{nothing as found_nothing, entry as found_entry}
 use Rattle.arc_spelled.specs.Shown.Says.{nothing as said_nothing, line, operation}
 use Rattle.arc_spelled.specs.StepperStands.{Work, IsServedWork, variables, AreOfKinds, AreDone, HasEnded, StepperUpTo, IsInPhase, Asks, StandsFor}
 use Rattle.arc_spelled.specs.Spelled.{work_of, SteppersBegin, SteppersGoOn, EndedSteppersSpell, ReadySteppersHaveDone, with_event_of, WordsHold, AddedNotesAreTied}
-use Rattle.arc_spelled.proofs.Declared.{program-served, kinds-served, program-kinds, program-classes, globals-served, clears-alone}
+use Rattle.arc_spelled.proofs.Declared.{program-served, kinds-served, program-kinds, program-classes, program-cells, globals-served, classes-served, clears-alone}
 use Rattle.arc_spelled.proofs.StepperKeeps.{stepper_goes_on}
 
 -- ---- what a script's thread works on is served
@@ -53,9 +54,10 @@ served-work s p came valid served = record {
   ops = program-served s p served;
   kinds = kinds-served s p served;
   kinds_fit = program-kinds s p valid served;
-  classes_fit = program-classes s p valid;
+  classes_fit = program-classes s p valid served;
+  cells_fit = program-cells s p valid served;
   globals = globals-served s valid served;
-  without_fields = served.without_fields;
+  served_classes = classes-served s served;
   clearing = clears-alone s p;
 }
 
@@ -76,7 +78,7 @@ none-held kinds n v h e = absurd (no-value n v h e)
 
 pub steppers_begin : SteppersBegin
 steppers_begin script p came = record {
-  works = record { layout_is = refl; shape_is = refl; thread_is = refl; phases_is = refl; program_is = refl; kinds = none-held (kinds_of script p) (vars_of script p) };
+  works = record { layout_is = refl; shape_is = refl; thread_is = refl; phases_is = refl; program_is = refl; classes_are = refl; kinds = none-held (kinds_of script p) (vars_of script p) };
   in_phase = refl;
   counts = record { hands_are = refl; made_is = refl; lines_are = rw take-nil refl };
   number = tt;
@@ -85,16 +87,16 @@ steppers_begin script p came = record {
 }
 
 pub steppers_go_on : SteppersGoOn
-steppers_go_on script p came more t last now valid served s may extends knows =
-    stepper_goes_on (work_of script p came) (served-work script p came valid served) more t last now s may extends knows
+steppers_go_on script p came more t fs last now valid served s may fits extends knows =
+    stepper_goes_on (work_of script p came) (served-work script p came valid served) more t fs last now s may fits extends knows
 
 -- ---- the end
 
 -- a stepper that says that it has ended is at its end
-at-end : (w : Work) (t : Thread) (now : List Note) → StandsFor w t now → t.asked ≡ moves.Ended → HasEnded (eqb w.thread 0) w now
-at-end w t now s e = go t.doing (rw e at s.asks) s.up_to
+at-end : (w : Work) (t : Thread) (fs : List Frame) (now : List Note) → StandsFor w t fs now → t.asked ≡ moves.Ended → HasEnded (eqb w.thread 0) w now
+at-end w t fs now s e = go t.doing (rw e at s.asks) s.up_to
   where
-    go : (d : Doing) → Asks d moves.Ended → StepperUpTo w t.index t.vars t.cleared t.asked now d → HasEnded (eqb w.thread 0) w now
+    go : (d : Doing) → Asks d moves.Ended → StepperUpTo w t.index t.vars t.cleared fs t.asked now d → HasEnded (eqb w.thread 0) w now
     go Ready a u = absurd (cc)
     go (Making to name plan) a u = absurd a
     go (Gaining gain to from plan) a u = absurd a
@@ -134,10 +136,10 @@ threads-spell s (suc n) came now within ended = numbered (eqb (suc n) 0) refl pr
     numbered false e x = go (slice_get s.threads (suc n - 1)) refl x
 
 pub ended_steppers_spell : EndedSteppersSpell
-ended_steppers_spell script p came t now within s e =
+ended_steppers_spell script p came t fs now within s e =
     let lines : t.kept.lines ≡ take (room_in script p) (told now) = ap (λ (k : Kept). k.lines) s.counts.lines_are in
     record {
-      spelled = threads-spell script p came now within (at-end (work_of script p came) t now s e);
+      spelled = threads-spell script p came now within (at-end (work_of script p came) t fs now s e);
       first_lines = lines;
       all_lines = λ few. lines ∙ take_all (room_in script p) (told now) few;
     }
@@ -145,10 +147,10 @@ ended_steppers_spell script p came t now within s e =
 -- ---- between phases
 
 -- a stepper that says that a phase is over stands behind the phases before
-between : (w : Work) (t : Thread) (now : List Note) → StandsFor w t now → t.asked ≡ moves.PhaseEnd → AreDone w (ops_in_first t.phase w.phases) t.vars now
-between w t now s e = go t.doing (rw e at s.asks) s.in_phase s.up_to
+between : (w : Work) (t : Thread) (fs : List Frame) (now : List Note) → StandsFor w t fs now → t.asked ≡ moves.PhaseEnd → AreDone w (ops_in_first t.phase w.phases) t.vars now
+between w t fs now s e = go t.doing (rw e at s.asks) s.in_phase s.up_to
   where
-    go : (d : Doing) → Asks d moves.PhaseEnd → IsInPhase w t.phase t.index d → StepperUpTo w t.index t.vars t.cleared t.asked now d → AreDone w (ops_in_first t.phase w.phases) t.vars now
+    go : (d : Doing) → Asks d moves.PhaseEnd → IsInPhase w t.phase t.index d → StepperUpTo w t.index t.vars t.cleared fs t.asked now d → AreDone w (ops_in_first t.phase w.phases) t.vars now
     go Ready a i u = rw i at u.done
     go (Making to name plan) a i u = absurd a
     go (Gaining gain to from plan) a i u = absurd a
@@ -163,38 +165,40 @@ between w t now s e = go t.doing (rw e at s.asks) s.in_phase s.up_to
     go Ended a i u = absurd (cc)
 
 pub ready_steppers_have_done : ReadySteppersHaveDone
-ready_steppers_have_done script p came t now s e = between (work_of script p came) t now s e
+ready_steppers_have_done script p came t fs now s e = between (work_of script p came) t fs now s e
 
 -- ---- the notes in a history
 
 tied-read : (causes : Causes) (shape : HeapShape) (layout : Extent) (asked : Option (Step × Intent)) (last : Option ℕ) (p : ℕ) (event : Option Act) (out : Option CameOut) (h : History) (b ns : List Note) →
-    ReadsName layout asked last b ns → WordsHold causes shape layout asked last p event out h → Ties causes shape p b h → Ties causes shape p ns h
+    Reads shape layout asked last b ns → WordsHold causes shape layout asked last p event out h b → Ties causes shape p b h → Ties causes shape p ns h
 tied-read causes shape layout asked last p event out h b ns read_nothing holds t = t
 tied-read causes shape layout asked last p event out h b ns (read_name {slot = slot} {w = w} {intent = intent} a n l) holds t = noted t (holds.names slot w intent a n l)
+tied-read causes shape layout asked last p event out h b ns (nil_field {slot = slot} {f = f} {of = of} a l n inside) holds t = noted t (holds.nil_fields slot f of a l n inside)
+tied-read causes shape layout asked last p event out h b ns (reference {slot = slot} {f = f} {w = w} {of = of} a l r n inside) holds t = noted t (holds.fields slot f w of a l r n inside)
 
 tied-act : (causes : Causes) (shape : HeapShape) (p : ℕ) (event : Option Act) (h : History) (ns : List Note) → Ties causes shape p ns h → Ties causes shape p (with_act event ns) (with_event_of p event h)
 tied-act causes shape p None h ns t = t
 tied-act causes shape p (Some a) h ns t = own t
 
-tied-found : (causes : Causes) (shape : HeapShape) (layout : Extent) (asked : Option (Step × Intent)) (last : Option ℕ) (p : ℕ) (event : Option Act) (out : Option CameOut) (h : History) (b ns : List Note) →
-    FindsNoEntry layout asked last event b ns → WordsHold causes shape layout asked last p event out h → Ties causes shape p b (with_event_of p event h) → Ties causes shape p ns (with_event_of p event h)
-tied-found causes shape layout asked last p event out h b ns found_nothing holds t = t
-tied-found causes shape layout asked last p event out h b ns (found_no_entry {slot = slot} {w = w} {new = new} {act = act} {intent = intent} {c = c} e a n l u) holds t = noted t (holds.entries slot w new act intent c e a n l u)
+tied-found : (causes : Causes) (shape : HeapShape) (layout : Extent) (asked : Option (Step × Intent)) (last : Option ℕ) (p : ℕ) (event : Option Act) (out : Option CameOut) (h : History) (now b ns : List Note) →
+    FindsEntry layout asked last event b ns → WordsHold causes shape layout asked last p event out h now → Ties causes shape p b (with_event_of p event h) → Ties causes shape p ns (with_event_of p event h)
+tied-found causes shape layout asked last p event out h now b ns found_nothing holds t = t
+tied-found causes shape layout asked last p event out h now b ns (found_entry {slot = slot} {w = w} {new = new} {act = act} {intent = intent} {entry = entry} e a n l c) holds t = noted t (holds.entries slot w new act intent entry e a n l c)
 
 tied-said : {causes : Causes} {shape : HeapShape} {p : ℕ} {h : History} {b ns : List Note} → Says b ns → Ties causes shape p b h → Ties causes shape p ns h
 tied-said said_nothing t = t
 tied-said (line s) t = noted (tied-said s t) tt
 tied-said (operation s) t = noted (tied-said s t) tt
 
-tied-referred : (causes : Causes) (shape : HeapShape) (layout : Extent) (asked : Option (Step × Intent)) (last : Option ℕ) (p : ℕ) (event : Option Act) (out : Option CameOut) (h : History) (b ns : List Note) →
-    FindsReference event out b ns → WordsHold causes shape layout asked last p event out h → Ties causes shape p b h → Ties causes shape p ns h
-tied-referred causes shape layout asked last p event out h b ns refers_nothing holds t = t
-tied-referred causes shape layout asked last p event out h b ns (refers {x = x} o e) holds t = noted t (holds.refers x o e)
+tied-referred : (causes : Causes) (shape : HeapShape) (layout : Extent) (asked : Option (Step × Intent)) (last : Option ℕ) (p : ℕ) (event : Option Act) (out : Option CameOut) (h : History) (now b ns : List Note) →
+    FindsReference event out b ns → WordsHold causes shape layout asked last p event out h now → Ties causes shape p b h → Ties causes shape p ns h
+tied-referred causes shape layout asked last p event out h now b ns refers_nothing holds t = t
+tied-referred causes shape layout asked last p event out h now b ns (refers {x = x} o e) holds t = noted t (holds.refers x o e)
 
 pub added_notes_are_tied : AddedNotesAreTied
 added_notes_are_tied causes shape layout asked last p event out h now after a holds t =
     let read = tied-read causes shape layout asked last p event out h now a.shows.read a.shows.reads holds t in
-    let referred = tied-referred causes shape layout asked last p event out h a.shows.read a.shows.referred a.shows.refers holds read in
+    let referred = tied-referred causes shape layout asked last p event out h now a.shows.read a.shows.referred a.shows.refers holds read in
     tied-said a.says
-    (tied-found causes shape layout asked last p event out h (with_act event a.shows.referred) a.found a.shows.finds holds
+    (tied-found causes shape layout asked last p event out h now (with_act event a.shows.referred) a.found a.shows.finds holds
     (tied-act causes shape p event h a.shows.referred referred))

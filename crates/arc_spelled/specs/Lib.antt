@@ -1,6 +1,6 @@
 pub mod Work
 pub mod Came
 pub mod Shown
-pub mod CascadeStands
+pub mod Releases
 pub mod StepperStands
 pub mod Spelled

@@ -8,7 +8,6 @@ use Rattle.arc_model.specs.declared.event.Act.TheVariants as acts
 use Rattle.arc_model.specs.declared.event.Got.TheVariants as gots
 use Rattle.arc_model.specs.declared.shape.Kind.{Kind}
 use Rattle.arc_model.specs.declared.shape.Kind.TheVariants.{Strong}
-use Rattle.arc_model.specs.declared.shape.RefShape.{RefShape}
 use Rattle.arc_model.specs.Shapes.{HeapShape}
 use Rattle.arc_model.specs.Spelling.{Note, hands_of, acts_of, IsEnd, IsDrop, IsCascade}
 use Rattle.arc_model.specs.Spelling.Note.{Did, Operation, Entry, Refers}
@@ -25,16 +24,17 @@ use Rattle.arc_plan.specs.declared.slots.Once.TheVariants.{Asked}
 use Rattle.arc_plan.specs.Slots.{OneStep}
 use Rattle.arc_side.specs.Inline.{IsCountedInline}
 use Rattle.arc_side.specs.Downs.{Fall, inline_fall}
-use Rattle.arc_cells.specs.BareCascades.{CascadeState}
-use Rattle.arc_cells.specs.Cascades.{HasNoFields}
+use Rattle.arc_cells.specs.Cascades.{CascadeState}
+use Rattle.arc_cells.specs.Chains.{Frame}
+use Rattle.arc_deinits.specs.Stands.{CascadeStandsFor, ChainFits, chained}
 use Rattle.arc_script.specs.declared.script.Op.{Op}
 use Rattle.arc_script.specs.declared.script.Op.TheVariants as op
-use Rattle.arc_script.specs.declared.script.OpCell.TheVariants as opcell
+use Rattle.arc_script.specs.declared.script.OpCell.{OpCell}
 use Rattle.arc_script.specs.OneList.{in_one_list}
 use Rattle.arc_programs.specs.Variables.{Held, Variables}
 use Rattle.arc_programs.specs.Programs.{made_of, OpsDone, ScopeEnds, IsProgram, GlobalsCleared}
 use Rattle.arc_programs.specs.ProgramsLines.{number_of, told}
-use Rattle.arc_ops.specs.Cells.{global_of}
+use Rattle.arc_ops.specs.Cells.{cell_in}
 use Rattle.arc_ops.specs.declared.cell.Cell.{Cell}
 use Rattle.arc_ops.specs.declared.stepper.Held.{Held as HeldByStepper}
 pub use Rattle.arc_ops.specs.Plans.{op_of}
@@ -44,27 +44,28 @@ use Rattle.arc_ops.specs.declared.stepper.Doing.{Doing}
 use Rattle.arc_ops.specs.declared.stepper.Doing.TheVariants.{Ready, Making, Gaining, Naming, Opening, Closing, Setting, Clearing, Dropping, Dying, Vacating, Ended}
 use Rattle.arc_ops.specs.declared.stepper.Move.{Move}
 use Rattle.arc_ops.specs.declared.stepper.Move.TheVariants as moves
-use Rattle.arc_ops.specs.Kept.{Kept}
-use Rattle.arc_ops.specs.Programs.{BlocksFit, ordinal, ops_in_first, kind_of, KindsFit, ClassesFit}
-use Rattle.arc_ops.specs.Served.{IsServedOp}
+use Rattle.arc_served.specs.Kept.{Kept}
+use Rattle.arc_served.specs.Programs.{BlocksFit, ordinal, ops_in_first, kind_of, KindsFit, ClassesFit, CellFits}
+use Rattle.arc_served.specs.Served.{IsServedOp, IsServedRef, IsServedClass}
 use Rattle.arc_ops.specs.Thread.{Thread, value, is_busy}
 use Rattle.arc_ops.specs.Turns.{turned}
 pub use Rattle.arc_spelled.specs.Work.{Work}
 use Rattle.arc_spelled.specs.Came.{came_out}
 use Rattle.arc_spelled.specs.Shown.{Adds, with_event}
-use Rattle.arc_spelled.specs.CascadeStands.{CascadeStandsFor, IsReleasing}
+use Rattle.arc_spelled.specs.Releases.{IsReleasing}
 
--- the program is that of its phases, blocks stay within these, the operations, the kinds of variables and the globals are served, operations
--- fit kinds and classes, objects have no fields, and thread 0 has neither operations nor variables
+-- the program is that of its phases, blocks stay within these, the operations, the kinds of variables, the globals and the classes are
+-- served, operations fit kinds and classes and name cells that are there, and thread 0 has neither operations nor variables
 pub record IsServedWork (w : Work) : Type 0 where
   pub whole : w.program ≡ in_one_list 0 w.phases
   pub blocks : BlocksFit w.program w.phases
   pub ops : All IsServedOp w.program
   pub kinds : All IsCountedInline w.kinds
-  pub kinds_fit : All (KindsFit w.shape.globals w.kinds) w.program
-  pub classes_fit : All (ClassesFit w.shape.globals w.classes) w.program
-  pub globals : All (λ (r : RefShape). IsCountedInline r.kind) w.shape.globals
-  pub without_fields : HasNoFields w.shape
+  pub kinds_fit : All (KindsFit w.shape w.classes w.kinds) w.program
+  pub classes_fit : All (ClassesFit w.shape w.classes) w.program
+  pub cells_fit : All (CellFits w.shape w.classes) w.program
+  pub globals : All IsServedRef w.shape.globals
+  pub served_classes : All IsServedClass w.shape.classes
   pub clearing : w.thread ≡ 0 → (w.program ≡ []) × (w.count ≡ 0)
 
 abbrev pub held_of : HeldByStepper → Held
@@ -155,11 +156,11 @@ pub record IsGaining (w : Work) (i : ℕ) (gain : Gain) (to : ℕ) (from : HeldB
   pub begun : IsBegun w i (op_of gain to of) vars now
   pub source : value vars of ≡ Some from
 
--- a global is to be read: the operation began just now
+-- a cell is to be read: the operation began just now
 pub record IsGetting (w : Work) (i to : ℕ) (cell : Cell) (vars : List (Option HeldByStepper)) (now : List Note) : Type 0 where
-  pub global : ℕ
-  pub begun : IsBegun w i (op.Get to (opcell.Global global)) vars now
-  pub cell_is : cell ≡ global_of w.shape global
+  pub of : OpCell
+  pub begun : IsBegun w i (op.Get to of) vars now
+  pub cell_is : cell_in w.shape w.classes vars of ≡ Some cell
 
 -- the reference is gained from one in a variable, or copied from one in a cell
 abbrev pub GainsUpTo : Work → ℕ → Gain → ℕ → (origin : Origin) → (kind : Kind) → (place : ℕ) → List (Option HeldByStepper) → List Note → Type 0
@@ -174,11 +175,11 @@ pub record IsGot (w : Work) (i to : ℕ) (cell : CellName) (held : HeldByStepper
   pub came : w.came held.hand ≡ Some (record { kind = held.kind; place = held.place })
   pub now_is : now ≡ Did (acts.Copy (origins.Cell cell) held.hand) ∷ Refers cell held.kind held.place ∷ before
 
--- a variable's value is to be put into a global: the operation began just now
+-- a variable's value is to be put into a cell: the operation began just now
 pub record IsPutting (w : Work) (i from : ℕ) (cell : Cell) (vars : List (Option HeldByStepper)) (now : List Note) : Type 0 where
-  pub global : ℕ
-  pub begun : IsBegun w i (op.Set (opcell.Global global) from) vars now
-  pub cell_is : cell ≡ global_of w.shape global
+  pub of : OpCell
+  pub begun : IsBegun w i (op.Set of from) vars now
+  pub cell_is : cell_in w.shape w.classes vars of ≡ Some cell
 
 -- thread 0 is to clear its next global
 pub record IsClearing (w : Work) (vars : List (Option HeldByStepper)) (cleared : ℕ) (now : List Note) : Type 0 where
@@ -211,13 +212,15 @@ abbrev pub step_in : Move → Option (Step × Intent)
 step_in (moves.Step step intent) = Some (step, intent)
 step_in _ = None
 
--- an object dies, and whatever completes its deinit completes what is under way
-pub record IsDying (w : Work) (i : ℕ) (c : CascadeState) (asked : Move) (vars : List (Option HeldByStepper)) (cleared : ℕ) (now : List Note) : Type 0 where
+-- an object dies, under a chain of deinits that wait, and whatever completes the deinit of the first of them, the root, completes what is
+-- under way
+pub record IsDying (w : Work) (i : ℕ) (c : CascadeState) (fs : List Frame) (asked : Move) (vars : List (Option HeldByStepper)) (cleared : ℕ) (now : List Note) : Type 0 where
+  pub root : ℕ
   pub base : List Note
-  pub stands : CascadeStandsFor base c (step_in asked) now
+  pub stands : CascadeStandsFor root base c fs (step_in asked) now
   pub layout : c.layout ≡ extent_of w.shape
   pub shape : c.shape ≡ w.shape
-  pub ends : (after : List Note) → IsCascade w.shape c.slot base after → IsOver w i vars cleared after
+  pub ends : (after : List Note) → IsCascade w.shape root base after → IsOver w i vars cleared after
 
 -- the last unowned reference was dropped, and whatever completes the end of the slot completes what is under way
 pub record IsVacating (w : Work) (i slot : ℕ) (vars : List (Option HeldByStepper)) (cleared : ℕ) (now : List Note) : Type 0 where
@@ -225,28 +228,29 @@ pub record IsVacating (w : Work) (i slot : ℕ) (vars : List (Option HeldByStepp
   pub now_is : now ≡ Entry slot None ∷ before
   pub ends : (after : List Note) → IsEnd slot before after → IsOver w i vars cleared after
 
--- the notes, by what the stepper is doing
-abbrev pub StepperUpTo : Work → ℕ → List (Option HeldByStepper) → (cleared : ℕ) → Move → List Note → Doing → Type 0
-StepperUpTo w i vars cleared asked now Ready = IsReady w i vars cleared now
-StepperUpTo w i vars cleared asked now (Making to name plan) = MakesUpTo w i to name vars now plan.at
-StepperUpTo w i vars cleared asked now (Gaining gain to from plan) = GainsUpTo w i gain to from.origin from.kind from.place vars now
-StepperUpTo w i vars cleared asked now (Naming to held plan) = IsLoaded w i to held plan (step_in asked) vars now
-StepperUpTo w i vars cleared asked now (Opening to cell plan) = IsGetting w i to cell vars now
-StepperUpTo w i vars cleared asked now (Closing to cell held plan) = IsGot w i to cell held vars now
-StepperUpTo w i vars cleared asked now (Setting from cell plan) = IsPutting w i from cell vars now
-StepperUpTo w i vars cleared asked now (Clearing plan) = IsClearing w vars cleared now
-StepperUpTo w i vars cleared asked now (Dropping held plan) = IsDropping w i held plan (step_in asked) vars cleared now
-StepperUpTo w i vars cleared asked now (Dying c) = IsDying w i c asked vars cleared now
-StepperUpTo w i vars cleared asked now (Vacating slot plan) = IsVacating w i slot vars cleared now
-StepperUpTo w i vars cleared asked now Ended = HasEnded (w.thread == 0) w now
+-- the notes, by what the stepper is doing, under a chain of deinits that wait where an object dies
+abbrev pub StepperUpTo : Work → ℕ → List (Option HeldByStepper) → (cleared : ℕ) → List Frame → Move → List Note → Doing → Type 0
+StepperUpTo w i vars cleared fs asked now Ready = IsReady w i vars cleared now
+StepperUpTo w i vars cleared fs asked now (Making to name plan) = MakesUpTo w i to name vars now plan.at
+StepperUpTo w i vars cleared fs asked now (Gaining gain to from plan) = GainsUpTo w i gain to from.origin from.kind from.place vars now
+StepperUpTo w i vars cleared fs asked now (Naming to held plan) = IsLoaded w i to held plan (step_in asked) vars now
+StepperUpTo w i vars cleared fs asked now (Opening to cell plan) = IsGetting w i to cell vars now
+StepperUpTo w i vars cleared fs asked now (Closing to cell held plan) = IsGot w i to cell held vars now
+StepperUpTo w i vars cleared fs asked now (Setting from cell plan) = IsPutting w i from cell vars now
+StepperUpTo w i vars cleared fs asked now (Clearing plan) = IsClearing w vars cleared now
+StepperUpTo w i vars cleared fs asked now (Dropping held plan) = IsDropping w i held plan (step_in asked) vars cleared now
+StepperUpTo w i vars cleared fs asked now (Dying c) = IsDying w i c fs asked vars cleared now
+StepperUpTo w i vars cleared fs asked now (Vacating slot plan) = IsVacating w i slot vars cleared now
+StepperUpTo w i vars cleared fs asked now Ended = HasEnded (w.thread == 0) w now
 
 -- what it works on
-pub record WorksOn (w : Work) (layout : Extent) (shape : HeapShape) (thread : ℕ) (phases : List (List Op)) (program : List Op) (vars : List (Option HeldByStepper)) : Type 0 where
+pub record WorksOn (w : Work) (layout : Extent) (shape : HeapShape) (thread : ℕ) (phases : List (List Op)) (program : List Op) (classes : List ℕ) (vars : List (Option HeldByStepper)) : Type 0 where
   pub layout_is : layout ≡ extent_of w.shape
   pub shape_is : shape ≡ w.shape
   pub thread_is : thread ≡ w.thread
   pub phases_is : phases ≡ w.phases
   pub program_is : program ≡ w.program
+  pub classes_are : classes ≡ w.classes
   pub kinds : AreOfKinds w.kinds vars
 
 -- the first lines of the notes, as many as there is room for
@@ -291,19 +295,35 @@ IsInPhase w phase index Ready = index ≡ ops_in_first phase w.phases
 IsInPhase w phase index Ended = ⊤
 IsInPhase w phase index _ = IsOfPhase w phase index
 
--- The stepper, at work on these operations, stands for the notes.
-pub record StandsFor (w : Work) (t : Thread) (now : List Note) : Type 0 where
-  pub works : WorksOn w t.layout t.shape t.thread t.phases t.program t.vars
+-- The stepper, at work on these operations, stands for the notes, under a chain of deinits that wait where an object dies.
+pub record StandsFor (w : Work) (t : Thread) (fs : List Frame) (now : List Note) : Type 0 where
+  pub works : WorksOn w t.layout t.shape t.thread t.phases t.program t.classes t.vars
   pub in_phase : IsInPhase w t.phase t.index t.doing
   pub counts : IsCounted w t.hands t.made t.kept now
   pub number : IsNumberedIf (is_busy t.doing) w t.index now
   pub asks : Asks t.doing t.asked
-  pub up_to : StepperUpTo w t.index t.vars t.cleared t.asked now t.doing
+  pub up_to : StepperUpTo w t.index t.vars t.cleared fs t.asked now t.doing
+
+-- the chain after a word: that of the cascade, where one is under way
+abbrev pub chain_at : Option ℕ → List Frame → Doing → List Frame
+chain_at last fs (Dying c) = chained c last fs
+chain_at last fs _ = []
+
+abbrev pub chain_after : Thread → Option ℕ → List Frame → List Frame
+chain_after t last fs = chain_at last fs t.doing
+
+-- What is read of the chain in a cascade is what the chain is.
+abbrev pub FitsChainAt : List Frame → Option ℕ → Doing → Type 0
+FitsChainAt fs last (Dying c) = ChainFits c fs last
+FitsChainAt fs last _ = ⊤
+
+abbrev pub FitsChain : Thread → List Frame → Option ℕ → Type 0
+FitsChain t fs last = FitsChainAt fs last t.doing
 
 -- What a stepper stands for once it is given a word: the notes that it stood for, with what this turn adds. The event that it
 -- tells, or none, is what the events have more.
-pub record StepperGoesOn (w : Work) (t : Thread) (last : Option ℕ) (now : List Note) : Type 0 where
+pub record StepperGoesOn (w : Work) (t : Thread) (fs : List Frame) (last : Option ℕ) (now : List Note) : Type 0 where
   pub after : List Note
-  pub adds : Adds (extent_of w.shape) (step_in t.asked) last (turned t last).event (came_out t last) now after
+  pub adds : Adds w.shape (extent_of w.shape) (step_in t.asked) last (turned t last).event (came_out t last) now after
   pub events : acts_of after ≡ with_event (turned t last).event (acts_of now)
-  pub stands : StandsFor w (turned t last) after
+  pub stands : StandsFor w (turned t last) (chain_after t last fs) after

@@ -1,20 +1,20 @@
-//! What the events and lines of a thread's machine spell.
+//! What the events and lines of a thread's machine spell. No function does anything: the contracts are laws.
+//!
+//! A stepper stands for notes: its events, its lines, and what the words showed that it was given. The notes of a new one are none; each word
+//! that it may be given adds what it shows; and where the thread has ended, the notes spell its program, which `arc_programs` defines.
+//! Where what was shown holds of the heap, the notes are those of the thread in the history.
+//!
+//! It says nothing of whether a step is allowed, nor that what a word shows does hold of a heap: that is a premise here, and shown in
+//! `arc_ops_passes`. What comes out of cells, which other threads write too, and the chain of deinits that wait for one another are
+//! premises as well.
 #![tactic(auto)]
 
-ghost use Rattle.arc_spelled.specs.CascadeStands.{CascadesBegin, CascadesGoOn};
 ghost use Rattle.arc_spelled.specs.Spelled.{SteppersBegin, MoreIsKnown, SteppersGoOn, EndedSteppersSpell, ReadySteppersHaveDone, AddedNotesAreTied};
 
-/// A cascade stands for the notes that spell the deinit up to where it is: a new one for those behind which it begins, and after
-/// each word that it may be given for these with what the word shows. It tells an object once for each line of a deinit. Where it is
-/// done the deinit is spelled.
-pub fn cascade_stands_for()
-    ensures begins { CascadesBegin }
-    ensures goes_on { CascadesGoOn }
-{}
-
-/// A stepper stands for the notes that spell its thread's program up to where it is: a new one for none, and after each word that it
-/// may be given for these with what this turn adds, where what comes out of a cell is known. The event that it tells, or none, is what
-/// the events have more. It stands for the same notes where more is known of what came.
+/// A stepper stands for the notes that spell its thread's program up to where it is, under the chain of deinits that wait for one another: a
+/// new one for none, and after each word that it may be given, and that shows the chain, for these with what this turn adds, where what comes
+/// out of a cell is known. The event that it tells, or none, is what the events have more. It stands for the same notes where more is known
+/// of what came.
 pub fn stepper_stands_for()
     ensures begins { SteppersBegin }
     ensures more_is_known { MoreIsKnown }

@@ -1,5 +1,5 @@
 use Rattle.std.proofs.Common.{◌≡◌, Some, length, sym, ap, subst, ◌∙◌, ◌+◌, arith}
-use Rattle.arc_ops.specs.Programs.{VarsFit}
+use Rattle.arc_served.specs.Programs.{VarsFit}
 use Rattle.arc_ops.specs.Begins.{begun, block_goes_on}
 use Rattle.arc_ops.proofs.Passed.{begun_behind, begun_at_block, goes_forth, there_fits}
 use Rattle.arc_ops.proofs.asking.first_asking.Goals as goal

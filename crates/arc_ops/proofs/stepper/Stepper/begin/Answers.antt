@@ -1,7 +1,7 @@
 use Rattle.std.proofs.Common.{ap, ◌∙◌, arith}
 use Rattle.arc_ops.specs.Thread.{Thread}
 use Rattle.arc_ops.specs.Begins.{begun}
-use Rattle.arc_ops.proofs.Blocks.{long_as_phases}
+use Rattle.arc_served.proofs.Blocks.{long_as_phases}
 use Rattle.arc_ops.proofs.Moves.{moved}
 use Rattle.arc_ops.proofs.Passed.{begun_from}
 use Rattle.arc_ops.proofs.stepper.Stepper.begin.Goals as goal

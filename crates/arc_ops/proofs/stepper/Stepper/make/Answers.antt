@@ -9,5 +9,5 @@ make-requires-clause-to c = rw c.phases_of-phases.ensures (to_fit c.args.script.
 
 pub invariant_of-result : goal.invariant_of-result
 invariant_of-result c =
-    rw (c.in_ok-lines.ensures, c.new_count.ensures.count, c.as_slice.ensures, c.len.ensures, c.requires.layout, c.in_ok-program.ensures, c.phases_of-phases.ensures, c.in_ok-vars.ensures, c.vars_of.ensures)
+    rw (c.in_ok-lines.ensures, c.new_count.ensures.count, c.as_slice.ensures, c.len.ensures, c.requires.layout, c.in_ok-program.ensures, c.phases_of-phases.ensures, c.in_ok-vars.ensures, c.vars_of-declared.ensures.count, c.vars_of-declared.ensures.classes)
     (is_stepper c.args.script.now c.args.thread c.requires.script c.requires.served c.requires.thread)

@@ -1,0 +1,16 @@
+use Rattle.arc_served.proofs.served.is_served.Goals as goal
+
+pub returns-then-are_served_vars : goal.returns-then-are_served_vars
+returns-then-are_served_vars c =
+    let greatest = rw c.caps.ensures at (c.are_greatest.ensures.0 c.if-not-are_greatest.false) in
+    let bare = rw c.classes.ensures.value at (c.have_no_fields.ensures.0 c.if-not-have_no_fields.false) in (
+      λ yes. record {
+        threads = rw c.as_slice-then-are_served_vars.ensures at (c.are_served_threads.ensures.0 yes);
+        without_fields = bare;
+        globals = rw c.as_slice.ensures at (c.are_served_vars.ensures.0 c.if-are_served_vars.true);
+        strong_cap = greatest.0;
+        unowned_cap = greatest.1;
+        wide_cap = greatest.2;
+      },
+      λ served. c.are_served_threads.ensures.1 (rw c.as_slice-then-are_served_vars.ensures served.threads),
+    )
