@@ -2,8 +2,16 @@
 #![tactic(auto)]
 
 #[cfg(test)]
-mod lines;
+mod heading_lines;
+#[cfg(test)]
+mod operation_lines;
+#[cfg(test)]
+mod places;
+#[cfg(test)]
+mod rows;
 #[cfg(test)]
 mod second;
 #[cfg(test)]
 mod texts;
+#[cfg(test)]
+mod thread_lines;

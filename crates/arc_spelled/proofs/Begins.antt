@@ -30,7 +30,7 @@ use Rattle.arc_spelled.proofs.Owners.{getting, setting}
 use Rattle.arc_spelled.proofs.KindsKept.{FitsKind, kinds-set, counted-in}
 
 -- the operation begins where the thread stands
-comes-to : (w : Work) → IsServedWork w → (at : ℕ) (o : Op) (rest : List Op) (t : Thread) (now : List Note) → WorksOn w t.layout t.shape t.thread t.phases t.program t.classes t.vars → IsCounted w t.hands t.made t.kept now → at ≡ t.index →
+comes-to : (w : Work) → IsServedWork w → (at : ℕ) (o : Op) (rest : List Op) (t : Thread) (now : List Note) → WorksOn w t.layout t.shape t.thread t.phases t.program t.classes t.vars → IsCounted w t.hands t.taken t.made t.kept now → at ≡ t.index →
     IsHere w t o rest → AreDone w t.index t.vars now → GoesOnBehind w at rest t.phase → Comes w (begun_op o t (λ behind. begun_at (at + 1) rest behind)) t.event now
 comes-to w served at (op.New to class) rest t now works counts place here d on = record {
   after = Operation (ordinal w.program t.index) ∷ now;
@@ -39,7 +39,7 @@ comes-to w served at (op.New to class) rest t now works counts place here d on =
   stands = record {
     works = works;
     in_phase = here.in_phase;
-    counts = counted-operation w t.hands t.made t.kept (ordinal w.program t.index) now counts;
+    counts = counted-operation w t.hands t.taken t.made t.kept (ordinal w.program t.index) now counts;
     number = sym (number-within w t.index here.within);
     asks = tt;
     up_to = record {
@@ -75,7 +75,7 @@ comes-to w served at (op.Set cell from) rest t now works counts place here d on 
     (λ done. on (skipped answers.Nil t) (Line answers.Nil ∷ Operation (ordinal w.program t.index) ∷ now) works (skipped-line w t answers.Nil now works x.opened) refl (omega (arith, place)) here.before_end done)
 
 -- the thread has gone past the operation, or it begins
-passes-or-comes : (w : Work) → IsServedWork w → (at : ℕ) (o : Op) (rest : List Op) (t : Thread) (now : List Note) → WorksOn w t.layout t.shape t.thread t.phases t.program t.classes t.vars → IsCounted w t.hands t.made t.kept now →
+passes-or-comes : (w : Work) → IsServedWork w → (at : ℕ) (o : Op) (rest : List Op) (t : Thread) (now : List Note) → WorksOn w t.layout t.shape t.thread t.phases t.program t.classes t.vars → IsCounted w t.hands t.taken t.made t.kept now →
     o ∷ rest ≡ drop at (take (ops_in_first (t.phase + 1) w.phases) w.program) → at ≤ t.index → t.index ≤ ops_in_first (t.phase + 1) w.phases → AreDone w t.index t.vars now → GoesOnBehind w at rest t.phase → Comes w (begun_at at (o ∷ rest) t) t.event now
 passes-or-comes w served at o rest t now works counts r past before d on = go (ltb at t.index) refl
   where
@@ -92,7 +92,7 @@ some-left : (w : Work) → IsServedWork w → (at : ℕ) (o : Op) (rest : List O
 some-left w served at o rest t r first = let h = (get-take (ops_in_first (t.phase + 1) w.phases) w.program at o (get-drop (take (ops_in_first (t.phase + 1) w.phases) w.program) rest at o r).0).0 in no-operation w served at o h first
 
 -- the first operation of the rest of the phase that asks for a step begins, or the phase is over
-pub begins : (w : Work) → IsServedWork w → (at : ℕ) (rest : List Op) (t : Thread) (now : List Note) → WorksOn w t.layout t.shape t.thread t.phases t.program t.classes t.vars → IsCounted w t.hands t.made t.kept now →
+pub begins : (w : Work) → IsServedWork w → (at : ℕ) (rest : List Op) (t : Thread) (now : List Note) → WorksOn w t.layout t.shape t.thread t.phases t.program t.classes t.vars → IsCounted w t.hands t.taken t.made t.kept now →
     rest ≡ drop at (take (ops_in_first (t.phase + 1) w.phases) w.program) → at ≤ t.index → t.index ≤ ops_in_first (t.phase + 1) w.phases → AreDone w t.index t.vars now → Uncleared w t.cleared → Comes w (begun_at at rest t) t.event now
 begins w served at [] t now works counts r past before d none = ends-phase w served at t now works counts r past before d none
 begins w served at (o ∷ rest) t now works counts r past before d none =
@@ -105,7 +105,7 @@ begins w served at (o ∷ rest) t now works counts r past before d none =
     d_u (λ first. absurd (some-left w served at o rest t r first)))
 
 -- what was under way is over
-pub goes-on : (w : Work) → IsServedWork w → (t : Thread) (now : List Note) → WorksOn w t.layout t.shape t.thread t.phases t.program t.classes t.vars → IsCounted w t.hands t.made t.kept now →
+pub goes-on : (w : Work) → IsServedWork w → (t : Thread) (now : List Note) → WorksOn w t.layout t.shape t.thread t.phases t.program t.classes t.vars → IsCounted w t.hands t.taken t.made t.kept now →
     number_of now ≡ number_at w t.index → IsOfPhase w t.phase t.index → IsOver w t.index t.vars t.cleared now → Comes w (next_op t) t.event now
 goes-on w served t now works counts number phase over =
     let P : List Op → Type 0 = λ (p : List Op). Comes w (begun (record t { doing = Ended; index = cond (ltb t.index (length p)) (t.index + 1) t.index })) t.event now in
@@ -145,7 +145,7 @@ goes-on w served t now works counts number phase over =
 
 -- the destination has its new value, and what it held is dropped last
 pub replaces : (w : Work) → IsServedWork w → (t : Thread) (to : ℕ) (new : Option Held) (o : Op) (answer : Answer) (base ns : List Note) → WorksOn w t.layout t.shape t.thread t.phases t.program t.classes t.vars →
-    IsCounted w t.hands t.made t.kept (Line answer ∷ ns) → number_of ns ≡ number_at w t.index → IsOfPhase w t.phase t.index → AreDone w t.index t.vars base → slice_get w.program t.index ≡ Some o → FitsKind w.kinds to new →
+    IsCounted w t.hands t.taken t.made t.kept (Line answer ∷ ns) → number_of ns ≡ number_at w t.index → IsOfPhase w t.phase t.index → AreDone w t.index t.vars base → slice_get w.program t.index ≡ Some o → FitsKind w.kinds to new →
     IsAnswered w.thread w.came o (variables t.vars) (Operation (ordinal w.program t.index) ∷ base) (put_var (variables t.vars) to (held_in new)) answer (programs.value (variables t.vars) to) ns →
     Comes w (replaced to new t) t.event (Line answer ∷ ns)
 replaces w served t to new o answer base ns works counts number phase done there fits answered = go (value t.vars to) refl

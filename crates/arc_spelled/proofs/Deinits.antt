@@ -33,6 +33,7 @@ use Rattle.arc_ops.specs.Thread as thread
 use Rattle.arc_ops.specs.Begins.{next_op}
 use Rattle.arc_ops.specs.Drops.{dying_asks, dying_on, taken_by, deinit_tells}
 use Rattle.arc_spelled.specs.Came.{came_out}
+use Rattle.arc_spelled.specs.Counts.{taken_out}
 use Rattle.arc_spelled.specs.Shown.{Reads, FindsEntry, Shows}
 use Rattle.arc_spelled.specs.Shown.IsNamedFor.{deinit as for_deinit}
 use Rattle.arc_spelled.specs.Shown.TakesLast.{finish, drop}
@@ -67,29 +68,30 @@ shown-so s = record { read = s.read; reads = read-so s.reads; referred = s.read;
 -- a hand more where a reference is taken out of a field; no object, line or operation more
 record IsQuiet (event : Option Act) (now found : List Note) : Type 0 where
   hands : hands_of found ≡ hands_of now + taken_by event
+  taken : taken_out found ≡ taken_out now + taken_by event
   made : made_of found ≡ made_of now
   lines : lines_of found ≡ lines_of now
   number : number_of found ≡ number_of now
 
 quiet-read : {shape : HeapShape} {layout : Extent} {asked : Option (Step × Intent)} {last : Option ℕ} {b ns : List Note} → DeinitReads shape layout asked last b ns → IsQuiet None b ns
-quiet-read deinit_read_nothing = record { hands = omega arith; made = refl; lines = refl; number = refl }
-quiet-read (deinit_read_name a l) = record { hands = omega arith; made = refl; lines = refl; number = refl }
-quiet-read (deinit_nil_field a l n f) = record { hands = omega arith; made = refl; lines = refl; number = refl }
-quiet-read (deinit_reference a l r n f) = record { hands = omega arith; made = refl; lines = refl; number = refl }
+quiet-read deinit_read_nothing = record { hands = omega arith; taken = omega arith; made = refl; lines = refl; number = refl }
+quiet-read (deinit_read_name a l) = record { hands = omega arith; taken = omega arith; made = refl; lines = refl; number = refl }
+quiet-read (deinit_nil_field a l n f) = record { hands = omega arith; taken = omega arith; made = refl; lines = refl; number = refl }
+quiet-read (deinit_reference a l r n f) = record { hands = omega arith; taken = omega arith; made = refl; lines = refl; number = refl }
 
 quiet-told : {e : Option Act} {b ns : List Note} → IsOfDeinit e → IsQuiet None b ns → IsQuiet e b (with_act e ns)
 quiet-told no_event q = q
-quiet-told take_told q = let h = q.hands in record { hands = omega arith; made = q.made; lines = q.lines; number = q.number }
-quiet-told drop_told q = record { hands = q.hands; made = q.made; lines = q.lines; number = q.number }
-quiet-told finish_told q = record { hands = q.hands; made = q.made; lines = q.lines; number = q.number }
-quiet-told vacate_told q = record { hands = q.hands; made = q.made; lines = q.lines; number = q.number }
-quiet-told gone_told q = record { hands = q.hands; made = q.made; lines = q.lines; number = q.number }
-quiet-told back_told q = record { hands = q.hands; made = q.made; lines = q.lines; number = q.number }
+quiet-told take_told q = let h = q.hands in let n = q.taken in record { hands = omega arith; taken = omega arith; made = q.made; lines = q.lines; number = q.number }
+quiet-told drop_told q = record { hands = q.hands; taken = q.taken; made = q.made; lines = q.lines; number = q.number }
+quiet-told finish_told q = record { hands = q.hands; taken = q.taken; made = q.made; lines = q.lines; number = q.number }
+quiet-told vacate_told q = record { hands = q.hands; taken = q.taken; made = q.made; lines = q.lines; number = q.number }
+quiet-told gone_told q = record { hands = q.hands; taken = q.taken; made = q.made; lines = q.lines; number = q.number }
+quiet-told back_told q = record { hands = q.hands; taken = q.taken; made = q.made; lines = q.lines; number = q.number }
 
 quiet-found : {shape : HeapShape} {layout : Extent} {asked : Option (Step × Intent)} {last : Option ℕ} {e : Option Act} {b n ns : List Note} → DeinitFindsEntry shape layout asked last e n ns → IsQuiet e b n → IsQuiet e b ns
 quiet-found deinit_found_nothing q = q
-quiet-found (finished e a l c) q = record { hands = q.hands; made = q.made; lines = q.lines; number = q.number }
-quiet-found (dropped e came a l c) q = record { hands = q.hands; made = q.made; lines = q.lines; number = q.number }
+quiet-found (finished e a l c) q = record { hands = q.hands; taken = q.taken; made = q.made; lines = q.lines; number = q.number }
+quiet-found (dropped e came a l c) q = record { hands = q.hands; taken = q.taken; made = q.made; lines = q.lines; number = q.number }
 
 quiet : {shape : HeapShape} {layout : Extent} {asked : Option (Step × Intent)} {last : Option ℕ} {event : Option Act} {b ns : List Note} → DeinitShows shape layout asked last event b ns → IsOfDeinit event → IsQuiet event b ns
 quiet s told = quiet-found s.finds (quiet-told told (quiet-read s.reads))
@@ -148,7 +150,7 @@ dies-on w served t last fs now work c u fits takes = go (cascade_answer c last) 
         let q = quiet k.shows tells.event in
         record {
           works = work.works;
-          counts = record { hands_are = ap (λ (n : ℕ). n + taken_by (cascade_turned c last).event) work.counts.hands_are ∙ sym q.hands; made_is = work.counts.made_is ∙ sym q.made; lines_are = rw q.lines work.counts.lines_are };
+          counts = record { hands_are = ap (λ (n : ℕ). n + taken_by (cascade_turned c last).event) work.counts.hands_are ∙ sym q.hands; taken_is = ap (λ (n : ℕ). n + taken_by (cascade_turned c last).event) work.counts.taken_is ∙ sym q.taken; made_is = work.counts.made_is ∙ sym q.made; lines_are = rw q.lines work.counts.lines_are };
           number = q.number ∙ work.number;
           phase = work.phase;
         }
@@ -184,7 +186,7 @@ dies-on w served t last fs now work c u fits takes = go (cascade_answer c last) 
         told : IsAtWork w (put (answers.Deinit name) new) (Line (answers.Deinit name) ∷ k.found)
         told = record {
           works = at_work.works;
-          counts = counted-line w new.hands new.made new.kept (thread.number_of new) (answers.Deinit name) k.found (number-here w new k.found at_work.works at_work.number) at_work.counts;
+          counts = counted-line w new.hands new.taken new.made new.kept (thread.number_of new) (answers.Deinit name) k.found (number-here w new k.found at_work.works at_work.number) at_work.counts;
           number = at_work.number;
           phase = at_work.phase;
         }

@@ -58,7 +58,7 @@ use Rattle.arc_spelled.proofs.Begins.{goes-on}
 use Rattle.arc_spelled.proofs.Turning.{IsAtWork, given, Turns, turned-by, plainly}
 
 -- what was under way is over, behind an event that brings no reference
-over-by : (w : Work) → IsServedWork w → (t : Thread) (last : Option ℕ) (now : List Note) → IsAtWork w t now → (e : Act) → IsCounted w t.hands t.made t.kept (Did e ∷ now) → IsOver w t.index t.vars t.cleared (Did e ∷ now) →
+over-by : (w : Work) → IsServedWork w → (t : Thread) (last : Option ℕ) (now : List Note) → IsAtWork w t now → (e : Act) → IsCounted w t.hands t.taken t.made t.kept (Did e ∷ now) → IsOver w t.index t.vars t.cleared (Did e ∷ now) →
     Turns w t (next_op (record t { doing = Ended; first = false; event = Some e })) last now
 over-by w served t last now work e counts over = plainly w t _ last now (Some e)
     (goes-on w served (record t { doing = Ended; first = false; event = Some e }) (Did e ∷ now) work.works counts work.number work.phase over)
@@ -75,7 +75,7 @@ drop-goes-on w t last now work held plan step u = plainly w t _ last now None (r
 drops-more : (w : Work) → IsServedWork w → (t : Thread) (last : Option ℕ) (now : List Note) → IsAtWork w t now → (held : Held) (plan : Fall) (entry : Option ℕ) → DropEnds w t.index held t.vars t.cleared now →
     Turns w t (dropped_on held plan (nexts.Done (downs.More entry)) (given t)) last now
 drops-more w served t last now work held plan entry u = over-by w served t last now work (acts.Drop held.hand false)
-    (record { hands_are = work.counts.hands_are; made_is = work.counts.made_is; lines_are = work.counts.lines_are }) (u (Did (acts.Drop held.hand false) ∷ now) more)
+    (record { hands_are = work.counts.hands_are; taken_is = work.counts.taken_is; made_is = work.counts.made_is; lines_are = work.counts.lines_are }) (u (Did (acts.Drop held.hand false) ∷ now) more)
 
 -- the exchange was made of counts, and the last reference of its kind went
 drops-last : (w : Work) (t : Thread) (word new : ℕ) (c : Inline) (now : List Note) → IsAtWork w t now → (held : Held) → step_in t.asked ≡ Some (Exchange (number_in (extent_of w.shape) (Count held.place)) word new, intents.Drop held.hand) →
@@ -88,7 +88,7 @@ drops-last w t word new c now work held asks holds kinds.Strong counted ends = p
   stands = record {
     works = work.works;
     in_phase = work.phase;
-    counts = record { hands_are = work.counts.hands_are; made_is = work.counts.made_is; lines_are = work.counts.lines_are };
+    counts = record { hands_are = work.counts.hands_are; taken_is = work.counts.taken_is; made_is = work.counts.made_is; lines_are = work.counts.lines_are };
     number = work.number;
     asks = tt;
     up_to = record {
@@ -110,7 +110,7 @@ drops-last w t word new c now work held asks holds kinds.Unowned counted ends =
       stands = record {
         works = work.works;
         in_phase = work.phase;
-        counts = record { hands_are = work.counts.hands_are; made_is = work.counts.made_is; lines_are = work.counts.lines_are };
+        counts = record { hands_are = work.counts.hands_are; taken_is = work.counts.taken_is; made_is = work.counts.made_is; lines_are = work.counts.lines_are };
         number = work.number;
         asks = tt;
         up_to = record { before = Did (acts.Drop held.hand true) ∷ now; now_is = refl; ends = λ after x. ends after (last_unowned x) };
@@ -249,5 +249,5 @@ vacates w served t last now work slot plan once.Start u takes = plainly w t _ la
   stands = record { works = work.works; in_phase = work.phase; counts = work.counts; number = work.number; asks = tt; up_to = u };
 })
 vacates w served t last now work slot plan once.Asked u takes = over-by w served t last now work (acts.Vacate slot)
-    (record { hands_are = work.counts.hands_are; made_is = work.counts.made_is; lines_are = work.counts.lines_are }) (u.ends (Did (acts.Vacate slot) ∷ now) (rw u.now_is inline))
+    (record { hands_are = work.counts.hands_are; taken_is = work.counts.taken_is; made_is = work.counts.made_is; lines_are = work.counts.lines_are }) (u.ends (Did (acts.Vacate slot) ∷ now) (rw u.now_is inline))
 vacates w served t last now work slot plan once.Ended u takes = absurd takes

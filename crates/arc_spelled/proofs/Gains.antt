@@ -92,10 +92,10 @@ gain-asks w t last now work gain to from plan step u out = plainly w t _ last no
 -- ---- from a variable
 
 -- it has one reference more
-counted-gain : (w : Work) (hands objects : ℕ) (kept : Kept) (now : List Note) (gain : Gain) (from : Source) (k : ℕ) → IsCounted w hands objects kept now → IsCounted w (hands + 1) objects kept (Did (act_of gain from k) ∷ now)
-counted-gain w hands objects kept now gains.Copy from k c = record { hands_are = ap (λ (n : ℕ). n + 1) c.hands_are; made_is = c.made_is; lines_are = c.lines_are }
-counted-gain w hands objects kept now gains.Unown from k c = record { hands_are = ap (λ (n : ℕ). n + 1) c.hands_are; made_is = c.made_is; lines_are = c.lines_are }
-counted-gain w hands objects kept now gains.Load from k c = record { hands_are = ap (λ (n : ℕ). n + 1) c.hands_are; made_is = c.made_is; lines_are = c.lines_are }
+counted-gain : (w : Work) (hands taken objects : ℕ) (kept : Kept) (now : List Note) (gain : Gain) (from : Source) (k : ℕ) → IsCounted w hands taken objects kept now → IsCounted w (hands + 1) taken objects kept (Did (act_of gain from k) ∷ now)
+counted-gain w hands taken objects kept now gains.Copy from k c = record { hands_are = ap (λ (n : ℕ). n + 1) c.hands_are; taken_is = c.taken_is; made_is = c.made_is; lines_are = c.lines_are }
+counted-gain w hands taken objects kept now gains.Unown from k c = record { hands_are = ap (λ (n : ℕ). n + 1) c.hands_are; taken_is = c.taken_is; made_is = c.made_is; lines_are = c.lines_are }
+counted-gain w hands taken objects kept now gains.Load from k c = record { hands_are = ap (λ (n : ℕ). n + 1) c.hands_are; taken_is = c.taken_is; made_is = c.made_is; lines_are = c.lines_are }
 
 -- the new reference is of the kind of its variable
 gained-fits : (w : Work) → IsServedWork w → (t : Thread) (now : List Note) → IsAtWork w t now → (gain : Gain) (to : ℕ) (from : Held) → IsGaining w t.index gain to from t.vars now → list_of gain (of_hand from) ≡ kind_of w.kinds to
@@ -115,8 +115,8 @@ says-ok w served t last now work gain to from u answered =
     plainly w t _ last now (Some (act_of gain (of_hand from) (t.hands + 1)))
     (comes-after w _ (Some (act_of gain (of_hand from) (t.hands + 1))) (Did (act_of gain (of_hand from) (t.hands + 1)) ∷ now) (Line answers.Ok ∷ Did (act_of gain (of_hand from) (t.hands + 1)) ∷ now) (line nothing)
     (replaces w served (put answers.Ok (came_by gain (of_hand from) (given t))) to (Some (gained gain (of_hand from) t)) (op_of gain to u.of) answers.Ok u.begun.base (Did (act_of gain (of_hand from) (t.hands + 1)) ∷ now) work.works
-    (counted-line w (t.hands + 1) t.made t.kept (thread.number_of t) answers.Ok (Did (act_of gain (of_hand from) (t.hands + 1)) ∷ now) (number-here w t (Did (act_of gain (of_hand from) (t.hands + 1)) ∷ now) work.works work.number)
-    (counted-gain w t.hands t.made t.kept now gain (of_hand from) (t.hands + 1) work.counts))
+    (counted-line w (t.hands + 1) t.taken t.made t.kept (thread.number_of t) answers.Ok (Did (act_of gain (of_hand from) (t.hands + 1)) ∷ now) (number-here w t (Did (act_of gain (of_hand from) (t.hands + 1)) ∷ now) work.works work.number)
+    (counted-gain w t.hands t.taken t.made t.kept now gain (of_hand from) (t.hands + 1) work.counts))
     work.number work.phase u.begun.done u.begun.there (fits-some w.kinds to (gained gain (of_hand from) t) (gained-fits w served t now work gain to from u)) (subst P u.begun.now_is answered)))
   where
     P : List Note → Type 0
@@ -135,7 +135,7 @@ hand-gained w served t last now work gains.Load to from plan u = plainly w t _ l
   stands = record {
     works = work.works;
     in_phase = work.phase;
-    counts = counted-gain w t.hands t.made t.kept now gains.Load (of_hand from) (t.hands + 1) work.counts;
+    counts = counted-gain w t.hands t.taken t.made t.kept now gains.Load (of_hand from) (t.hands + 1) work.counts;
     number = work.number;
     asks = tt;
     up_to = record {
@@ -156,8 +156,8 @@ load-finds-dead w served t last now work to from u =
     plainly w t _ last now (Some (acts.Load from.hand gots.Dead))
     (comes-after w _ (Some (acts.Load from.hand gots.Dead)) (Did (acts.Load from.hand gots.Dead) ∷ now) (Line answers.Dead ∷ Did (acts.Load from.hand gots.Dead) ∷ now) (line nothing)
     (replaces w served (put answers.Dead (record t { doing = Ended; first = false; event = Some (acts.Load from.hand gots.Dead) })) to None (op.Load to u.of) answers.Dead u.begun.base (Did (acts.Load from.hand gots.Dead) ∷ now) work.works
-    (counted-line w t.hands t.made t.kept (thread.number_of t) answers.Dead (Did (acts.Load from.hand gots.Dead) ∷ now) (number-here w t (Did (acts.Load from.hand gots.Dead) ∷ now) work.works work.number)
-    (record { hands_are = work.counts.hands_are; made_is = work.counts.made_is; lines_are = work.counts.lines_are }))
+    (counted-line w t.hands t.taken t.made t.kept (thread.number_of t) answers.Dead (Did (acts.Load from.hand gots.Dead) ∷ now) (number-here w t (Did (acts.Load from.hand gots.Dead) ∷ now) work.works work.number)
+    (record { hands_are = work.counts.hands_are; taken_is = work.counts.taken_is; made_is = work.counts.made_is; lines_are = work.counts.lines_are }))
     work.number work.phase u.begun.done u.begun.there (λ h e. absurd (cc)) (subst P u.begun.now_is answered)))
   where
     P : List Note → Type 0
@@ -182,7 +182,7 @@ cell-copied w t last now work knows to cell kind place plan u out = turned-by w 
       stands = record {
         works = work.works;
         in_phase = work.phase;
-        counts = record { hands_are = hand_is; made_is = work.counts.made_is; lines_are = work.counts.lines_are };
+        counts = record { hands_are = hand_is; taken_is = work.counts.taken_is; made_is = work.counts.made_is; lines_are = work.counts.lines_are };
         number = work.number;
         asks = tt;
         up_to = record {
@@ -307,8 +307,8 @@ named w served t word now work to held plan u =
     turned-by w t _ (Some word) now None found (record { read = found; reads = read_name u.asks for_line refl; referred = found; refers = refers_nothing; finds = found_nothing })
     (comes-after w _ None found (Line (answers.Got (isa_name_of word)) ∷ found) (line nothing)
     (replaces w served (put (answers.Got (isa_name_of word)) (given t)) to (Some held) (op.Load to g.of) (answers.Got (isa_name_of word)) g.begun.base found work.works
-    (counted-line w t.hands t.made t.kept (thread.number_of t) (answers.Got (isa_name_of word)) found (number-here w t found work.works work.number)
-    (record { hands_are = work.counts.hands_are; made_is = work.counts.made_is; lines_are = work.counts.lines_are }))
+    (counted-line w t.hands t.taken t.made t.kept (thread.number_of t) (answers.Got (isa_name_of word)) found (number-here w t found work.works work.number)
+    (record { hands_are = work.counts.hands_are; taken_is = work.counts.taken_is; made_is = work.counts.made_is; lines_are = work.counts.lines_are }))
     work.number work.phase g.begun.done g.begun.there fits (subst P (sym now_is) (subst Q (sym held_is) answered))))
   where
     g : IsGaining w t.index gains.Load to u.from t.vars u.before

@@ -79,8 +79,8 @@ finds-nil w served t last now work to cell u =
     plainly w t _ last now (Some (acts.Look cell.name))
     (comes-after w _ (Some (acts.Look cell.name)) (Did (acts.Look cell.name) ∷ now) (Line answers.Nil ∷ Did (acts.Look cell.name) ∷ now) (line nothing)
     (replaces w served (put answers.Nil (record t { doing = Ended; first = false; event = Some (acts.Look cell.name) })) to None (op.Get to u.of) answers.Nil u.begun.base (Did (acts.Look cell.name) ∷ now) work.works
-    (counted-line w t.hands t.made t.kept (thread.number_of t) answers.Nil (Did (acts.Look cell.name) ∷ now) (number-here w t (Did (acts.Look cell.name) ∷ now) work.works work.number)
-    (record { hands_are = work.counts.hands_are; made_is = work.counts.made_is; lines_are = work.counts.lines_are }))
+    (counted-line w t.hands t.taken t.made t.kept (thread.number_of t) answers.Nil (Did (acts.Look cell.name) ∷ now) (number-here w t (Did (acts.Look cell.name) ∷ now) work.works work.number)
+    (record { hands_are = work.counts.hands_are; taken_is = work.counts.taken_is; made_is = work.counts.made_is; lines_are = work.counts.lines_are }))
     work.number work.phase u.begun.done u.begun.there (λ h e. absurd (cc)) (subst P (sym u.begun.now_is) answered)))
   where
     start : List Note
@@ -120,7 +120,7 @@ got-at-last w served t last now work to cell held plan u =
     plainly w t _ last now None
     (comes-after w _ None now (Line answers.Ok ∷ now) (line nothing)
     (replaces w served (put answers.Ok (given t)) to (Some held) o answers.Ok g.begun.base now work.works
-    (counted-line w t.hands t.made t.kept (thread.number_of t) answers.Ok now (number-here w t now work.works work.number) work.counts)
+    (counted-line w t.hands t.taken t.made t.kept (thread.number_of t) answers.Ok now (number-here w t now work.works work.number) work.counts)
     work.number work.phase g.begun.done g.begun.there fits (subst P (sym now_is) answered)))
   where
     g : IsGetting w t.index to (record { name = cell; kind = held.kind }) t.vars u.before

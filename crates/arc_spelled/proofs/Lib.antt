@@ -15,3 +15,5 @@ pub mod Deinits
 pub mod StepperKeeps
 pub mod Declared
 pub mod SteppersSpell
+pub mod Puts
+pub mod HandsLeft

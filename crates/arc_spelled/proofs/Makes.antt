@@ -78,7 +78,7 @@ makes w served t last now work to name plan (search.Looking word) u = looks (fre
     further false = plainly w t _ last now (Some acts.Full)
         (comes-after w _ (Some acts.Full) (Did acts.Full ∷ now) (Line answers.Full ∷ Did acts.Full ∷ now) (line nothing)
         (goes-on w served (put answers.Full (record t { doing = Ended; first = false; event = Some acts.Full })) (Line answers.Full ∷ Did acts.Full ∷ now) work.works
-        (counted-line w t.hands t.made t.kept (thread.number_of t) answers.Full (Did acts.Full ∷ now) (number-here w t (Did acts.Full ∷ now) work.works work.number) (record { hands_are = work.counts.hands_are; made_is = work.counts.made_is; lines_are = work.counts.lines_are }))
+        (counted-line w t.hands t.taken t.made t.kept (thread.number_of t) answers.Full (Did acts.Full ∷ now) (number-here w t (Did acts.Full ∷ now) work.works work.number) (record { hands_are = work.counts.hands_are; taken_is = work.counts.taken_is; made_is = work.counts.made_is; lines_are = work.counts.lines_are }))
         work.number work.phase full))
 
     looks : (free : Option ℕ) → Turns w t
@@ -99,7 +99,7 @@ makes w served t last now work to name plan (search.Taking s seen) u = takes_it 
       stands = record {
         works = work.works;
         in_phase = work.phase;
-        counts = record { hands_are = ap (λ (n : ℕ). n + 1) work.counts.hands_are; made_is = ap (λ (n : ℕ). n + 1) work.counts.made_is; lines_are = work.counts.lines_are };
+        counts = record { hands_are = ap (λ (n : ℕ). n + 1) work.counts.hands_are; taken_is = work.counts.taken_is; made_is = ap (λ (n : ℕ). n + 1) work.counts.made_is; lines_are = work.counts.lines_are };
         number = work.number;
         asks = tt;
         up_to = record { before = now; making = u; now_is = rw work.counts.hands_are refl };
@@ -110,7 +110,7 @@ makes w served t last now work to name plan (search.Counting s) u = search-goes-
 makes w served t last now work to name plan (search.Naming s) u = plainly w t _ last now None
     (comes-after w _ None now (Line (answers.New name) ∷ now) (line nothing)
     (replaces w served (put (answers.New name) (given t)) to (Some (strong_to t.hands s)) (op.New to name.class) (answers.New name) b.base now work.works
-    (counted-line w t.hands t.made t.kept (thread.number_of t) (answers.New name) now (number-here w t now work.works work.number) work.counts)
+    (counted-line w t.hands t.taken t.made t.kept (thread.number_of t) (answers.New name) now (number-here w t now work.works work.number) work.counts)
     work.number work.phase b.done b.there fits answered))
   where
     m : IsMade w t.index to name s t.vars now

@@ -159,7 +159,7 @@ pub more_is_known : MoreIsKnown
 more_is_known w more t fs now s x = record {
   works = record { layout_is = s.works.layout_is; shape_is = s.works.shape_is; thread_is = s.works.thread_is; phases_is = s.works.phases_is; program_is = s.works.program_is; classes_are = s.works.classes_are; kinds = s.works.kinds };
   in_phase = in-phase-too w more t.phase t.index t.doing s.in_phase;
-  counts = record { hands_are = s.counts.hands_are; made_is = s.counts.made_is; lines_are = s.counts.lines_are };
+  counts = record { hands_are = s.counts.hands_are; taken_is = s.counts.taken_is; made_is = s.counts.made_is; lines_are = s.counts.lines_are };
   number = numbered-too w more t.index now (is_busy t.doing) s.number;
   asks = s.asks;
   up_to = up-to-too w more x t.index t.vars t.cleared fs t.asked now t.doing s.up_to;

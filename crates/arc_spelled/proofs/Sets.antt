@@ -120,22 +120,22 @@ sets-to w served t last now work knows from cell place u = go
     go : (nil : Bool) → was_there cell.name (cond nil None (Some there)) ≡ came_out t last → Turns w t (set_to from cell (cond nil None (Some there)) (given t)) last now
     go true out =
         let event : Act = acts.Swap cell.name put_there None in
-        let counts : IsCounted w t.hands t.made t.kept (Did event ∷ now) = record { hands_are = work.counts.hands_are; made_is = work.counts.made_is; lines_are = work.counts.lines_are } in
+        let counts : IsCounted w t.hands t.taken t.made t.kept (Did event ∷ now) = record { hands_are = work.counts.hands_are; taken_is = work.counts.taken_is; made_is = work.counts.made_is; lines_are = work.counts.lines_are } in
         plainly w t _ last now (Some event)
         (comes-after w _ (Some event) (Did event ∷ now) (Line answers.Ok ∷ Did event ∷ now) (line nothing)
         (goes-on w served (put answers.Ok (record t { doing = Ended; first = false; event = Some event; vars = set t.vars from None })) (Line answers.Ok ∷ Did event ∷ now) works
-        (counted-line w t.hands t.made t.kept (thread.number_of t) answers.Ok (Did event ∷ now) (number-here w t (Did event ∷ now) work.works work.number) counts)
+        (counted-line w t.hands t.taken t.made t.kept (thread.number_of t) answers.Ok (Did event ∷ now) (number-here w t (Did event ∷ now) work.works work.number) counts)
         work.number work.phase (over-done w t.index (set t.vars from None) t.cleared (Line answers.Ok ∷ Did event ∷ now) within (rw (put-held t.vars from None) (answers_last next nothing_there)))))
     go false out =
         let event : Act = acts.Swap cell.name put_there (Some (t.hands + 1)) in
-        let counts : IsCounted w (t.hands + 1) t.made t.kept (Did event ∷ now) = record { hands_are = ap (λ (n : ℕ). n + 1) work.counts.hands_are; made_is = work.counts.made_is; lines_are = work.counts.lines_are } in
+        let counts : IsCounted w (t.hands + 1) t.taken t.made t.kept (Did event ∷ now) = record { hands_are = ap (λ (n : ℕ). n + 1) work.counts.hands_are; taken_is = work.counts.taken_is; made_is = work.counts.made_is; lines_are = work.counts.lines_are } in
         let came : w.came (t.hands + 1) ≡ Some (record { kind = cell.kind; place = place }) = knows (record { cell = cell.name; hand = t.hands + 1; kind = cell.kind; place = place }) (sym out) in
         plainly w t _ last now (Some event) (record {
           after = Line answers.Ok ∷ Did event ∷ now;
           says = line nothing;
           event = refl;
           stands = drop-asks w (put answers.Ok (record t { doing = Ended; first = false; event = Some event; hands = t.hands + 1; vars = set t.vars from None })) there (Line answers.Ok ∷ Did event ∷ now) works
-              (counted-line w (t.hands + 1) t.made t.kept (thread.number_of t) answers.Ok (Did event ∷ now) (number-here w t (Did event ∷ now) work.works work.number) counts)
+              (counted-line w (t.hands + 1) t.taken t.made t.kept (thread.number_of t) answers.Ok (Did event ∷ now) (number-here w t (Did event ∷ now) work.works work.number) counts)
               work.number work.phase (rw (cell-kind w.shape w.classes t.vars u.of cell u.cell_is) (counted-cell w served u.of))
               (λ after x. over-done w t.index (set t.vars from None) t.cleared after within (rw (put-held t.vars from None) (drops_last next (something_there came) x)));
         })
@@ -199,14 +199,14 @@ clears-it w served t last now work knows place u = go
     go : (nil : Bool) → was_there (next_global t).name (cond nil None (Some there)) ≡ came_out t last → Turns w t (cleared (next_global t) (cond nil None (Some there)) (given t)) last now
     go true out =
         let event : Act = acts.Swap (cells.Global t.cleared) None None in
-        let counts : IsCounted w t.hands t.made t.kept (Did event ∷ now) = record { hands_are = work.counts.hands_are; made_is = work.counts.made_is; lines_are = work.counts.lines_are } in
+        let counts : IsCounted w t.hands t.taken t.made t.kept (Did event ∷ now) = record { hands_are = work.counts.hands_are; taken_is = work.counts.taken_is; made_is = work.counts.made_is; lines_are = work.counts.lines_are } in
         plainly w t _ last now (Some event)
         (goes-on w served (record t { doing = Ended; first = false; event = Some event; cleared = t.cleared + 1 }) (Did event ∷ now) work.works counts work.number work.phase
         (over-cleared w served t.index t.vars (t.cleared + 1) (Did event ∷ now) u.thread_is (record { no_vars = u.so_far.no_vars; globals = global_nil u.so_far.globals u.within refl })))
     go false out =
         let event : Act = acts.Swap (cells.Global t.cleared) None (Some (t.hands + 1)) in
         let hand_is : t.hands + 1 ≡ hands_of now + 1 = ap (λ (n : ℕ). n + 1) work.counts.hands_are in
-        let counts : IsCounted w (t.hands + 1) t.made t.kept (Did event ∷ now) = record { hands_are = hand_is; made_is = work.counts.made_is; lines_are = work.counts.lines_are } in
+        let counts : IsCounted w (t.hands + 1) t.taken t.made t.kept (Did event ∷ now) = record { hands_are = hand_is; taken_is = work.counts.taken_is; made_is = work.counts.made_is; lines_are = work.counts.lines_are } in
         let came : w.came (t.hands + 1) ≡ Some (record { kind = there.kind; place = place }) = knows (record { cell = cells.Global t.cleared; hand = t.hands + 1; kind = there.kind; place = place }) (sym out) in
         plainly w t _ last now (Some event) (record {
           after = Did event ∷ now;

@@ -113,21 +113,22 @@ line-kept room n a now e =
     let x : Told = record { operation = number_of now; answer = a } in
     rw e (ap kept_as (keep-line room (told now) x ∙ ap (λ (ls : List Told). take room ls) (sym (reverse-append (x ∷ []) (lines_of now)))))
 
-pub counted-line : (w : Work) (hands made : ℕ) (kept : Kept) (n : ℕ) (a : Answer) (now : List Note) → n ≡ number_of now → IsCounted w hands made kept now →
-    IsCounted w hands made (with_line (record { operation = n; answer = a }) kept) (Line a ∷ now)
-counted-line w hands made kept n a now e c = record {
+pub counted-line : (w : Work) (hands taken made : ℕ) (kept : Kept) (n : ℕ) (a : Answer) (now : List Note) → n ≡ number_of now → IsCounted w hands taken made kept now →
+    IsCounted w hands taken made (with_line (record { operation = n; answer = a }) kept) (Line a ∷ now)
+counted-line w hands taken made kept n a now e c = record {
   hands_are = c.hands_are;
+  taken_is = c.taken_is;
   made_is = c.made_is;
   lines_are = ap (λ (k : Kept). with_line (record { operation = n; answer = a }) k) c.lines_are ∙ line-kept w.room n a now e;
 }
 
-pub counted-operation : (w : Work) (hands made : ℕ) (kept : Kept) (n : ℕ) (now : List Note) → IsCounted w hands made kept now → IsCounted w hands made kept (Operation n ∷ now)
-counted-operation w hands made kept n now c = record { hands_are = c.hands_are; made_is = c.made_is; lines_are = c.lines_are }
+pub counted-operation : (w : Work) (hands taken made : ℕ) (kept : Kept) (n : ℕ) (now : List Note) → IsCounted w hands taken made kept now → IsCounted w hands taken made kept (Operation n ∷ now)
+counted-operation w hands taken made kept n now c = record { hands_are = c.hands_are; taken_is = c.taken_is; made_is = c.made_is; lines_are = c.lines_are }
 
 -- the line of an operation that is done at once
-pub skipped-line : (w : Work) (t : Thread) (a : Answer) (now : List Note) → WorksOn w t.layout t.shape t.thread t.phases t.program t.classes t.vars → IsCounted w t.hands t.made t.kept (Operation (ordinal w.program t.index) ∷ now) →
-    IsCounted w t.hands t.made (with_line (record { operation = ordinal t.program t.index; answer = a }) t.kept) (Line a ∷ Operation (ordinal w.program t.index) ∷ now)
-skipped-line w t a now works c = counted-line w t.hands t.made t.kept (ordinal t.program t.index) a (Operation (ordinal w.program t.index) ∷ now) (ap (λ (p : List Op). ordinal p t.index) works.program_is) c
+pub skipped-line : (w : Work) (t : Thread) (a : Answer) (now : List Note) → WorksOn w t.layout t.shape t.thread t.phases t.program t.classes t.vars → IsCounted w t.hands t.taken t.made t.kept (Operation (ordinal w.program t.index) ∷ now) →
+    IsCounted w t.hands t.taken t.made (with_line (record { operation = ordinal t.program t.index; answer = a }) t.kept) (Line a ∷ Operation (ordinal w.program t.index) ∷ now)
+skipped-line w t a now works c = counted-line w t.hands t.taken t.made t.kept (ordinal t.program t.index) a (Operation (ordinal w.program t.index) ∷ now) (ap (λ (p : List Op). ordinal p t.index) works.program_is) c
 
 -- the number that the stepper gives a line is that of the notes
 pub number-here : (w : Work) (t : Thread) (now : List Note) → WorksOn w t.layout t.shape t.thread t.phases t.program t.classes t.vars → number_of now ≡ number_at w t.index → thread.number_of t ≡ number_of now
@@ -220,7 +221,7 @@ nothing-left (y ∷ xs) zero e = absurd (cc)
 nothing-left (y ∷ xs) (suc i) e = let h = nothing-left xs i e in omega arith
 
 -- a drop begins
-pub drop-asks : (w : Work) (t : Thread) (held : Held) (now : List Note) → WorksOn w t.layout t.shape t.thread t.phases t.program t.classes t.vars → IsCounted w t.hands t.made t.kept now → number_of now ≡ number_at w t.index →
+pub drop-asks : (w : Work) (t : Thread) (held : Held) (now : List Note) → WorksOn w t.layout t.shape t.thread t.phases t.program t.classes t.vars → IsCounted w t.hands t.taken t.made t.kept now → number_of now ≡ number_at w t.index →
     IsOfPhase w t.phase t.index → IsCountedInline held.kind → DropEnds w t.index held t.vars t.cleared now → StandsFor w (drop_begun held t) [] now
 drop-asks w t held now works counts number phase counted ends = record {
   works = works;
@@ -234,7 +235,7 @@ drop-asks w t held now works counts number phase counted ends = record {
 -- ---- the end of the scope
 
 -- nothing is left to do
-ended : (w : Work) (t : Thread) (now : List Note) → WorksOn w t.layout t.shape t.thread t.phases t.program t.classes t.vars → IsCounted w t.hands t.made t.kept now → HasEnded (eqb w.thread 0) w now →
+ended : (w : Work) (t : Thread) (now : List Note) → WorksOn w t.layout t.shape t.thread t.phases t.program t.classes t.vars → IsCounted w t.hands t.taken t.made t.kept now → HasEnded (eqb w.thread 0) w now →
     Comes w (record t { doing = Ended; asked = moves.Ended }) t.event now
 ended w t now works counts u = record {
   after = now;
@@ -254,7 +255,7 @@ few-cleared (global_nil c within e) = omega (arith, e)
 few-cleared (global_cleared c within e k there x) = omega (arith, e)
 
 -- of a thread that has one
-scopes : (w : Work) → IsServedWork w → (t : Thread) (now : List Note) → WorksOn w t.layout t.shape t.thread t.phases t.program t.classes t.vars → IsCounted w t.hands t.made t.kept now → ltb t.index (length w.program) ≡ false → number_of now ≡ 0 →
+scopes : (w : Work) → IsServedWork w → (t : Thread) (now : List Note) → WorksOn w t.layout t.shape t.thread t.phases t.program t.classes t.vars → IsCounted w t.hands t.taken t.made t.kept now → ltb t.index (length w.program) ≡ false → number_of now ≡ 0 →
     length w.phases ≤ t.phase + 1 → eqb w.thread 0 ≡ false → IsInScope w t.vars now → Comes w (scope_begun t) t.event now
 scopes w served t now works counts past number last scoped s = go (position is_held t.vars) refl
   where
@@ -324,7 +325,7 @@ scopes w served t now works counts past number last scoped s = go (position is_h
         at (Some h) f g = held v h f found.0 found.2
 
 -- thread 0 clears its next global, or has cleared all
-clears : (w : Work) (t : Thread) (now : List Note) → WorksOn w t.layout t.shape t.thread t.phases t.program t.classes t.vars → IsCounted w t.hands t.made t.kept now → ltb t.index (length w.program) ≡ false → number_of now ≡ 0 →
+clears : (w : Work) (t : Thread) (now : List Note) → WorksOn w t.layout t.shape t.thread t.phases t.program t.classes t.vars → IsCounted w t.hands t.taken t.made t.kept now → ltb t.index (length w.program) ≡ false → number_of now ≡ 0 →
     length w.phases ≤ t.phase + 1 → eqb w.thread 0 ≡ true → HasCleared w t.vars t.cleared now → Comes w (scope_begun t) t.event now
 clears w t now works counts past number last ends c = rw (no-variable t.vars c.no_vars, first_zero) (go (ltb t.cleared (length w.shape.globals)) refl)
   where
@@ -352,7 +353,7 @@ clears w t now works counts past number last ends c = rw (no-variable t.vars c.n
         ended w t now works counts (rw ends (rw (sym all) c.globals))
 
 -- the scope ends, or thread 0 clears the globals
-pub ends-on : (w : Work) → IsServedWork w → (t : Thread) (now : List Note) → WorksOn w t.layout t.shape t.thread t.phases t.program t.classes t.vars → IsCounted w t.hands t.made t.kept now → ltb t.index (length w.program) ≡ false → number_of now ≡ 0 →
+pub ends-on : (w : Work) → IsServedWork w → (t : Thread) (now : List Note) → WorksOn w t.layout t.shape t.thread t.phases t.program t.classes t.vars → IsCounted w t.hands t.taken t.made t.kept now → ltb t.index (length w.program) ≡ false → number_of now ≡ 0 →
     length w.phases ≤ t.phase + 1 → IsAtEnd (eqb w.thread 0) w t.vars t.cleared now → Comes w (scope_begun t) t.event now
 ends-on w served t now works counts past number last s = go (eqb w.thread 0) refl s
   where
@@ -404,7 +405,7 @@ abbrev pub Uncleared : Work → ℕ → Type 0
 Uncleared w cleared = w.thread ≡ 0 → cleared ≡ 0
 
 -- the operations of the phase are done: it waits for the next phase, or the scope ends
-pub ends-phase : (w : Work) → IsServedWork w → (at : ℕ) (t : Thread) (now : List Note) → WorksOn w t.layout t.shape t.thread t.phases t.program t.classes t.vars → IsCounted w t.hands t.made t.kept now →
+pub ends-phase : (w : Work) → IsServedWork w → (at : ℕ) (t : Thread) (now : List Note) → WorksOn w t.layout t.shape t.thread t.phases t.program t.classes t.vars → IsCounted w t.hands t.taken t.made t.kept now →
     [] ≡ drop at (take (ops_in_first (t.phase + 1) w.phases) w.program) → at ≤ t.index → t.index ≤ ops_in_first (t.phase + 1) w.phases → AreDone w t.index t.vars now → Uncleared w t.cleared → Comes w (phase_over t) t.event now
 ends-phase w served at t now works counts r past_it before d none = subst P (sym works.phases_is) (go (ltb (t.phase + 1) (length w.phases)) refl)
   where
@@ -424,7 +425,7 @@ ends-phase w served at t now works counts r past_it before d none = subst P (sym
 
     ending : length w.phases ≤ t.phase + 1 → Comes w (scope_begun t) t.event now
     ending last = comes-after w (scope_begun t) t.event now (Operation 0 ∷ now) (operation nothing)
-        (ends-on w served t (Operation 0 ∷ now) works (counted-operation w t.hands t.made t.kept 0 now counts) (past (ltb t.index (length w.program)) refl) refl last (end_from (eqb w.thread 0) refl))
+        (ends-on w served t (Operation 0 ∷ now) works (counted-operation w t.hands t.taken t.made t.kept 0 now counts) (past (ltb t.index (length w.program)) refl) refl last (end_from (eqb w.thread 0) refl))
       where
         over : t.index ≡ length w.program
         over = at_end ∙ first_all (t.phase + 1) w.phases last ∙ sym total
@@ -463,13 +464,13 @@ ends-phase w served at t now works counts r past_it before d none = subst P (sym
 pub record Opens (w : Work) (t : Thread) (now : List Note) (o : Op) : Type 0 where
   pub next : IsNext w.shape w.thread w.came w.program w.count t.index o (variables t.vars) now
   pub number : number_of (Operation (ordinal w.program t.index) ∷ now) ≡ number_at w t.index
-  pub opened : IsCounted w t.hands t.made t.kept (Operation (ordinal w.program t.index) ∷ now)
+  pub opened : IsCounted w t.hands t.taken t.made t.kept (Operation (ordinal w.program t.index) ∷ now)
 
-pub opens : (w : Work) (t : Thread) (now : List Note) (o : Op) (rest : List Op) → IsHere w t o rest → IsCounted w t.hands t.made t.kept now → AreDone w t.index t.vars now → Opens w t now o
+pub opens : (w : Work) (t : Thread) (now : List Note) (o : Op) (rest : List Op) → IsHere w t o rest → IsCounted w t.hands t.taken t.made t.kept now → AreDone w t.index t.vars now → Opens w t now o
 opens w t now o rest here counts d = record {
   next = record { done = d; there = here.there };
   number = sym (number-within w t.index here.within);
-  opened = counted-operation w t.hands t.made t.kept (ordinal w.program t.index) now counts;
+  opened = counted-operation w t.hands t.taken t.made t.kept (ordinal w.program t.index) now counts;
 }
 
 -- a nil reference is taken for a variable
@@ -489,7 +490,7 @@ from-nil w served t now o rest to go works here x nil skip = at (value t.vars to
       says = line (operation nothing);
       event = refl;
       stands = drop-asks w (set_var to None (put answers.Nil (record t { first = true }))) old (Line answers.Nil ∷ Operation (ordinal w.program t.index) ∷ now) (works-over w t works (kinds-nil w.kinds t.vars to works.kinds))
-          (counted-line w t.hands t.made t.kept (thread.number_of t) answers.Nil (Operation (ordinal w.program t.index) ∷ now) (number-here w t (Operation (ordinal w.program t.index) ∷ now) works x.number) x.opened)
+          (counted-line w t.hands t.taken t.made t.kept (thread.number_of t) answers.Nil (Operation (ordinal w.program t.index) ∷ now) (number-here w t (Operation (ordinal w.program t.index) ∷ now) works x.number) x.opened)
           x.number here.in_phase (counted-in w served t.vars to old works.kinds e)
           (λ after y. over-done w t.index (set t.vars to None) t.cleared after here.within (rw (put-held t.vars to None) (drops_last x.next (answered (Some old) e) y)));
     }
@@ -553,7 +554,7 @@ moving w served t now to from rest go works here x skip move = at (value t.vars 
       says = line (operation nothing);
       event = refl;
       stands = drop-asks w (moved to from h (put answers.Ok (record t { first = true }))) old (Line answers.Ok ∷ Operation (ordinal w.program t.index) ∷ now) (works-over w t works (kinds h e))
-          (counted-line w t.hands t.made t.kept (thread.number_of t) answers.Ok (Operation (ordinal w.program t.index) ∷ now) (number-here w t (Operation (ordinal w.program t.index) ∷ now) works x.number) x.opened)
+          (counted-line w t.hands t.taken t.made t.kept (thread.number_of t) answers.Ok (Operation (ordinal w.program t.index) ∷ now) (number-here w t (Operation (ordinal w.program t.index) ∷ now) works x.number) x.opened)
           x.number here.in_phase (counted-in w served t.vars to old works.kinds f)
           (λ after y. over-done w t.index (set (set t.vars to (Some h)) from None) t.cleared after here.within (rw (replaced_vars h) (drops_last x.next (answered h (Some old) e f) y)));
     }
@@ -577,7 +578,7 @@ dropping w served t now v rest go works here x skip = at (value t.vars v) refl
       says = line (operation nothing);
       event = refl;
       stands = drop-asks w (set_var v None (put answers.Ok (record t { first = true }))) old (Line answers.Ok ∷ Operation (ordinal w.program t.index) ∷ now) (works-over w t works (kinds-nil w.kinds t.vars v works.kinds))
-          (counted-line w t.hands t.made t.kept (thread.number_of t) answers.Ok (Operation (ordinal w.program t.index) ∷ now) (number-here w t (Operation (ordinal w.program t.index) ∷ now) works x.number) x.opened)
+          (counted-line w t.hands t.taken t.made t.kept (thread.number_of t) answers.Ok (Operation (ordinal w.program t.index) ∷ now) (number-here w t (Operation (ordinal w.program t.index) ∷ now) works x.number) x.opened)
           x.number here.in_phase (counted-in w served t.vars v old works.kinds e)
           (λ after y. over-done w t.index (set t.vars v None) t.cleared after here.within
           (rw (put-held t.vars v None) (drops_last x.next (drop_of w.thread v w.came (held_of old) (variables t.vars) (Operation (ordinal w.program t.index) ∷ now) (value-held t.vars v (Some old) e)) y)));
@@ -587,7 +588,7 @@ dropping w served t now v rest go works here x skip = at (value t.vars v) refl
 
 -- what goes on behind an operation of the phase
 abbrev pub GoesOnBehind : Work → ℕ → List Op → ℕ → Type 0
-GoesOnBehind w at rest phase = (u : Thread) (ns : List Note) → WorksOn w u.layout u.shape u.thread u.phases u.program u.classes u.vars → IsCounted w u.hands u.made u.kept ns → u.phase ≡ phase →
+GoesOnBehind w at rest phase = (u : Thread) (ns : List Note) → WorksOn w u.layout u.shape u.thread u.phases u.program u.classes u.vars → IsCounted w u.hands u.taken u.made u.kept ns → u.phase ≡ phase →
     at + 1 ≤ u.index → u.index ≤ ops_in_first (phase + 1) w.phases → AreDone w u.index u.vars ns → Comes w (begun_at (at + 1) rest u) u.event ns
 
 -- a variable holds a reference for the stepper exactly where it does for the notes
@@ -599,7 +600,7 @@ same-held vars v = ap is_some (value-held vars v (value vars v) refl) ∙ go (va
     go (Some h) = refl
 
 -- a block begins: the thread goes on in it, or behind it
-pub comes-to-block : (w : Work) → IsServedWork w → (at : ℕ) (o : Op) (rest : List Op) (t : Thread) (now : List Note) → WorksOn w t.layout t.shape t.thread t.phases t.program t.classes t.vars → IsCounted w t.hands t.made t.kept now → at ≡ t.index →
+pub comes-to-block : (w : Work) → IsServedWork w → (at : ℕ) (o : Op) (rest : List Op) (t : Thread) (now : List Note) → WorksOn w t.layout t.shape t.thread t.phases t.program t.classes t.vars → IsCounted w t.hands t.taken t.made t.kept now → at ≡ t.index →
     IsHere w t o rest → AreDone w t.index t.vars now → GoesOnBehind w at rest t.phase → begins_block o ≡ true → (n : ℕ) → block_goes_on t.vars t.index o ≡ Some n → n ≡ programs_go_on (variables t.vars) t.index o →
     Comes w (begun_at (at + 1) rest (record t { index = n })) t.event now
 comes-to-block w served at o rest t now works counts place here d on begins n goes same =
@@ -610,7 +611,7 @@ comes-to-block w served at o rest t now works counts place here d on begins n go
     on (record t { index = n }) now works counts refl (omega (arith, past, place)) forth.1 (block d here.there begins same past)
 
 -- an operation begins that gains a reference
-pub comes-to-gain : (w : Work) → IsServedWork w → (at : ℕ) (gain : Gain) (to of : ℕ) (rest : List Op) (t : Thread) (now : List Note) → WorksOn w t.layout t.shape t.thread t.phases t.program t.classes t.vars → IsCounted w t.hands t.made t.kept now → at ≡ t.index →
+pub comes-to-gain : (w : Work) → IsServedWork w → (at : ℕ) (gain : Gain) (to of : ℕ) (rest : List Op) (t : Thread) (now : List Note) → WorksOn w t.layout t.shape t.thread t.phases t.program t.classes t.vars → IsCounted w t.hands t.taken t.made t.kept now → at ≡ t.index →
     IsHere w t (op_of gain to of) rest → AreDone w t.index t.vars now → GoesOnBehind w at rest t.phase → Comes w (begun_gain gain to (value t.vars of) (value t.vars to) t (λ behind. begun_at (at + 1) rest behind)) t.event now
 comes-to-gain w served at gain to of rest t now works counts place here d on =
     let x = opens w t now (op_of gain to of) rest here counts d in

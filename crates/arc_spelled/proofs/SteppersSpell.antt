@@ -80,7 +80,7 @@ pub steppers_begin : SteppersBegin
 steppers_begin script p came = record {
   works = record { layout_is = refl; shape_is = refl; thread_is = refl; phases_is = refl; program_is = refl; classes_are = refl; kinds = none-held (kinds_of script p) (vars_of script p) };
   in_phase = refl;
-  counts = record { hands_are = refl; made_is = refl; lines_are = rw take-nil refl };
+  counts = record { hands_are = refl; taken_is = refl; made_is = refl; lines_are = rw take-nil refl };
   number = tt;
   asks = refl;
   up_to = record { done = none (all-nil (vars_of script p)); uncleared = λ first. refl };

@@ -22,7 +22,7 @@ use Rattle.arc_spelled.proofs.StepperSteps.{ComesUnder, Comes}
 -- it works on the operation at its place, or on a drop at the end of the scope
 pub record IsAtWork (w : Work) (t : Thread) (now : List Note) : Type 0 where
   pub works : WorksOn w t.layout t.shape t.thread t.phases t.program t.classes t.vars
-  pub counts : IsCounted w t.hands t.made t.kept now
+  pub counts : IsCounted w t.hands t.taken t.made t.kept now
   pub number : number_of now ≡ number_at w t.index
   pub phase : IsOfPhase w t.phase t.index
 

@@ -51,6 +51,7 @@ use Rattle.arc_ops.specs.Thread.{Thread, value, is_busy}
 use Rattle.arc_ops.specs.Turns.{turned}
 pub use Rattle.arc_spelled.specs.Work.{Work}
 use Rattle.arc_spelled.specs.Came.{came_out}
+use Rattle.arc_spelled.specs.Counts.{taken_out}
 use Rattle.arc_spelled.specs.Shown.{Adds, with_event}
 use Rattle.arc_spelled.specs.Releases.{IsReleasing}
 
@@ -257,9 +258,10 @@ pub record WorksOn (w : Work) (layout : Extent) (shape : HeapShape) (thread : �
 abbrev pub first_lines : ℕ → List Note → Kept
 first_lines room now = record { lines = take room (told now); room = room }
 
--- how many references came, and how many objects were made; and the lines that it keeps
-pub record IsCounted (w : Work) (hands made : ℕ) (kept : Kept) (now : List Note) : Type 0 where
+-- how many references came, how many of these out of fields, and how many objects were made; and the lines that it keeps
+pub record IsCounted (w : Work) (hands taken made : ℕ) (kept : Kept) (now : List Note) : Type 0 where
   pub hands_are : hands ≡ hands_of now
+  pub taken_is : taken ≡ taken_out now
   pub made_is : made ≡ made_of now
   pub lines_are : kept ≡ first_lines w.room now
 
@@ -299,7 +301,7 @@ IsInPhase w phase index _ = IsOfPhase w phase index
 pub record StandsFor (w : Work) (t : Thread) (fs : List Frame) (now : List Note) : Type 0 where
   pub works : WorksOn w t.layout t.shape t.thread t.phases t.program t.classes t.vars
   pub in_phase : IsInPhase w t.phase t.index t.doing
-  pub counts : IsCounted w t.hands t.made t.kept now
+  pub counts : IsCounted w t.hands t.taken t.made t.kept now
   pub number : IsNumberedIf (is_busy t.doing) w t.index now
   pub asks : Asks t.doing t.asked
   pub up_to : StepperUpTo w t.index t.vars t.cleared fs t.asked now t.doing

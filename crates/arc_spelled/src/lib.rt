@@ -10,6 +10,7 @@
 #![tactic(auto)]
 
 ghost use Rattle.arc_spelled.specs.Spelled.{SteppersBegin, MoreIsKnown, SteppersGoOn, EndedSteppersSpell, ReadySteppersHaveDone, AddedNotesAreTied};
+ghost use Rattle.arc_spelled.specs.Puts.{PutsAreFew, NotesCountCells, FewAreTaken, HandsAreLeft};
 
 /// A stepper stands for the notes that spell its thread's program up to where it is, under the chain of deinits that wait for one another: a
 /// new one for none, and after each word that it may be given, and that shows the chain, for these with what this turn adds, where what comes
@@ -36,4 +37,23 @@ pub fn ready_has_done()
 /// history with the event.
 pub fn added_notes_are_tied()
     ensures { AddedNotesAreTied }
+{}
+
+/// The notes that a stepper stands for put at most one reference into a cell for each operation of its program, wherever it is in an
+/// operation, a drop or a deinit.
+pub fn puts_are_few()
+    ensures { PutsAreFew }
+{}
+
+/// A thread's share of a history puts into cells and takes out of fields what its notes do.
+pub fn notes_count_cells()
+    ensures { NotesCountCells }
+{}
+
+/// In a legal history in which the notes of each of a script's threads are those that a stepper stands for, and in which no other
+/// thread has an event, each thread takes few references out of fields, since what comes out was put in before, and the operations
+/// of a script are few. Each of these steppers has counted what its thread took, and has a hand left.
+pub fn hands_are_left()
+    ensures few { FewAreTaken }
+    ensures left { HandsAreLeft }
 {}
