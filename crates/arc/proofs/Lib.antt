@@ -1,3 +1,4 @@
 pub mod Reported
 pub mod Printed
 pub mod Judged
+pub mod Unserved

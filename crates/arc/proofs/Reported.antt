@@ -1,5 +1,5 @@
 -- What the report and the history text ask of lines, events and words, from what a replay says of them.
-use Rattle.std.proofs.Common.{◌≡◌, ℕ, true, true≢false, List, length, ap, sym, subst, ◌∙◌}
+use Rattle.std.proofs.Common.{◌≡◌, ℕ, true, true≢false, Option, Some, None, List, length, ap, sym, subst, ◌∙◌}
 use Rattle.std.specs.Prelude.{All}
 use Rattle.std.specs.List.{AllByRecursion}
 use Rattle.std.proofs.lemmas.List.{length-map}
@@ -9,7 +9,9 @@ use Rattle.arc_model.specs.declared.event.CellName.TheVariants as cells
 use Rattle.arc_model.specs.declared.event.Origin.TheVariants.{Hand, Cell}
 use Rattle.arc_model.specs.declared.event.Act.{Act}
 use Rattle.arc_model.specs.declared.event.Act.TheVariants as acts
-use Rattle.arc_bits.specs.Words.{unpacked}
+use Rattle.arc_bits.specs.declared.packing.Word.{Word}
+use Rattle.arc_bits.specs.declared.packing.Word.TheVariants.{Free, Counts, Slow, Immortal}
+use Rattle.arc_ops.specs.Takes.{IsInline}
 use Rattle.arc_rule.specs.Extents.{Extent}
 use Rattle.arc_rule.specs.Places.{extent_of}
 use Rattle.arc_model.specs.Shapes.{HeapShape}
@@ -22,7 +24,7 @@ use Rattle.arc_ops.specs.declared.told.Stamped.{Stamped}
 use Rattle.arc_ops.specs.declared.told.ThreadLines.{ThreadLines}
 use Rattle.arc_plain.specs.declared.replay.Replay.{Replay}
 use Rattle.arc_replays.specs.Named.{IsThere, AnswerFits, LineFits, ActFits}
-use Rattle.arc_replays.specs.Left.{OnlyImmortals}
+use Rattle.arc_replays.specs.Left.{NoEntries}
 use Rattle.arc_plain.specs.Replays.{IsReplay}
 use Rattle.arc_report.specs.Lines.{AnswerHasClass, LinesHaveClasses, ThreadsHaveClasses}
 use Rattle.arc_report.specs.Events.{CellIsThere, ActIsNamed, EventIsNamed}
@@ -62,7 +64,7 @@ act_named shape (acts.Side slot entry why) h = absurd h
 act_named shape (acts.Back entry) h = absurd h
 act_named shape (acts.Swap cell put took) h = cell_named shape cell h
 act_named shape (acts.Look cell) h = cell_named shape cell h
-act_named shape (acts.Take slot field hand) h = absurd h
+act_named shape (acts.Take slot field hand) h = tt
 act_named shape (acts.Finish slot last) h = h
 act_named shape (acts.Vacate slot) h = h
 act_named shape (acts.Gone entry last) h = absurd h
@@ -70,17 +72,20 @@ act_named shape (acts.Gone entry last) h = absurd h
 pub events_named : (shape : HeapShape) (events : List Stamped) → All (λ (s : Stamped). ActFits shape s.event.act) events → AllByRecursion (EventIsNamed (length shape.classes) (length shape.globals)) events
 events_named shape events all = recursion_from_All (EventIsNamed (length shape.classes) (length shape.globals)) events (λ k d h. act_named shape _ (all k d h))
 
--- ---- words of a heap in which immortal objects alone are left
+-- ---- words of a heap in which no object has an entry
 
-one_is_there : (l : Extent) (w : ℕ) → w ≡ 1 → EntryIsThere l (unpacked w)
-unfolding unpacked
-one_is_there l w e = rw e tt
+inline_is_there : (l : Extent) (w : Option Word) → IsInline w → EntryIsThere l w
+inline_is_there l (Some Free) inline = tt
+inline_is_there l (Some (Counts c)) inline = tt
+inline_is_there l (Some (Slow e)) inline = absurd inline
+inline_is_there l (Some Immortal) inline = tt
+inline_is_there l None inline = tt
 
-pub final_words : (shape : HeapShape) (words : List ℕ) → OnlyImmortals shape words → AreFinalWords (extent_of shape) words
+pub final_words : (shape : HeapShape) (words : List ℕ) → NoEntries shape words → AreFinalWords (extent_of shape) words
 final_words shape words left = record {
   whole = left.whole;
   names = λ s h t. (left.slots s h t).named;
-  entries = λ s h t. one_is_there (extent_of shape) _ (left.slots s h t).count;
+  entries = λ s h t. inline_is_there (extent_of shape) _ (left.slots s h t).inline;
   links = λ e h t. absurd (true≢false (sym t ∙ left.entries e h));
 }
 
@@ -93,7 +98,7 @@ classes_count script valid = ap length valid.heading.of_classes ∙ simp length-
 globals_count : (script : Script) → IsScript script → length script.shape.globals ≡ length script.globals
 globals_count script valid = ap length valid.heading.of_globals ∙ simp length-map
 
-pub classes_there : (script : Script) (words : List ℕ) → IsScript script → OnlyImmortals script.shape words → ObjectsHaveClasses (length script.classes) (extent_of script.shape) words
+pub classes_there : (script : Script) (words : List ℕ) → IsScript script → NoEntries script.shape words → ObjectsHaveClasses (length script.classes) (extent_of script.shape) words
 classes_there script words valid left = subst (λ n. ObjectsHaveClasses n (extent_of script.shape) words) (classes_count script valid) (λ s h t. (left.slots s h t).class_there)
 
 pub threads_told : (script : Script) (r : Replay) → IsScript script → IsReplay script r → ThreadsHaveClasses (length script.classes) r.threads.items

@@ -1,4 +1,10 @@
 //! The inline word of an object's header: its counts and flags, or the number of its side table entry, in 64 bits.
+//!
+//! `pack` and `unpack` go between a word and what it says, and back: each word has one reading at most. The four moves of counts
+//! (`fast`) are one sum on the packed word each, and equal to the moves on counts by contract.
+//!
+//! It knows no heap, no slot and no thread, and makes no step: a word is a number here. Which counts a heap has is said in `arc_rule`;
+//! whether a count may rise is its caller's to ask.
 #![tactic(auto)]
 
 mod fast;

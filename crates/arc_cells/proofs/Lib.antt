@@ -1,2 +1,1 @@
-pub mod BareCascades
 pub mod Turns

@@ -2,7 +2,7 @@
 use Rattle.std.specs.Prelude.{ℕ, Bool, true, false, ◌≡◌, ◌≢◌, ◌==◌, nat_lt, ◌+◌, ◌-◌, ◌^◌, ◌<◌, ◌≤◌, if◌then◌else◌, [], length, slice_index_or, All, Option, Some, None, ⊤}
 use Rattle.std.specs.Option.{unwrap_or}
 use Rattle.arc_model.specs.Shapes.{HeapShape, ObjectClass, class_at}
-use Rattle.arc_model.specs.Spelling.{field_count}
+use Rattle.arc_model.specs.References.{field_count}
 use Rattle.arc_model.specs.declared.shape.Kind.{Kind}
 use Rattle.arc_model.specs.declared.shape.Kind.TheVariants.{Strong, Unowned}
 use Rattle.arc_model.specs.declared.event.ObjectName.{ObjectName}

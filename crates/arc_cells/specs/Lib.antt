@@ -1,4 +1,3 @@
-pub mod BareCascades
 pub mod Begins
 pub mod Cascades
 pub mod Chains

@@ -9,11 +9,12 @@ use Rattle.arc_model.specs.declared.event.Act.TheVariants.{Drop, Take, Finish}
 use Rattle.arc_model.specs.declared.shape.Kind.{Kind}
 use Rattle.arc_model.specs.declared.shape.Kind.TheVariants.{Strong, Unowned, Weak}
 use Rattle.arc_model.specs.Shapes.{HeapShape}
-use Rattle.arc_model.specs.Spelling.{Note, hands_of, field_count, IsEnd, IsDrop, IsCascade}
-use Rattle.arc_model.specs.Spelling.Note.{Did, Name, Entry, Nil, Refers}
-use Rattle.arc_model.specs.Spelling.FieldsDone.{named, noted, nil, taken}
-use Rattle.arc_model.specs.Spelling.IsDrop.{last_strong}
-use Rattle.arc_model.specs.Spelling.IsCascade.{finish_more, finish_last}
+use Rattle.arc_spelling.specs.Spelling.{Note, hands_of, IsEnd, IsDrop, IsCascade}
+use Rattle.arc_model.specs.References.{field_count}
+use Rattle.arc_spelling.specs.Spelling.Note.{Did, Name, Entry, Nil, Refers}
+use Rattle.arc_spelling.specs.Spelling.FieldsDone.{named, noted, nil, taken}
+use Rattle.arc_spelling.specs.Spelling.IsDrop.{last_strong}
+use Rattle.arc_spelling.specs.Spelling.IsCascade.{finish_more, finish_last}
 use Rattle.arc_rule.specs.Extents.{Extent}
 use Rattle.arc_rule.specs.Isa.{isa_name_of}
 use Rattle.arc_rule.specs.declared.plan.Next.{Next}

@@ -5,9 +5,9 @@ use Rattle.arc_model.specs.declared.event.Act.TheVariants.{Drop, Back}
 use Rattle.arc_model.specs.declared.shape.Kind.{Kind}
 use Rattle.arc_model.specs.declared.shape.Kind.TheVariants.{Strong, Unowned, Weak}
 use Rattle.arc_model.specs.Shapes.{HeapShape}
-use Rattle.arc_model.specs.Spelling.{Note, hands_of, IsEnd}
-use Rattle.arc_model.specs.Spelling.Note.{Did, Entry}
-use Rattle.arc_model.specs.Spelling.IsDrop.{more, last_unowned, last_weak}
+use Rattle.arc_spelling.specs.Spelling.{Note, hands_of, IsEnd}
+use Rattle.arc_spelling.specs.Spelling.Note.{Did, Entry}
+use Rattle.arc_spelling.specs.Spelling.IsDrop.{more, last_unowned, last_weak}
 use Rattle.arc_rule.specs.Extents.{Extent}
 use Rattle.arc_rule.specs.Places.{number}
 use Rattle.arc_rule.specs.Attempts.{asked_at}

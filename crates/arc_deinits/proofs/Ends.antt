@@ -1,9 +1,9 @@
 -- Each word that the end of a slot may be given keeps what it stands for.
 use Rattle.std.proofs.Common.{◌≡◌, ℕ, true, List, ◌∷◌, Option, Some, None, refl, ap}
 use Rattle.arc_model.specs.declared.event.Act.TheVariants.{Vacate, Gone}
-use Rattle.arc_model.specs.Spelling.{Note}
-use Rattle.arc_model.specs.Spelling.Note.{Did, Entry}
-use Rattle.arc_model.specs.Spelling.IsEnd.{inline, gone_more, gone_last}
+use Rattle.arc_spelling.specs.Spelling.{Note}
+use Rattle.arc_spelling.specs.Spelling.Note.{Did, Entry}
+use Rattle.arc_spelling.specs.Spelling.IsEnd.{inline, gone_more, gone_last}
 use Rattle.arc_rule.specs.declared.plan.Next.{Next}
 use Rattle.arc_rule.specs.declared.plan.Next.TheVariants as nexts
 use Rattle.arc_side.specs.Entries.{EntryFall, entry_down_turned, entry_down_answer}

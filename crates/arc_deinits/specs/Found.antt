@@ -6,8 +6,9 @@ use Rattle.arc_model.specs.declared.event.Act.{Act}
 use Rattle.arc_model.specs.declared.event.Act.TheVariants.{Finish, Drop, Take}
 use Rattle.arc_model.specs.declared.shape.Kind.TheVariants.{Unowned}
 use Rattle.arc_model.specs.Shapes.{HeapShape}
-use Rattle.arc_model.specs.Spelling.{Note, field_count}
-use Rattle.arc_model.specs.Spelling.Note.{Did, Name, Entry, Nil, Refers}
+use Rattle.arc_spelling.specs.Spelling.{Note}
+use Rattle.arc_model.specs.References.{field_count}
+use Rattle.arc_spelling.specs.Spelling.Note.{Did, Name, Entry, Nil, Refers}
 use Rattle.arc_rule.specs.Extents.{Extent}
 use Rattle.arc_rule.specs.Places.{number}
 use Rattle.arc_rule.specs.Isa.{isa_name_of}

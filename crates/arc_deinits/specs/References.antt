@@ -3,8 +3,8 @@ use Rattle.std.specs.Prelude.{ℕ, true, ◌≡◌, List, ◌∷◌, Option, Som
 use Rattle.arc_model.specs.declared.event.Act.TheVariants.{Drop, Vacate, Gone}
 use Rattle.arc_model.specs.declared.shape.Kind.TheVariants.{Strong, Unowned, Weak}
 use Rattle.arc_model.specs.Shapes.{HeapShape}
-use Rattle.arc_model.specs.Spelling.{Note, hands_of, IsEnd, IsDrop}
-use Rattle.arc_model.specs.Spelling.Note.{Did, Entry}
+use Rattle.arc_spelling.specs.Spelling.{Note, hands_of, IsEnd, IsDrop}
+use Rattle.arc_spelling.specs.Spelling.Note.{Did, Entry}
 use Rattle.arc_rule.specs.declared.step.Step.{Step}
 use Rattle.arc_rule.specs.declared.step.Intent.{Intent}
 use Rattle.arc_rule.specs.declared.step.Intent.TheVariants as intents

@@ -7,8 +7,9 @@ use Rattle.arc_model.specs.declared.event.Act.TheVariants.{Drop, Take, Finish}
 use Rattle.arc_model.specs.declared.answer.Answer.TheVariants as answers
 use Rattle.arc_model.specs.declared.shape.Kind.TheVariants.{Strong, Unowned}
 use Rattle.arc_model.specs.Shapes.{HeapShape}
-use Rattle.arc_model.specs.Spelling.{Note, hands_of, field_count, FieldsDone, IsCascade}
-use Rattle.arc_model.specs.Spelling.Note.{Did, Line, Refers}
+use Rattle.arc_spelling.specs.Spelling.{Note, hands_of, FieldsDone, IsCascade}
+use Rattle.arc_model.specs.References.{field_count}
+use Rattle.arc_spelling.specs.Spelling.Note.{Did, Line, Refers}
 use Rattle.arc_rule.specs.Extents.{Extent}
 use Rattle.arc_rule.specs.Isa.{isa_name_of}
 use Rattle.arc_rule.specs.Places.{number}

@@ -1,4 +1,11 @@
 //! What the events and lines of a deinit spell, with those of the objects that die with it.
+//!
+//! No function does anything: the contracts are laws. Behind each word that a cascade, the drop of a reference or the end of a slot may
+//! be given, its events, its lines and what its loads found spell the deinit up to where it is, under the chain of deinits that wait
+//! for one another; and where it is over they spell it whole.
+//!
+//! That what was found does hold of a heap, and that a next word names the deinit that waits, are premises. It says nothing of whether
+//! a step is allowed.
 #![tactic(auto)]
 
 ghost use Rattle.arc_deinits.specs.References.{SlotEndsGoOn, DropsGoOn};

@@ -1,4 +1,11 @@
 //! How many references come out of cells: no more than were put into them, over all threads and for each thread.
+//!
+//! No function does anything: the contracts are laws of every legal history. What lies in cells, what swaps brought out of them and what
+//! deinits took out of fields is together what swaps put in, so that a thread that knows how many operations can put one bounds the numbers
+//! of the hands that deinits take (`HandsFit`).
+//!
+//! It says nothing of which hand is taken, nor of words, steps and programs: that each operation puts one reference at most is said in
+//! `arc_spelled`. References that are retained without a cell aren't counted.
 #![tactic(auto)]
 
 ghost use Rattle.arc_hand_counts.specs.Laws.{CellsAddUp, TakesWerePut, OwnTakesWerePut, ThreadsAddUp, HandsFit};

@@ -17,76 +17,8 @@ use Rattle.arc_model.specs.Own.{ends_hand, brings_hand}
 use Rattle.arc_model.proofs.Tally.{same-eq}
 use Rattle.arc_model.proofs.Courses.{hand-cell}
 use Rattle.arc_model.proofs.Others.{spot-end, made-apart}
+use Rattle.arc_model.proofs.HandSpots.{spot-change, in-push, in-gains, in-without, list-same, ended-same, left-same, renamed-spot, entry_to-spot}
 use Rattle.arc_heap_index.specs.Counting.{placed}
-
--- z is in the same lists
-abbrev SameIn : Holder → Object → Object → Type 0
-SameIn z q o = (is_in z q.strong ≡ is_in z o.strong) × (is_in z q.unowned ≡ is_in z o.unowned) × (is_in z q.weak ≡ is_in z o.weak)
-
-spot-change : (z : Holder) (test : Object → Bool) (f : Object → Object) (os : List Object) → ((o : Object) → SameIn z (f o) o) → spot_in z (at_first test f os) ≡ spot_in z os
-spot-change z test f [] same = refl
-spot-change z test f (o ∷ os) same = go (test o) (spot-change z test f os same)
-  where
-    h : holds z (f o) ≡ holds z o
-    h = let m = same o in ap (λ s. s || is_in z (f o).unowned || is_in z (f o).weak) m.0 ∙ ap (λ u. is_in z o.strong || u || is_in z (f o).weak) m.1 ∙ ap (λ w. is_in z o.strong || is_in z o.unowned || w) m.2
-
-    k : kind_in z (f o) ≡ kind_in z o
-    k = let m = same o in ap (λ s. cond s Strong (cond (is_in z (f o).unowned) Unowned Weak)) m.0 ∙ ap (λ u. cond (is_in z o.strong) Strong (cond u Unowned Weak)) m.1
-
-    go : (b : Bool) → spot_in z (at_first test f os) ≡ spot_in z os → spot_in z (cond b (f o ∷ os) (o ∷ at_first test f os)) ≡ cond (holds z o) (Some (record { place = zero; kind = kind_in z o })) (further (spot_in z os))
-    go true ih =
-        ap (λ b. cond b (Some (record { place = zero; kind = kind_in z (f o) })) (further (spot_in z os))) h
-        ∙ ap (λ j. cond (holds z o) (Some (record { place = zero; kind = j })) (further (spot_in z os))) k
-    go false ih = ap (λ s. cond (holds z o) (Some (record { place = zero; kind = kind_in z o })) (further s)) ih
-
-in-push : (z y : Holder) (xs : List Holder) → same_holder z y ≡ false → is_in z (xs ++ y ∷ []) ≡ is_in z xs
-in-push z y [] h = ap (λ b. b || false) h
-in-push z y (x ∷ xs) h = ap (λ b. same_holder z x || b) (in-push z y xs h)
-
-in-gains : (z x y : Holder) (xs : List Holder) → same_holder z y ≡ false → is_in z (gains x y xs) ≡ is_in z xs
-in-gains z x y xs h = go (is_in x xs)
-  where
-    go : (b : Bool) → is_in z (cond b (xs ++ y ∷ []) xs) ≡ is_in z xs
-    go true = in-push z y xs h
-    go false = refl
-
-in-without : (z x : Holder) (xs : List Holder) → same_holder z x ≡ false → is_in z (without x xs) ≡ is_in z xs
-in-without z x [] h = refl
-in-without z x (w ∷ ws) h = go (same_holder x w) refl (in-without z x ws h)
-  where
-    go : (b : Bool) → same_holder x w ≡ b → is_in z (without x ws) ≡ is_in z ws → is_in z (cond b ws (w ∷ without x ws)) ≡ (same_holder z w || is_in z ws)
-    go true e ih = ap (λ b. b || is_in z ws) (sym (ap (same_holder z) (sym (same-eq x w e)) ∙ h))
-    go false e ih = ap (λ b. same_holder z w || b) ih
-
-in-renamed : (z x y : Holder) (xs : List Holder) → same_holder z x ≡ false → same_holder z y ≡ false → is_in z (renamed x y xs) ≡ is_in z xs
-in-renamed z x y [] h k = refl
-in-renamed z x y (w ∷ ws) h k = go (same_holder x w) refl (in-renamed z x y ws h k)
-  where
-    go : (b : Bool) → same_holder x w ≡ b → is_in z (renamed x y ws) ≡ is_in z ws → is_in z (cond b (y ∷ ws) (w ∷ renamed x y ws)) ≡ (same_holder z w || is_in z ws)
-    go true e ih = ap (λ b. b || is_in z ws) (k ∙ sym (ap (same_holder z) (sym (same-eq x w e)) ∙ h))
-    go false e ih = ap (λ b. same_holder z w || b) ih
-
-list-same : (z : Holder) (k : Kind) (f : List Holder → List Holder) (o : Object) → ((xs : List Holder) → is_in z (f xs) ≡ is_in z xs) → SameIn z (with_list k f o) o
-list-same z Strong f o same = (same o.strong, refl, refl)
-list-same z Unowned f o same = (refl, same o.unowned, refl)
-list-same z Weak f o same = (refl, refl, same o.weak)
-
-ended-same : (z : Holder) (last : Bool) (p : ℕ) (k : Kind) (q o : Object) → SameIn z q o → SameIn z (ended_if last p k q) o
-ended-same z true p Strong q o same = same
-ended-same z true p Unowned q o same = same
-ended-same z true p Weak q o same = same
-ended-same z false p k q o same = same
-
-left-same : (z : Holder) (p : ℕ) (m : Option ℕ) (o : Object) → same_holder z Unowneds ≡ false → SameIn z (left_slot p m (owing_none (record o { slot = None }))) o
-left-same z p None o h = (refl, refl, in-without z Unowneds o.weak h)
-left-same z p (Some e) o h = (refl, refl, refl)
-
-pub renamed-spot : (z x y : Holder) (heap : Heap) → same_holder z x ≡ false → same_holder z y ≡ false → spot z (becomes x y heap) ≡ spot z heap
-renamed-spot z x y heap h k = spot-change z (holds x) (lists (renamed x y)) heap.objects (λ o. (in-renamed z x y o.strong h k, in-renamed z x y o.unowned h k, in-renamed z x y o.weak h k))
-
-entry_to-spot : (z : Holder) (p : ℕ) (m : Option ℕ) (heap : Heap) → spot z (entry_to p m heap) ≡ spot z heap
-entry_to-spot z p None heap = refl
-entry_to-spot z p (Some e) heap = refl
 
 claimed_if-spot : (z : Holder) (last : Bool) (p e : ℕ) (heap : Heap) → spot z (claimed_if last p e heap) ≡ spot z heap
 claimed_if-spot z true p e heap = refl

@@ -17,7 +17,7 @@ use Rattle.arc_heap.specs.Moving.{reach_more, reach_less, hand_comes, hand_goes,
 use Rattle.arc_heap_judge.specs.Stands.{spot_of, Tells, IsSized}
 use Rattle.arc_heap_index.proofs.Places.{length-at_place}
 use Rattle.arc_heap_index.proofs.Rows.{put-row, put-other, put-gone, pushed-same, pushed-row, pushed-other, row-length}
-use Rattle.arc_heap.proofs.Spots.{renamed-spot}
+use Rattle.arc_model.proofs.HandSpots.{renamed-spot}
 use Rattle.arc_heap.proofs.Acts.{came-none, came-one, reach_more-length, reach_more-rows, reach_less-length, reach_less-rows}
 use Rattle.arc_heap.proofs.Swaps.{some-inj, tells-comes, tells-goes}
 use Rattle.arc_heap.proofs.Exchanges.{cells_put, swapped_to, Swaps, swap_build, HeldAt, held-at, hold-is, slot-within, no-hand-cell, row-within, tells-tables}

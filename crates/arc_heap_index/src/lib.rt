@@ -1,5 +1,11 @@
 //! The parts of the index of a heap: rows of places, counts of hands, logs of slots and entries, and an object's counts in
 //! place of its holders.
+//!
+//! Places are found by number, hands are counted, and logs keep for each slot and entry since when it is taken. Each part is equal, by
+//! contract, to a plain function of lists.
+//!
+//! It judges nothing: what the parts together say of an event stands in `arc_heap_judge`, and that they stand for a heap of holder
+//! lists too.
 #![tactic(auto)]
 
 mod counted;

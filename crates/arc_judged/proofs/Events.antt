@@ -64,17 +64,17 @@ act_fits s threads (acts.Side slot entry why) e g f p h = absurd f
 act_fits s threads (acts.Back entry) e g f p h = absurd f
 act_fits s threads (acts.Swap c put took) e g f p h = (cell_fits s threads c g f, hand_fits put h.0, hand_fits took h.1)
 act_fits s threads (acts.Look c) e g f p h = cell_fits s threads c g f
-act_fits s threads (acts.Take slot field hand) e g f p h = absurd f
+act_fits s threads (acts.Take slot field hand) e g f p h = (f.0, f.1, h)
 act_fits s threads (acts.Finish slot last) e g f p h = p
 act_fits s threads (acts.Vacate slot) e g f p h = p
 act_fits s threads (acts.Gone entry last) e g f p h = absurd f
 
 -- a hand of so few is one that a text can tell
-wider_or_nil : (o : Option ℕ) → HandOrNilWithin 100068 o → HandOrNilWithin 4294967295 o
+wider_or_nil : (o : Option ℕ) → HandOrNilWithin 200067 o → HandOrNilWithin 4294967295 o
 wider_or_nil None h = tt
 wider_or_nil (Some hand) h = omega arith
 
-wider : (a : Act) → HandsWithin 100068 a → HandsWithin 4294967295 a
+wider : (a : Act) → HandsWithin 200067 a → HandsWithin 4294967295 a
 wider (acts.New hand class slot) h = omega arith
 wider (acts.Copy (origins.Hand of) hand) h = (let a = h.0 in omega arith, let b = h.1 in omega arith)
 wider (acts.Drop hand last) h = omega arith
@@ -92,7 +92,7 @@ wider (acts.Side slot entry why) h = tt
 wider (acts.Back entry) h = tt
 wider (acts.Swap c put took) h = (wider_or_nil put h.0, wider_or_nil took h.1)
 wider (acts.Look c) h = tt
-wider (acts.Take slot field hand) h = tt
+wider (acts.Take slot field hand) h = omega arith
 wider (acts.Finish slot last) h = tt
 wider (acts.Vacate slot) h = tt
 wider (acts.Gone entry last) h = tt

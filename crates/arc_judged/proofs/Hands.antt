@@ -35,6 +35,7 @@ HandsWithin n (acts.UnownedOf of hand) = (of ≤ n) × (hand ≤ n)
 HandsWithin n (acts.Load of g) = (of ≤ n) × GotWithin n g
 HandsWithin n (acts.Drop hand last) = hand ≤ n
 HandsWithin n (acts.Swap c put took) = HandOrNilWithin n put × HandOrNilWithin n took
+HandsWithin n (acts.Take slot field hand) = hand ≤ n
 HandsWithin n _ = Unit {0}
 
 passes_some : (test : Object → Bool) (found : Option Object) → passes test found ≡ true → is_some found ≡ true
@@ -96,7 +97,7 @@ hands_within shape n e h legal few = at e.act legal.0
     at (acts.Swap (cells.Field s f) put took) ok =
         let m = met (needs shape (sight e.thread h) e.thread (acts.Swap (cells.Field s f) put took)) ok in (is_put (cells.Field s f) put m.1.1.1.0, is_taken took m.1.1.1.1.0)
     at (acts.Look c) ok = tt
-    at (acts.Take slot field hand) ok = tt
+    at (acts.Take slot field hand) ok = next hand (met (needs shape (sight e.thread h) e.thread (acts.Take slot field hand)) ok).1.1.1.1.0
     at (acts.Finish slot last) ok = tt
     at (acts.Vacate slot) ok = tt
     at (acts.Gone entry last) ok = tt

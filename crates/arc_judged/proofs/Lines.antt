@@ -1,11 +1,13 @@
 -- Lines that begin with neither a blank nor an h, put together from parts without a newline.
 use Rattle.std.proofs.Common.{◌≡◌, ℕ, zero, suc, ◌+◌, ◌/◌, ◌%◌, ◌<◌, ◌≤◌, Bool, true, false, cond, eqb, List, [], ◌∷◌, ◌++◌, length, refl, sym, ap, subst, ◌∙◌, append_assoc, arith, rules, tests}
-use Rattle.std.specs.Prelude.{not}
+use Rattle.std.specs.Prelude.{not, nat_lt}
+use Rattle.std.proofs.Common.{◌-◌, replicate}
 use Rattle.std.specs.List.{AllByRecursion, list_all}
-use Rattle.std.specs.Fmt.{digit_glyph, digits_onto, digits, decimal}
+use Rattle.std.specs.Fmt.{digit_glyph, digits_onto, digits, decimal, padded_integral, char_count}
 use Rattle.arc_text.specs.Words.{is_newline, is_blank, is_name}
 use Rattle.arc_script.proofs.Inverted.{both}
 use Rattle.arc_script_laws.proofs.Spelled.{IsInk, name_word}
+use Rattle.arc_report.specs.Leaks.{hex_text}
 use Rattle.arc_check.specs.Behind.{GoesBefore}
 use Rattle.arc_check.proofs.OtherLines.{Unbroken, line_before, other_letter}
 
@@ -55,20 +57,26 @@ opened (c ∷ cs) text o l =
 
 -- ---- numbers
 
+-- a digit or a lower case letter up to f
 abbrev pub IsDigit : ℕ → Type 0
-IsDigit b = (48 ≤ b) × (b ≤ 57)
+IsDigit b = (48 ≤ b) × (b ≤ 102)
 
-glyph : (r : ℕ) → r < 10 → IsDigit (digit_glyph false r)
-glyph r h = search (rules, tests)
-
-onto_digits : (k n : ℕ) (acc : List ℕ) → AllByRecursion IsDigit acc → AllByRecursion IsDigit (digits_onto k 10 false n acc)
-onto_digits zero n acc h = h
-onto_digits (suc k) n acc h =
-    let last : AllByRecursion IsDigit (digit_glyph false (n % 10) ∷ acc) = (glyph (n % 10) (omega arith), h) in
-    go (eqb (n / 10) 0) last (onto_digits k (n / 10) (digit_glyph false (n % 10) ∷ acc) last)
+glyph : (r : ℕ) → r < 16 → IsDigit (digit_glyph false r)
+glyph r h = go (nat_lt r 10) refl
   where
-    go : (b : Bool) → AllByRecursion IsDigit (digit_glyph false (n % 10) ∷ acc) → AllByRecursion IsDigit (digits_onto k 10 false (n / 10) (digit_glyph false (n % 10) ∷ acc)) →
-        AllByRecursion IsDigit (cond b (digit_glyph false (n % 10) ∷ acc) (digits_onto k 10 false (n / 10) (digit_glyph false (n % 10) ∷ acc)))
+    go : (b : Bool) → nat_lt r 10 ≡ b → IsDigit (cond b (48 + r) (87 + r))
+    go true is = (omega arith, omega (arith, h))
+    go false is = (omega arith, omega (arith, h))
+
+-- in a base of at most 16
+onto_digits : (base : ℕ) → ((m : ℕ) → m % base < 16) → (k n : ℕ) (acc : List ℕ) → AllByRecursion IsDigit acc → AllByRecursion IsDigit (digits_onto k base false n acc)
+onto_digits base few zero n acc h = h
+onto_digits base few (suc k) n acc h =
+    let last : AllByRecursion IsDigit (digit_glyph false (n % base) ∷ acc) = (glyph (n % base) (few n), h) in
+    go (eqb (n / base) 0) last (onto_digits base few k (n / base) (digit_glyph false (n % base) ∷ acc) last)
+  where
+    go : (b : Bool) → AllByRecursion IsDigit (digit_glyph false (n % base) ∷ acc) → AllByRecursion IsDigit (digits_onto k base false (n / base) (digit_glyph false (n % base) ∷ acc)) →
+        AllByRecursion IsDigit (cond b (digit_glyph false (n % base) ∷ acc) (digits_onto k base false (n / base) (digit_glyph false (n % base) ∷ acc)))
     go true last more = last
     go false last more = more
 
@@ -96,10 +104,21 @@ digits_open (d ∷ ds) some h = let f = digit_first d h.0 in (f.0, f.1, digits_u
 
 pub decimal_opens : (n : ℕ) → Opens (decimal n)
 unfolding digits
-decimal_opens n = digits_open (digits_onto 64 10 false n []) (onto_some 64 n [] (omega arith)) (onto_digits 64 n [] tt)
+decimal_opens n = digits_open (digits_onto 64 10 false n []) (onto_some 64 n [] (omega arith)) (onto_digits 10 (λ m. omega arith) 64 n [] tt)
 
 pub decimal_unbroken : (n : ℕ) → Unbroken (decimal n)
 decimal_unbroken n = opens_unbroken (decimal n) (decimal_opens n)
+
+zeros_unbroken : (n : ℕ) → Unbroken (replicate n 48)
+zeros_unbroken zero = tt
+zeros_unbroken (suc n) = (refl, zeros_unbroken n)
+
+pub hex_unbroken : (n : ℕ) → Unbroken (hex_text n)
+unfolding padded_integral char_count digits
+hex_unbroken n =
+    let ds = digits_onto 64 16 false n [] in
+    let whole = digits_unbroken ds (onto_digits 16 (λ m. omega arith) 64 n [] tt) in
+    joined (replicate (16 - length ds - 0 - 0) 48) (ds ++ []) (zeros_unbroken (16 - length ds - 0 - 0)) (joined ds [] whole tt)
 
 -- ---- names
 

@@ -1,37 +1,40 @@
 -- The report of a replay goes before a history text.
-use Rattle.std.proofs.Common.{◌≡◌, ℕ, zero, suc, ◌-◌, ◌<◌, Bool, true, false, cond, eqb, ◌&&◌, List, [], ◌∷◌, ◌++◌, length, map, get_or, refl, sym, ap, subst, ◌∙◌, append_assoc, arith}
-use Rattle.std.specs.Prelude.{not, codes, slice_index_or, All}
+use Rattle.std.proofs.Common.{◌≡◌, ℕ, ◌<◌, Bool, true, false, Option, Some, None, cond, eqb, List, [], ◌∷◌, ◌++◌, length, get_or, refl, sym, ap, subst, ◌∙◌, append_assoc, ⊎_elim, arith}
+use Rattle.std.specs.Prelude.{codes, All}
 use Rattle.std.specs.List.{AllByRecursion, flat_map}
 use Rattle.std.specs.Fmt.{decimal}
-use Rattle.std.proofs.lemmas.List.{length-map}
+use Rattle.std.proofs.lemmas.Bool.{cases_lt}
+use Rattle.std.proofs.lemmas.List.{length-map, get_or_past}
 use Rattle.std.proofs.lemmas.List.Elements.{recursion_from_All}
 use Rattle.arc_text.specs.Words.{is_name}
 use Rattle.arc_model.specs.declared.event.ObjectName.{ObjectName}
 use Rattle.arc_model.specs.declared.answer.Answer.{Answer}
 use Rattle.arc_model.specs.declared.answer.Answer.TheVariants as answer
-use Rattle.arc_rule.specs.Isa.{isa_name_of}
-use Rattle.arc_model.specs.Shapes.{ObjectClass}
+use Rattle.arc_bits.specs.declared.packing.Word.{Word}
+use Rattle.arc_bits.specs.declared.packing.Word.TheVariants as word
+use Rattle.arc_bits.specs.Words.{unpacked}
+use Rattle.arc_rule.specs.Extents.{Extent}
 use Rattle.arc_rule.specs.Places.{extent_of}
 use Rattle.arc_rule.specs.declared.layout.Place.TheVariants as place
 use Rattle.arc_script.specs.declared.answer.Line.{Line}
 use Rattle.arc_script.specs.declared.script.ClassDecl.{ClassDecl}
 use Rattle.arc_script.specs.declared.script.Script.{Script}
-use Rattle.arc_script.specs.Valid.{name_at, class_names, class_refs, immortals_of, IsScript}
+use Rattle.arc_script.specs.Valid.{name_at, class_names, IsScript}
 use Rattle.arc_ops.specs.declared.told.ThreadLines.{ThreadLines}
 use Rattle.arc_plain.specs.declared.replay.Replay.{Replay}
-use Rattle.arc_replays.specs.Left.{isa_of, OnlyImmortals}
 use Rattle.arc_replays.specs.Named.{LineFits}
 use Rattle.arc_plain.specs.Replays.{IsReplay}
 use Rattle.arc_report.specs.Names.{object_text}
 use Rattle.arc_report.specs.Lines.{answer_text, operation_text, line_text, thread_text, end_line_text, end_text, object_total, deinit_total}
-use Rattle.arc_report.specs.Words.{word_at, is_taken, is_freed, has_entry, numbers_where}
-use Rattle.arc_report.specs.Leaks.{leaks_of, leak_at, leak_name, leak_text, freed_of, freed_text}
+use Rattle.arc_report.specs.Words.{word_at, is_live}
 use Rattle.arc_report.proofs.AllThere.{each_leak}
+use Rattle.arc_rule.specs.Isa.{isa_name_of}
+use Rattle.arc_report.specs.Leaks.{leaks_of, leak_at, leak_name, leak_text, is_immortal, counts_text, state_text, side_text, hex_text, freed_of, freed_text}
 use Rattle.arc_report.specs.Report.{totals_text, left_text, left_total}
 use Rattle.arc_check.specs.Behind.{GoesBefore}
-use Rattle.arc_check.proofs.OtherLines.{Unbroken, none_before, both_before, each_before}
+use Rattle.arc_check.proofs.OtherLines.{Unbroken, both_before, each_before}
 use Rattle.arc_judged.specs.Written.{report_of}
-use Rattle.arc_judged.proofs.Lines.{joined, unbroken_test, Opens, opens_unbroken, opens_more, line_end, part, opened, decimal_opens, decimal_unbroken, name_unbroken}
+use Rattle.arc_judged.proofs.Lines.{joined, hex_unbroken, unbroken_test, Opens, opens_unbroken, opens_more, line_end, part, opened, decimal_opens, decimal_unbroken, name_unbroken}
 
 module _ (names : List (List ℕ)) (spelled : (i : ℕ) → i < length names → is_name (name_at names i) ≡ true) where
   object_unbroken : (name : ObjectName) → name.class < length names → Unbroken (object_text names name)
@@ -91,54 +94,85 @@ totals_go objects deinits leaks =
     (part (codes " leaks ") (decimal leaks ++ codes "\n") (unbroken_test (codes " leaks ") refl)
     (part (decimal leaks) (10 ∷ []) (decimal_unbroken leaks) line_end)))))
 
--- ---- immortal objects alone are left
+-- ---- what is left
 
-nowhere : (test : ℕ → Bool) (n : ℕ) → ((k : ℕ) → k < n → test k ≡ false) → numbers_where test n ≡ []
-unfolding numbers_where
-nowhere test zero h = refl
-nowhere test (suc n) h =
-    let last = h n (omega arith) in
-    let before = nowhere test n (λ k below. h k (omega arith)) in
-    rw (last, before) refl
-
--- whether a class is immortal, by its declaration and by the shape
-immortal_at : (classes : List ClassDecl) (n : ℕ) → (slice_index_or {A = ObjectClass} (class_refs classes) n (record { fields = []; immortal = false })).immortal ≡ slice_index_or (immortals_of classes) n false
-immortal_at [] n = refl
-immortal_at (c ∷ classes) zero = refl
-immortal_at (c ∷ classes) (suc n) = immortal_at classes n
-
-module _ (s : Script) (words : List ℕ) (valid : IsScript s) (left : OnlyImmortals s.shape words) where
+module _ (s : Script) (words : List ℕ) (valid : IsScript s) where
   abbrev names : List (List ℕ)
   names = class_names s.classes
 
-  classes_count : length s.shape.classes ≡ length names
-  classes_count = ap length valid.heading.of_classes ∙ length-map s.classes _ ∙ sym (length-map s.classes (λ (c : ClassDecl). c.name))
+  abbrev l : Extent
+  l = extent_of s.shape
 
-  -- an object that is left is immortal, and its line says so
-  immortal_goes : (slot : ℕ) → slot < s.shape.slots → is_taken (extent_of s.shape) words slot ≡ true → GoesBefore (leak_text s.classes (extent_of s.shape) words (leak_at (extent_of s.shape) words slot))
-  immortal_goes slot there taken =
-      let its = left.slots slot there taken in
-      let class = (isa_name_of (isa_of s.shape words slot)).class in
-      let class_there = its.class_there in
-      let count = classes_count in
-      let undying : slice_index_or (immortals_of s.classes) class false ≡ true =
-      sym (immortal_at s.classes class)
-      ∙ ap (λ (cs : List ObjectClass). (slice_index_or {A = ObjectClass} cs class (record { fields = []; immortal = false })).immortal) (sym valid.heading.of_classes)
-      ∙ its.immortal in
-      let within : class < length names = omega arith in
-      let name = leak_name names (leak_at (extent_of s.shape) words slot) in
-      let whole : Unbroken name = object_unbroken names valid.heading.classes_named.names.spelled (isa_name_of (isa_of s.shape words slot)) within in
-      rw undying (opened (codes "immortal ") (name ++ 10 ∷ []) (refl, refl, unbroken_test (codes "immortal ") refl) (part name (10 ∷ []) whole line_end))
+  -- a name that is none is empty
+  name_whole : (i : ℕ) → Unbroken (name_at names i)
+  name_whole i = ⊎_elim (λ within. name_unbroken (name_at names i) (valid.heading.classes_named.names.spelled i within)) (λ past. subst Unbroken (sym (get_or_past names i [] past)) tt) (cases_lt i (length names))
 
-  left_goes : GoesBefore (left_text s.classes (extent_of s.shape) words)
+  object_whole : (name : ObjectName) → Unbroken (object_text names name)
+  object_whole name =
+      joined (name_at names name.class) (35 ∷ (decimal name.thread ++ 46 ∷ decimal name.number)) (name_whole name.class)
+      (refl, joined (decimal name.thread) (46 ∷ decimal name.number) (decimal_unbroken name.thread) (refl, decimal_unbroken name.number))
+
+  state_whole : (live : Bool) → Unbroken (state_text live)
+  state_whole true = unbroken_test (codes "live") refl
+  state_whole false = unbroken_test (codes "deinited") refl
+
+  side_whole : (w : Option Word) → Unbroken (side_text l words w)
+  side_whole (Some word.Free) = tt
+  side_whole (Some (word.Counts c)) = tt
+  side_whole (Some (word.Slow e)) =
+      let strong = word_at l words (place.Strong e) in
+      let unowned = word_at l words (place.Unowned e) in
+      let weak = word_at l words (place.Weak e) in
+      joined (codes " side ") (decimal strong ++ (codes " " ++ (decimal unowned ++ (codes " " ++ decimal weak)))) (unbroken_test (codes " side ") refl)
+      (joined (decimal strong) (codes " " ++ (decimal unowned ++ (codes " " ++ decimal weak))) (decimal_unbroken strong)
+      (joined (codes " ") (decimal unowned ++ (codes " " ++ decimal weak)) (unbroken_test (codes " ") refl)
+      (joined (decimal unowned) (codes " " ++ decimal weak) (decimal_unbroken unowned) (joined (codes " ") (decimal weak) (unbroken_test (codes " ") refl) (decimal_unbroken weak)))))
+  side_whole (Some word.Immortal) = tt
+  side_whole None = tt
+
+  counts_whole : (w : ℕ) → Unbroken (counts_text l words w)
+  counts_whole w =
+      joined (state_text (is_live l words (unpacked w))) (codes " " ++ (hex_text w ++ side_text l words (unpacked w))) (state_whole (is_live l words (unpacked w)))
+      (joined (codes " ") (hex_text w ++ side_text l words (unpacked w)) (unbroken_test (codes " ") refl)
+      (joined (hex_text w) (side_text l words (unpacked w)) (hex_unbroken w) (side_whole (unpacked w))))
+
+  -- the line of an object that is left
+  leak_goes : (slot : ℕ) → GoesBefore (leak_text s.classes l words (leak_at l words slot))
+  leak_goes slot = by (is_immortal s.classes (leak_at l words slot))
+    where
+      name : List ℕ
+      name = leak_name names (leak_at l words slot)
+
+      name_is_whole : Unbroken name
+      name_is_whole = object_whole (isa_name_of (word_at l words (place.Isa slot)))
+
+      counts : List ℕ
+      counts = counts_text l words (word_at l words (place.Count slot))
+
+      by : (b : Bool) → GoesBefore (cond b (codes "immortal " ++ (name ++ codes "\n")) (codes "leak " ++ (name ++ (codes " " ++ (counts ++ codes "\n")))))
+      by true = opened (codes "immortal ") (name ++ codes "\n") (refl, refl, unbroken_test (codes "immortal ") refl) (part name (codes "\n") name_is_whole line_end)
+      by false =
+          opened (codes "leak ") (name ++ (codes " " ++ (counts ++ codes "\n"))) (refl, refl, unbroken_test (codes "leak ") refl)
+          (part name (codes " " ++ (counts ++ codes "\n")) name_is_whole
+          (part (codes " ") (counts ++ codes "\n") (unbroken_test (codes " ") refl) (part counts (codes "\n") (counts_whole (word_at l words (place.Count slot))) line_end)))
+
+  -- the line of an entry whose object has no slot
+  freed_goes : (e : ℕ) → GoesBefore (freed_text l words e)
+  freed_goes e =
+      let weak = word_at l words (place.Weak e) in
+      opened (codes "freed ") (decimal e ++ (codes " " ++ (decimal weak ++ codes "\n"))) (refl, refl, unbroken_test (codes "freed ") refl)
+      (part (decimal e) (codes " " ++ (decimal weak ++ codes "\n")) (decimal_unbroken e)
+      (part (codes " ") (decimal weak ++ codes "\n") (unbroken_test (codes " ") refl) (part (decimal weak) (codes "\n") (decimal_unbroken weak) line_end)))
+
+  left_goes : GoesBefore (left_text s.classes l words)
   left_goes =
-      let freed : numbers_where (is_freed (extent_of s.shape) words) s.shape.entries ≡ [] =
-      nowhere (is_freed (extent_of s.shape) words) s.shape.entries
-      (λ e below. ap (λ (b : Bool). b && not (has_entry (extent_of s.shape) words (word_at (extent_of s.shape) words (place.Link e) - 1) e)) (left.entries e below)) in
-      let none : GoesBefore (flat_map (freed_text (extent_of s.shape) words) (freed_of (extent_of s.shape) words)) =
-      subst (λ (es : List ℕ). GoesBefore (flat_map (freed_text (extent_of s.shape) words) es)) (sym freed) none_before in
-      both_before (flat_map (leak_text s.classes (extent_of s.shape) words) (leaks_of (extent_of s.shape) words)) (flat_map (freed_text (extent_of s.shape) words) (freed_of (extent_of s.shape) words))
-      (each_before (λ leak. GoesBefore (leak_text s.classes (extent_of s.shape) words leak)) (leak_text s.classes (extent_of s.shape) words) (λ leak goes. goes) (leaks_of (extent_of s.shape) words) (each_leak GoesBefore s.classes (extent_of s.shape) words immortal_goes)) none
+      both_before (flat_map (leak_text s.classes l words) (leaks_of l words)) (flat_map (freed_text l words) (freed_of l words))
+      (each_before (λ leak. GoesBefore (leak_text s.classes l words leak)) (leak_text s.classes l words) (λ leak goes. goes) (leaks_of l words) (each_leak GoesBefore s.classes l words (λ slot there taken. leak_goes slot)))
+      (each_before (λ e. Unit {0}) (freed_text l words) (λ e any. freed_goes e) (freed_of l words) (any_all (freed_of l words)))
+    where
+      any_all : (es : List ℕ) → AllByRecursion (λ (e : ℕ). Unit {0}) es
+      any_all [] = tt
+      any_all (e ∷ es) = (tt, any_all es)
 
 -- the lines of all threads
 lines_all : (n : ℕ) (threads : List ThreadLines) → All (λ (t : ThreadLines). All (LineFits n) t.lines) threads → AllByRecursion (λ (t : ThreadLines). AllByRecursion (LineFits n) t.lines) threads
@@ -166,7 +200,7 @@ replay_before s r valid replay =
     (totals_go (object_total r.threads.items) (deinit_total r.threads.items r.end.items) (left_total s.classes (extent_of s.shape) r.words.items)))))
   where
     none : GoesBefore (left_text s.classes (extent_of s.shape) r.words.items)
-    none = left_goes s r.words.items valid replay.left
+    none = left_goes s r.words.items valid
 
     spelled : (i : ℕ) → i < length (class_names s.classes) → is_name (name_at (class_names s.classes) i) ≡ true
     spelled = valid.heading.classes_named.names.spelled

@@ -14,7 +14,7 @@ use Rattle.arc_ops.specs.declared.told.Stamped.{Stamped}
 use Rattle.arc_served.specs.Served.{IsServed}
 use Rattle.arc_ops.specs.Thread.{Thread}
 use Rattle.arc_ops.specs.Turns.{turned}
-use Rattle.arc_replays.specs.Stages.{Stage, Reached, stamped, stepped}
+use Rattle.arc_replays.specs.Stages.{Stage, Reached, stamped, stepped, chains_at}
 use Rattle.arc_replays.specs.Stages.Reached.{new, begins, makes, passes, inside, ends_it, outside, by_number, last, last_step}
 use Rattle.arc_replays.specs.Histories.{history_of}
 use Rattle.arc_replays.proofs.Holds.{Holds, reached_holds}
@@ -25,17 +25,17 @@ use Rattle.arc_judged.proofs.Hands.{HandsWithin, hands_within}
 pub record StampWithin (slots steps : ℕ) (s : Stamped) : Type 0 where
   pub step : s.step ≤ steps
   pub slot : SlotWithin slots s.event.act
-  pub hands : HandsWithin 100068 s.event.act
+  pub hands : HandsWithin 200067 s.event.act
 
 -- what is known of the history of each stage
 pub record IsSound (shape : HeapShape) (events : List Stamped) : Type 0 where
   pub legal : IsLegal shape (history_of events)
   pub in_shape : InShape shape (history_of events)
-  pub few : (p : ℕ) → next_hand p (history_of events) ≤ 100068
+  pub few : (p : ℕ) → next_hand p (history_of events) ≤ 200067
 
 stages_sound : (script : Script) → IsScript script → IsServed script → (n : ℕ) (s : Stage) → Reached script n s → IsSound script.shape s.events
 stages_sound script valid served n s r =
-    let holds : Holds script (λ k. None) s = reached_holds script (λ k. None) valid served n s r in
+    let holds : Holds script (λ k. None) (chains_at r) s = reached_holds script (λ k. None) valid served n s r in
     record {
       legal = subst (IsLegal script.shape) holds.replaying.log_is holds.replaying.kept.legal;
       in_shape = subst (InShape script.shape) holds.replaying.log_is holds.replaying.kept.in_shape;
@@ -54,7 +54,7 @@ event_stamped shape steps p (Some act) events before after h =
     let stamp : StampWithin shape.slots (steps + 1) (record { step = steps + 1; event = one }) = record {
       step = omega arith;
       slot = slot_within shape one (history_of events) after.legal before.in_shape after.in_shape;
-      hands = hands_within shape 100068 one (history_of events) after.legal (before.few p);
+      hands = hands_within shape 200067 one (history_of events) after.legal (before.few p);
     } in
     (stamp, more_steps shape.slots steps events h)
 

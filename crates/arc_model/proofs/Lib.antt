@@ -1,13 +1,3 @@
-pub mod SpellOrder
-pub mod SpellTies
-pub mod SpellGains
-pub mod SpellSteps
-pub mod SpellWorked
-pub mod SpellWorkedKinds
-pub mod SpellLaws
-pub mod SpellHands
-pub mod SpellRefused
-pub mod SpellWorkedFields
 pub mod Basics
 pub mod Judged
 pub mod EveryAct
@@ -32,3 +22,4 @@ pub mod Duties
 pub mod CellSpots
 pub mod CellKinds
 pub mod Since
+pub mod HandSpots

@@ -1,13 +1,9 @@
-pub mod Spelling
-pub mod SpellingGains
-pub mod SpellingTies
-pub mod SpellingInOrder
-pub mod SpellingLaws
 pub mod Shapes
 pub mod Ranges
 pub mod Heaps
 pub mod Holders
 pub mod Cells
+pub mod References
 pub mod Effects
 pub mod Needs
 pub mod History

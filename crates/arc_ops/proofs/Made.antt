@@ -17,10 +17,9 @@ use Rattle.arc_script.specs.declared.script.Op.TheVariants as op
 use Rattle.arc_script.specs.declared.script.OpCell.{OpCell}
 use Rattle.arc_script.specs.declared.script.OpCell.TheVariants as opcell
 use Rattle.arc_script.specs.Valid.{IsScript, IsThread, IsCell, IsOp, Nested, op_count, field_refs, class_refs, var_refs, ref_at, fields_at, owner_fields}
-use Rattle.arc_model.specs.declared.shape.RefShape.{RefShape}
 use Rattle.arc_script.specs.OneList.{in_one_list, moved_behind}
 use Rattle.arc_script.proofs.OneList.{all_in_one, length_in_one}
-use Rattle.arc_served.specs.Served.{IsServed, IsServedThread, IsServedOp, IsServedVar, IsServedRef, IsServedClass}
+use Rattle.arc_served.specs.Served.{IsServed, IsServedThread, IsServedOp, IsServedVar, IsServedRef}
 use Rattle.arc_served.specs.Programs.{declared_of, phases_in, phases_of, program_of, ops_in_first, count_of_vars, vars_of, classes_in, classes_of, class_of, OwnerFits, VarsFit, ClassFits, HasCell, CellFits, GoesForth, ToFits, BlocksFit}
 use Rattle.arc_served.proofs.Blocks.{phases_forth, all_to_fit}
 use Rattle.arc_ops.specs.Thread.{stepper_of}
@@ -181,14 +180,10 @@ part : (P Q : Op → Type 0) → ((o : Op) → P o → Q o) → (ops : List Op) 
 part P Q of [] f = tt
 part P Q of (o ∷ ops) f = (of o f.0, part P Q of ops f.1)
 
--- the kinds of the globals, and of the fields, of which there are none so far
+-- the kinds of the globals
 kinds_served : (vs : List VarDecl) → AllByRecursion IsServedVar vs → AllByRecursion IsServedRef (var_refs vs)
 kinds_served [] s = tt
 kinds_served (v ∷ vs) s = (s.0, kinds_served vs s.1)
-
-classes_served : (cs : List ObjectClass) → AllByRecursion (λ (c : ObjectClass). c.fields ≡ []) cs → AllByRecursion IsServedClass cs
-classes_served [] s = tt
-classes_served (c ∷ cs) s = (subst (λ (fs : List RefShape). All IsServedRef fs) (sym s.0) (All-from_recursion IsServedRef [] tt), classes_served cs s.1)
 
 -- the phases of each thread are nested
 thread_nested : (classes : List ClassDecl) (globals : List VarDecl) (ts : List ThreadDecl) (i : ℕ) → AllByRecursion (IsThread classes globals) ts → AllByRecursion (Nested 8 0) (phases_in (slice_get ts i))
@@ -220,7 +215,7 @@ is_stepper s thread valid served within =
     let cap = served.strong_cap in
     record {
       layout = refl;
-      classes = All-from_recursion IsServedClass s.shape.classes (classes_served s.shape.classes (recursion_from_All (λ (c : ObjectClass). c.fields ≡ []) s.shape.classes served.without_fields));
+      classes = served.classes;
       slots = valid.heading.slots.1;
       strong_cap = omega arith;
       thread = omega arith;

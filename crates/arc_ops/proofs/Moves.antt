@@ -38,7 +38,7 @@ use Rattle.arc_plan.proofs.Bits.{free_is_clear}
 use Rattle.arc_rule.specs.Bits.{words_of, bit_of}
 use Rattle.arc_rule.specs.Extents.{Extent}
 use Rattle.arc_plan.specs.Slots.{Creation, IsTaking, free_slot, looked, looked_answer, looking, counting, making_turned, making_answer, creation_turned, creation_answer}
-use Rattle.arc_model.specs.Spelling.{field_count}
+use Rattle.arc_model.specs.References.{field_count}
 use Rattle.arc_rule.specs.Isa.{IsName, isa_name_of}
 use Rattle.arc_rule.specs.Places.{number}
 use Rattle.arc_rule.specs.declared.layout.Place.TheVariants as places

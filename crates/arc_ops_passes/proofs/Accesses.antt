@@ -1,18 +1,16 @@
 -- A pass accesses a cell only while its stepper is inside an access.
-use Rattle.std.proofs.Common.{◌≡◌, ℕ, false, None, refl, ap, ◌∙◌}
+use Rattle.std.proofs.Common.{◌≡◌, false, None, refl, ap, ◌∙◌}
 use Rattle.arc_model.specs.declared.event.Origin.{Origin}
 use Rattle.arc_model.specs.declared.event.Origin.TheVariants as origins
 use Rattle.arc_model.proofs.Basics.{true≢false}
 use Rattle.arc_plan.specs.declared.slots.Making.{Making as Search}
 use Rattle.arc_plan.specs.declared.slots.Making.TheVariants as search
-use Rattle.arc_cells.specs.declared.cascade.At.{At as CascadeAt}
-use Rattle.arc_cells.specs.declared.cascade.At.TheVariants as ats
 use Rattle.arc_ops.specs.declared.gain.Source.{Source}
 use Rattle.arc_ops.specs.declared.stepper.Doing.{Doing}
 use Rattle.arc_ops.specs.declared.stepper.Doing.TheVariants as doings
 use Rattle.arc_ops.specs.Thread.{is_cell, is_accessing}
 use Rattle.arc_view.specs.declared.view.Working.{Working}
-use Rattle.arc_ops_passes.specs.Drives.{IsFree, search_works, cascade_works, GainsFrom, UnderWay}
+use Rattle.arc_ops_passes.specs.Drives.{IsFree, search_works, GainsFrom, UnderWay}
 use Rattle.arc_ops_passes.specs.Laws.{OutsideIsNoAccess}
 
 search_accesses : (a : Search) → (search_works a).access ≡ None
@@ -22,20 +20,6 @@ search_accesses (search.Taking s seen) = refl
 search_accesses (search.Counting s) = refl
 search_accesses (search.Naming s) = refl
 search_accesses search.Ended = refl
-
-cascade_accesses : (s : ℕ) (a : CascadeAt) → (cascade_works s a).access ≡ None
-cascade_accesses s ats.Start = refl
-cascade_accesses s ats.Entering = refl
-cascade_accesses s ats.Naming = refl
-cascade_accesses s (ats.Named name) = refl
-cascade_accesses s (ats.Looking name field) = refl
-cascade_accesses s (ats.Taking name field place) = refl
-cascade_accesses s (ats.Dropping name field drop) = refl
-cascade_accesses s ats.Leaving = refl
-cascade_accesses s (ats.Finishing parent p) = refl
-cascade_accesses s (ats.Ending parent p) = refl
-cascade_accesses s (ats.Resuming field) = refl
-cascade_accesses s ats.Ended = refl
 
 pub outside_is_no_access : OutsideIsNoAccess
 outside_is_no_access w t v d out = at t.doing out d.under_way
@@ -47,7 +31,7 @@ outside_is_no_access w t v d out = at t.doing out d.under_way
     gaining from (origins.Hand hand) out free = idle_is free
     gaining from (origins.Cell cell) out copying = absurd (true≢false out)
 
-    at : (e : Doing) → is_accessing e ≡ false → UnderWay w.shape v e → v.working.access ≡ None
+    at : (e : Doing) → is_accessing e ≡ false → UnderWay w.shape v d.chain e → v.working.access ≡ None
     at doings.Ready out under = idle_is under
     at (doings.Making to name plan) out under = ap (λ (x : Working). x.access) under.0 ∙ search_accesses plan.at
     at (doings.Gaining gain to from plan) out under = gaining from from.origin out under.0
@@ -57,6 +41,6 @@ outside_is_no_access w t v d out = at t.doing out d.under_way
     at (doings.Setting from cell plan) out under = idle_is under.0
     at (doings.Clearing plan) out under = idle_is under.0
     at (doings.Dropping held plan) out under = idle_is under.0
-    at (doings.Dying c) out under = ap (λ (x : Working). x.access) under.working ∙ cascade_accesses c.slot c.at
+    at (doings.Dying c) out under = ap (λ (x : Working). x.access) under.working
     at (doings.Vacating s plan) out under = ap (λ (x : Working). x.access) under.0
     at doings.Ended out under = idle_is under

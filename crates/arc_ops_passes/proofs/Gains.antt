@@ -18,8 +18,9 @@ use Rattle.arc_model.specs.declared.event.Event.{Event}
 use Rattle.arc_model.specs.declared.event.Origin.{Origin}
 use Rattle.arc_model.specs.declared.event.Origin.TheVariants as origins
 use Rattle.arc_model.specs.Cells.{cell, origin}
-use Rattle.arc_model.specs.Spelling.Note.{Refers}
-use Rattle.arc_model.specs.SpellingTies.{Holds, reference_of}
+use Rattle.arc_spelling.specs.Spelling.Note.{Refers}
+use Rattle.arc_spelling.specs.SpellingTies.{Holds}
+use Rattle.arc_model.specs.References.{reference_of}
 use Rattle.arc_model.specs.declared.shape.Kind.{Kind}
 use Rattle.arc_model.specs.declared.shape.Kind.TheVariants.{Strong, Unowned, Weak}
 use Rattle.arc_model.specs.Shapes.{HeapShape}
@@ -28,7 +29,7 @@ use Rattle.arc_model.specs.Holders.{is_number, is_claimed_by}
 use Rattle.arc_model.specs.History.{History, heap_after, next_hand, IsLegal}
 use Rattle.arc_model.specs.Lookup.{Spot, spot, duty_of}
 use Rattle.arc_model.specs.Own.{ends_hand, brings_hand, brought, in_list, owed_next, claimed_next}
-use Rattle.arc_model.specs.SpellingTies.Causes.{Judged}
+use Rattle.arc_spelling.specs.SpellingTies.Causes.{Judged}
 use Rattle.arc_model.proofs.Basics.{true≢false, None≢Some, Some-inj}
 use Rattle.arc_rule.specs.Extents.{Extent}
 use Rattle.arc_rule.specs.Places.{extent_of, number, place_at}
@@ -75,6 +76,7 @@ use Rattle.arc_ops.specs.Turns.{turned_at}
 use Rattle.arc_ops.specs.Takes.{FindsDead, IsGainWord, gain_takes, takes_at}
 use Rattle.arc_programs.specs.ProgramsTied.{hands_in}
 use Rattle.arc_spelled.specs.Came.{CameOut, copied_out, came_out_at}
+use Rattle.arc_spelled.specs.Spelled.{WordsHold}
 use Rattle.arc_spelled.specs.StepperStands.{Work, GainsUpTo}
 use Rattle.arc_view.specs.declared.view.Working.{Working}
 use Rattle.arc_view.specs.declared.view.View.{View}
@@ -92,7 +94,7 @@ use Rattle.arc_view_laws.proofs.Moving.{legal_tail}
 use Rattle.arc_ops_passes.specs.References.{in_vars, references, LeadsTo, Owns}
 use Rattle.arc_ops_passes.specs.Drives.{Asks, MayGoUp, OwesNothing, IsFree, accessing, GainsFrom, UnderWay, AreOfClasses, ComesOfClass}
 use Rattle.arc_ops_passes.specs.Laws.{IsBelowCaps, IsServedWord}
-use Rattle.arc_ops_passes.proofs.Fields.{AllHold}
+use Rattle.arc_ops_passes.proofs.Fields.{AllHold, notes_at}
 use Rattle.arc_ops_passes.proofs.Walks.{replaced_walks, new-some, new-none}
 use Rattle.arc_ops_passes.proofs.Hands.{reference_at, known_new}
 use Rattle.arc_ops_passes.proofs.Cells.{listed}
@@ -314,14 +316,14 @@ module _ (w : Work) (t : Thread) (v : View) (gain : Gain) (to : ℕ) (from : Sou
   below = subst (λ (e : Extent). from.place < e.slots) f.is_for.0 f.fits.1.place
 
   is_of : IsGainOf gain from
-  is_of = gain_is_of w t v gain to from f.notes f.served f.bare f.kinds from.origin refl f.up_to
+  is_of = gain_is_of w t v gain to from f.notes f.served f.sized f.legal f.kinds from.origin refl f.up_to
 
   -- the variable's class
   abbrev class : ℕ
   class = class_of w.classes to
 
   source : HasSource v from class
-  source = has_source w t v gain to from f.notes f.served f.bare f.classed f.in_shape from.origin refl f.up_to f.under_way.0
+  source = has_source w t v gain to from f.notes f.served f.sized f.legal f.kinds f.classed f.in_shape from.origin refl f.up_to f.under_way.0
 
   list_is : IsCountedInline (list_of gain from)
   list_is = list_counted gain from source.counted
@@ -362,7 +364,7 @@ module _ (w : Work) (t : Thread) (v : View) (gain : Gain) (to : ℕ) (from : Sou
     legal_met = legal_tail w.shape (event_list v.number (act_of w.shape v step why found)) met (subst (IsLegal w.shape) (ap (λ (x : View). x.seen) told.after) told.legal)
 
     source_met : MetSource v.number from class met
-    source_met = met_source w t v gain to from f.notes f.served f.bare step why found v' told legal_met class source from.origin refl f.up_to f.under_way.0
+    source_met = met_source w t v gain to from f.notes f.served f.sized f.legal f.kinds step why found v' told legal_met class source from.origin refl f.up_to f.under_way.0
 
     -- the count that a load of it finds
     shown : Reads step → place_of step ≡ at → (o : Object) × ShowsHeld w.shape from.kind o found
@@ -464,12 +466,13 @@ module _ (w : Work) (t : Thread) (v : View) (gain : Gain) (to : ℕ) (from : Sou
 
     -- the stepper goes on to this
     arrives : (d : Doing) (u : Thread) → takes_at w.shape (Some found) d → came_out_at t (Some found) d ≡ Out t from (nexts.Done ups.Up) → ReadsNoName (extent_of w.shape) step why → u.event ≡ Some did → u.hands ≡ t.hands + 1 → length u.vars ≡ length t.vars
-        → ((g : Held → ℕ) → references u.vars u.hands u.doing g ≡ in_vars t.vars g + g new_ref) → AreOfClasses w.classes v' u.vars → ComesOfClass w.classes v' u.doing → Asks w.shape u u.doing → UnderWay w.shape v' u.doing → u.taken ≡ 0 → Comes w t v step why found v' h d u
-    arrives d u takes out reads event_is hands count same classed coming asks under untaken = record {
+        → ((g : Held → ℕ) → references u.vars u.hands u.doing g ≡ in_vars t.vars g + g new_ref) → AreOfClasses w.classes v' u.vars → ComesOfClass w.classes v' u.doing → Asks w.shape [] u u.doing → UnderWay w.shape v' [] u.doing → Comes w t v step why found v' h d u
+    arrives d u takes out reads event_is hands count same classed coming asks under = record {
       takes_it = takes;
       event = act ∙ sym event_is;
-      holds = subst (λ (x : Option Act × Option CameOut). AllHold Judged w.shape (extent_of w.shape) (Some (step, why)) (Some found) w.thread x.0 x.1 h) (λ j. (sym event_is j, sym out j))
-          (cell_shown w.shape f.bare (extent_of w.shape) step why found w.thread (Some did) (Out t from (nexts.Done ups.Up)) h reads (takes_no_last gain from (t.hands + 1)) (λ x e is. refers x e));
+      holds = notes_at d (WordsHold Judged w.shape (extent_of w.shape) (Some (step, why)) (Some found) w.thread u.event (came_out_at t (Some found) d) h)
+          (subst (λ (x : Option Act × Option CameOut). AllHold Judged w.shape (extent_of w.shape) (Some (step, why)) (Some found) w.thread x.0 x.1 h) (λ j. (sym event_is j, sym out j))
+          (cell_shown w.shape f.sized (extent_of w.shape) step why found w.thread (Some did) (Out t from (nexts.Done ups.Up)) h reads (takes_no_last gain from (t.hands + 1)) (λ x e is. refers x e)));
       knows = subst (KnowsOf v') (sym out) knows;
       count = count ∙ f.count;
       owns = subst (λ n. Owns v' n (references u.vars u.hands u.doing)) (sym hands)
@@ -480,7 +483,6 @@ module _ (w : Work) (t : Thread) (v : View) (gain : Gain) (to : ℕ) (from : Sou
       no_claim = claims_on w.shape 1 did v v' called (λ n e. claims_same v.number e (t.hands + 1) gain from (heap_after n.met)) f.no_claim;
       asks = asks;
       under_way = under;
-      untaken = untaken;
     }
 
     brings : (d : Doing) → takes_at w.shape (Some found) d → came_out_at t (Some found) d ≡ Out t from (nexts.Done ups.Up) → ReadsNoName (extent_of w.shape) step why → v'.working ≡ v.working → Comes w t v step why found v' h d (has_gained gain from.origin to new_ref with_it)
@@ -490,7 +492,7 @@ module _ (w : Work) (t : Thread) (v : View) (gain : Gain) (to : ℕ) (from : Sou
         in_var is =
             let walk = replaced_walks w (LeadsTo v') (put answers.Ok with_it) to (Some new_ref) f.is_for f.fit f.fits.0 kept (new-some (LeadsTo v') class new_ref there) in
             let u : Thread = replaced to (Some new_ref) (put answers.Ok with_it) in
-            arrives d u takes out reads walk.event walk.hands walk.count walk.same walk.classed (fresh_coming w.classes v' u.doing walk.fresh) walk.asks (fresh_under w.shape v' u.doing walk.fresh (works ∙ is) owed_none) walk.untaken
+            arrives d u takes out reads walk.event walk.hands walk.count walk.same walk.classed (fresh_coming w.classes v' u.doing walk.fresh) walk.asks (fresh_under w.shape v' u.doing walk.fresh (works ∙ is) owed_none)
 
         -- but for a copy it is one in a variable
         ByHand : Gain → Origin → Type 0
@@ -513,13 +515,13 @@ module _ (w : Work) (t : Thread) (v : View) (gain : Gain) (to : ℕ) (from : Sou
         naming is = arrives d (name_begun to new_ref with_it) takes out reads refl refl refl (λ g. refl) kept there (
           (λ j. record { layout = f.is_for.0 j; slot = from.place; at = once.Asked }),
           ap (λ (l : Extent). moves.Step (Load (number l (Isa from.place))) intents.Look) f.is_for.0,
-        ) (record { working = works ∙ is; none = owed_none }) f.is_for.2
+        ) (record { working = works ∙ is; none = owed_none })
 
         closing : (c : CellName) → v.working ≡ accessing c from.place → Comes w t v step why found v' h d (close_begun to c new_ref with_it)
         closing c is = arrives d (close_begun to c new_ref with_it) takes out reads refl refl refl (λ g. refl) kept there (
           (λ j. record { layout = f.is_for.0 j; place = cell_number (f.is_for.0 j) c; value = from.place + 2; at = once.Asked }),
           ap (λ (l : Extent). moves.Step (Store (cell_number l c) (from.place + 2)) (intents.Access c)) f.is_for.0,
-        ) (works ∙ is, owed_none) f.is_for.2
+        ) (works ∙ is, owed_none)
 
         go : (g : Gain) (o : Origin) → GainsFrom v o from → ByHand g o → Comes w t v step why found v' h d (has_gained g o to new_ref with_it)
         go gains.Copy (origins.Hand k) under by = in_var under.working
@@ -566,7 +568,7 @@ module _ (w : Work) (t : Thread) (v : View) (gain : Gain) (to : ℕ) (from : Sou
         let u : Thread = record (quiet t) { doing = gaining w gain to from (attempt.Exchanging found new); asked = moves.Step (Exchange at found new) why } in
         stays w t v (Load at) why found v' (gaining w gain to from attempt.Loading) u told fact
         (takes_counts w gain from (list_of gain from) c found list_is some unowned most (λ dead e. absurd (true≢false (sym dead ∙ lives e)))) (out ∙ none) act refl (reads_no_name (extent_of w.shape) at gain from) refl refl (λ g. refl)
-        (classed_still w.shape 1 w.classes v v' t.vars c_none f.classed) tt (refl, refl) (source_still (Load at) found v' told c_none (seen_none (Load at) found v' told act) load_works, is_up w.shape (list_of gain from) c from.place found list_is word_is most lives) f.is_for.2
+        (classed_still w.shape 1 w.classes v v' t.vars c_none f.classed) tt (refl, refl) (source_still (Load at) found v' told c_none (seen_none (Load at) found v' told act) load_works, is_up w.shape (list_of gain from) c from.place found list_is word_is most lives)
 
     -- a load is of a reference in a variable
     idle_load : gain ≡ gains.Load → v.working ≡ idle
@@ -589,7 +591,7 @@ module _ (w : Work) (t : Thread) (v : View) (gain : Gain) (to : ℕ) (from : Sou
           takes_it = takes_counts w gain from (list_of gain from) c found list_is some unowned most (λ d e. subst FindsDead (sym load) tt);
           event = act ∙ sym walk.event;
           holds = subst (λ (x : Option Act × Option CameOut). AllHold Judged w.shape (extent_of w.shape) (Some (Load at, why)) (Some found) w.thread x.0 x.1 (told.between ++ v.seen)) (λ j. (sym walk.event j, sym (out ∙ none) j))
-              (nothing_shown w.shape f.bare (extent_of w.shape) (Load at) why found w.thread (Some (acts.Load (hand_of from.origin) gots.Dead)) (told.between ++ v.seen) (reads_no_name (extent_of w.shape) at gain from) tt);
+              (nothing_shown w.shape f.sized (extent_of w.shape) (Load at) why found w.thread (Some (acts.Load (hand_of from.origin) gots.Dead)) (told.between ++ v.seen) (reads_no_name (extent_of w.shape) at gain from) tt);
           knows = subst (KnowsOf v') (sym (out ∙ none)) (knows_none v');
           count = walk.count ∙ f.count;
           classed = walk.classed;
@@ -597,7 +599,6 @@ module _ (w : Work) (t : Thread) (v : View) (gain : Gain) (to : ℕ) (from : Sou
           owns = subst (λ n. Owns v' n (references u.vars u.hands u.doing)) (sym walk.hands)
               (owns_on w.shape 1 (acts.Load (hand_of from.origin) gots.Dead) v v' t.hands (references t.vars t.hands (gaining w gain to from a)) (references u.vars u.hands u.doing) called_dead (λ k. refl) refl f.owns (λ g. let e = walk.same g in omega arith));
           no_claim = claims_on w.shape 1 (acts.Load (hand_of from.origin) gots.Dead) v v' called_dead (λ n e. refl) f.no_claim;
-          untaken = walk.untaken;
           asks = walk.asks;
           under_way = fresh_under w.shape v' u.doing walk.fresh (load_works ∙ idle_load load) (owes_on w.shape 1 (acts.Load (hand_of from.origin) gots.Dead) v v' called_dead (λ i h. refl) none_owed);
         }
@@ -653,7 +654,7 @@ module _ (w : Work) (t : Thread) (v : View) (gain : Gain) (to : ℕ) (from : Sou
         stays w t v (Exchange at seen new) why found v' d (gain_begun gain to from (quiet t)) told fact ((λ e. cc), tt) (out ∙ none) act refl tt refl refl (λ g. refl) (classed_still w.shape 1 w.classes v v' t.vars c_none f.classed) tt (
           (λ j. record { layout = f.is_for.0 j; slot = from.place; list = list_of gain from; caps = (f.is_for.1 j).caps; entry = None; at = attempt.Loading }),
           ap (λ (l : Extent). moves.Step (Load (number l (Count from.place))) (intent_of gain from)) f.is_for.0,
-        ) (source_still (Exchange at seen new) found v' told c_none (seen_none (Exchange at seen new) found v' told act) swap_works, tt) f.is_for.2
+        ) (source_still (Exchange at seen new) found v' told c_none (seen_none (Exchange at seen new) found v' told act) swap_works, tt)
 
     -- the reference comes
     hit : found ≡ seen → Swapped true

@@ -1,5 +1,5 @@
 -- What is known of a stepper that drives a pass while it is doing something, and what a step must leave of it.
-use Rattle.std.proofs.Common.{◌≡◌, ℕ, zero, ◌+◌, ◌&&◌, Bool, true, false, cond, List, [], ◌∷◌, ◌++◌, length, Option, Some, None, refl, sym, ap, ◌∙◌, subst, arith, eq-eqb}
+use Rattle.std.proofs.Common.{◌≡◌, ℕ, zero, ◌+◌, ◌<◌, ◌&&◌, Bool, true, false, cond, List, [], ◌∷◌, ◌++◌, length, Option, Some, None, refl, sym, ap, ◌∙◌, subst, arith, eq-eqb}
 use Rattle.std.specs.Prelude.{All}
 use Rattle.arc_model.specs.declared.event.Act.{Act}
 use Rattle.arc_model.specs.declared.event.Act.TheVariants as acts
@@ -9,15 +9,15 @@ use Rattle.arc_model.specs.Holders.{is_number, is_claimed_by}
 use Rattle.arc_model.specs.History.{History, heap_after, next_hand, is_of, share, IsLegal}
 use Rattle.arc_model.specs.Lookup.{spot, duty_of}
 use Rattle.arc_model.specs.Own.{ends_hand, brings_hand, brought, owed_next, claimed_next}
-use Rattle.arc_model.specs.Spelling.{Note, one_more_if}
-use Rattle.arc_model.specs.Spelling.Note.{Did, Line, Operation, Name, Entry, NeedsEntry, Nil, Refers}
-use Rattle.arc_model.specs.SpellingTies.{Ties, Holds, Causes}
-use Rattle.arc_model.specs.SpellingTies.Causes.{Judged}
-use Rattle.arc_model.specs.SpellingTies.Ties.{start, own, other, noted}
-use Rattle.arc_model.proofs.SpellTies.{hands_are, ties_others}
+use Rattle.arc_spelling.specs.Spelling.{Note, hands_of, one_more_if}
+use Rattle.arc_spelling.specs.Spelling.Note.{Did, Line, Operation, Name, Entry, NeedsEntry, Nil, Refers}
+use Rattle.arc_spelling.specs.SpellingTies.{Ties, Holds, Causes}
+use Rattle.arc_spelling.specs.SpellingTies.Causes.{Judged}
+use Rattle.arc_spelling.specs.SpellingTies.Ties.{start, own, other, noted}
+use Rattle.arc_spelling.proofs.SpellTies.{hands_are, ties_others}
 use Rattle.arc_rule.specs.Extents.{Extent}
 use Rattle.arc_rule.specs.Places.{extent_of, number}
-use Rattle.arc_rule.specs.declared.layout.Place.TheVariants.{Count, Isa, Next, SlotBits}
+use Rattle.arc_rule.specs.declared.layout.Place.TheVariants.{Count, Isa, Next, Field, SlotBits}
 use Rattle.arc_rule.specs.declared.step.Step.{Step}
 use Rattle.arc_rule.specs.declared.step.Step.TheVariants as steps
 use Rattle.arc_rule.specs.declared.step.Intent.{Intent}
@@ -33,9 +33,9 @@ use Rattle.arc_plan.specs.declared.slots.Making.{Making as Search}
 use Rattle.arc_plan.specs.declared.slots.Making.TheVariants as search
 use Rattle.arc_cells.specs.declared.cascade.At.{At as CascadeAt}
 use Rattle.arc_cells.specs.declared.cascade.At.TheVariants as ats
-use Rattle.arc_cells.specs.Cascades.{HasNoFields}
+use Rattle.arc_cells.specs.Cascades.{CascadeState}
 use Rattle.arc_cells.specs.Chains.{Frame}
-use Rattle.arc_deinits.specs.Stands.{chained_at}
+use Rattle.arc_deinits.specs.Stands.{CascadeStandsFor, CascadeUpTo}
 use Rattle.arc_programs.specs.Programs.{made_of, makes}
 use Rattle.arc_programs.specs.ProgramsTied.{hands_in}
 use Rattle.arc_script.specs.declared.script.Op.{Op}
@@ -49,11 +49,11 @@ use Rattle.arc_ops.specs.Thread.{Thread, value}
 use Rattle.arc_ops.specs.Turns.{turned}
 use Rattle.arc_ops.specs.Takes.{takes_at, takes, HasHandLeft}
 use Rattle.arc_ops.specs.Steppers.{IsStepper, IsUnderWay, IsInOperation}
-use Rattle.arc_spelled.specs.StepperStands.{Work, IsServedWork, AreOfKinds, StepperUpTo, step_in, StandsFor, chain_at, FitsChain}
+use Rattle.arc_spelled.specs.StepperStands.{Work, IsServedWork, AreOfKinds, IsDying, StepperUpTo, step_in, chain_after, FitsChain}
 use Rattle.arc_ops.specs.Plans.{list_of}
 use Rattle.arc_spelled.specs.Came.{Extends, CameOut, came_out_at, came_out, knowing}
 use Rattle.arc_spelled.specs.Shown.{Adds, IsNamedFor, deinit, line, TakesLast, finish, drop}
-use Rattle.arc_spelled.specs.Spelled.{with_event_of}
+use Rattle.arc_spelled.specs.Spelled.{with_event_of, WordsHold}
 use Rattle.arc_spelled.proofs.StepperKeeps.{stepper_goes_on, served-too}
 use Rattle.arc_spelled.proofs.SteppersSpell.{added_notes_are_tied}
 use Rattle.arc_view.specs.declared.view.View.{View}
@@ -68,9 +68,9 @@ use Rattle.arc_view_laws.specs.Hands.{Moves}
 use Rattle.arc_view_laws.proofs.Growing.{acts_of, told_called}
 use Rattle.arc_view_laws.proofs.Moving.{moved, moved_none}
 use Rattle.arc_ops_passes.specs.References.{references, Owns}
-use Rattle.arc_ops_passes.specs.Drives.{Asks, AttemptAsks, OnceAsks, CascadeAsks, MayGoUp, MayGoDown, MayBegin, MaySwap, search_works, OwesNothing, Searched, GainsFrom, UnderWay, AreOfClasses, ComesOfClass, Drives}
+use Rattle.arc_ops_passes.specs.Drives.{Asks, AttemptAsks, OnceAsks, MayGoUp, MayGoDown, MayBegin, MaySwap, search_works, OwesNothing, Searched, GainsFrom, UnderWay, AreOfClasses, ComesOfClass, Drives}
 use Rattle.arc_ops_passes.specs.Laws.{GoesOn}
-use Rattle.arc_ops_passes.proofs.Fields.{AllHold, no_field}
+use Rattle.arc_ops_passes.proofs.Fields.{few_fields, AllHold, IsNoted, NotesAt, notes_at, notes_of}
 use Rattle.arc_ops_passes.proofs.Walks.{IsFor, IsFresh, IsFreshSearch, IsOfHand, Fits}
 use Rattle.arc_ops_passes.proofs.Hands.{seen_extends}
 use Rattle.arc_ops_passes.proofs.Owned.{leads_still, leads_on, to_still, to_on, owns_stay}
@@ -91,7 +91,6 @@ ops_fit w n program served fits is =
 
 pub record Facts (w : Work) (t : Thread) (v : View) (d : Doing) : Type 0 where
   pub served : IsServedWork w
-  pub bare : HasNoFields w.shape
   pub sized : IsSized w.shape
   pub stepper : IsStepper t
   pub is_for : IsFor w.shape t
@@ -107,15 +106,17 @@ pub record Facts (w : Work) (t : Thread) (v : View) (d : Doing) : Type 0 where
   pub fits : IsUnderWay t.layout t.shape (length t.vars) d
   pub in_op : IsInOperation t d
   pub notes : List Note
+  pub chain : List Frame
+  pub hands_is : t.hands ≡ hands_of notes
   pub made_is : t.made ≡ made_of notes
-  pub up_to : StepperUpTo (known v w) t.index t.vars t.cleared [] t.asked notes d
+  pub up_to : StepperUpTo (known v w) t.index t.vars t.cleared chain t.asked notes d
   pub owns : Owns v t.hands (references t.vars t.hands d)
   pub classed : AreOfClasses w.classes v t.vars
   pub coming : ComesOfClass w.classes v d
   pub fit : All (Fits w (length t.vars)) t.program
   pub no_claim : (e : ℕ) → HasClaim v e → ⊥
-  pub asks : Asks w.shape t d
-  pub under_way : UnderWay w.shape v d
+  pub asks : Asks w.shape chain t d
+  pub under_way : UnderWay w.shape v chain d
 
 -- what a view knows of its hands has what comes out of a cell
 abbrev pub KnowsOf : View → Option CameOut → Type 0
@@ -124,20 +125,23 @@ KnowsOf v out = (x : CameOut) → out ≡ Some x → hands_in v.number v.seen x.
 pub knows_none : (v : View) → KnowsOf v None
 knows_none v x e = absurd (None≢Some x e)
 
--- what a step leaves: the history h was met, and u is what the stepper is then
-pub record Comes (w : Work) (t : Thread) (v : View) (step : Step) (intent : Intent) (found : ℕ) (v' : View) (h : History) (d : Doing) (u : Thread) : Type 0 where
+-- what a step leaves: the history h was met, and u is what the stepper is then, under this chain of deinits that wait
+pub record ComesUnder (chain : List Frame) (w : Work) (t : Thread) (v : View) (step : Step) (intent : Intent) (found : ℕ) (v' : View) (h : History) (d : Doing) (u : Thread) : Type 0 where
   pub takes_it : takes_at w.shape (Some found) d
   pub event : act_of w.shape v step intent found ≡ u.event
-  pub holds : AllHold Judged w.shape (extent_of w.shape) (Some (step, intent)) (Some found) w.thread u.event (came_out_at t (Some found) d) h
+  pub holds : NotesAt d (WordsHold Judged w.shape (extent_of w.shape) (Some (step, intent)) (Some found) w.thread u.event (came_out_at t (Some found) d) h)
   pub knows : KnowsOf v' (came_out_at t (Some found) d)
   pub count : length u.vars ≡ w.count
   pub owns : Owns v' u.hands (references u.vars u.hands u.doing)
   pub classed : AreOfClasses w.classes v' u.vars
   pub coming : ComesOfClass w.classes v' u.doing
   pub no_claim : (e : ℕ) → HasClaim v' e → ⊥
-  pub asks : Asks w.shape u u.doing
-  pub under_way : UnderWay w.shape v' u.doing
-  pub untaken : u.taken ≡ 0
+  pub asks : Asks w.shape chain u u.doing
+  pub under_way : UnderWay w.shape v' chain u.doing
+
+-- under none
+abbrev pub Comes : (w : Work) (t : Thread) (v : View) (step : Step) (intent : Intent) (found : ℕ) (v' : View) (h : History) (d : Doing) (u : Thread) → Type 0
+Comes w t v step intent found v' h d u = ComesUnder [] w t v step intent found v' h d u
 
 -- ---- the objects that a thread's notes made are those of its history
 
@@ -188,13 +192,12 @@ made_are causes shape p ns h (noted {n = n} {ns = ms} t x) = made_are causes sha
 
 -- ---- from a stepper that drives
 
-pub facts : (w : Work) (t : Thread) (v : View) → IsServedWork w → HasNoFields w.shape → IsStepper t → IsSized w.shape → Drives w t v → Facts w t v t.doing
-facts w t v served bare stepper sized d = record {
+unfoldable pub facts : (w : Work) (t : Thread) (v : View) → IsServedWork w → IsStepper t → IsSized w.shape → Drives w t v → Facts w t v t.doing
+facts w t v served stepper sized d = record {
   served = served;
-  bare = bare;
   sized = sized;
   stepper = stepper;
-  is_for = (d.stands.works.layout_is, d.stands.works.shape_is, d.untaken);
+  is_for = (d.stands.works.layout_is, d.stands.works.shape_is);
   thread = d.stands.works.thread_is;
   program = d.stands.works.program_is;
   legal = d.legal;
@@ -207,6 +210,8 @@ facts w t v served bare stepper sized d = record {
   fits = stepper.under_way;
   in_op = stepper.in_operation;
   notes = d.notes;
+  chain = d.chain;
+  hands_is = d.stands.counts.hands_are;
   made_is = d.stands.counts.made_is;
   up_to = d.stands.up_to;
   owns = d.owns;
@@ -222,69 +227,58 @@ pub event_is : (p : ℕ) (e : Option Act) (h : History) → with_event_of p e h 
 event_is p None h = refl
 event_is p (Some a) h = refl
 
--- no reference was taken out of a field, so there are hands left
-pub has_hand_left : (t : Thread) → t.taken ≡ 0 → HasHandLeft t
-has_hand_left t none = omega (arith, none)
-
--- no deinit waits for another
-pub chain_none : (shape : HeapShape) (t : Thread) (last : Option ℕ) (d : Doing) → Asks shape t d → chain_at last [] d ≡ []
-chain_none shape t last doings.Ready asks = refl
-chain_none shape t last (doings.Making to name plan) asks = refl
-chain_none shape t last (doings.Gaining gain to from plan) asks = refl
-chain_none shape t last (doings.Naming to held plan) asks = refl
-chain_none shape t last (doings.Opening to cell plan) asks = refl
-chain_none shape t last (doings.Closing to cell held plan) asks = refl
-chain_none shape t last (doings.Setting from cell plan) asks = refl
-chain_none shape t last (doings.Clearing plan) asks = refl
-chain_none shape t last (doings.Dropping held plan) asks = refl
-chain_none shape t last (doings.Dying c) asks = at c.at asks.1
-  where
-    at : (a : CascadeAt) → CascadeAsks shape t.asked c.slot a → chained_at c last a [] ≡ []
-    at ats.Start x = refl
-    at ats.Entering x = refl
-    at ats.Naming x = refl
-    at (ats.Named name) x = refl
-    at (ats.Looking name field) x = refl
-    at (ats.Taking name field place) x = refl
-    at (ats.Dropping name field reference) x = absurd x
-    at ats.Leaving x = refl
-    at (ats.Finishing parent p) x = refl
-    at (ats.Ending parent p) x = refl
-    at (ats.Resuming field) x = refl
-    at ats.Ended x = refl
-chain_none shape t last (doings.Vacating slot plan) asks = refl
-chain_none shape t last doings.Ended asks = refl
-
 -- ---- to what drives on
 
-pub goes_on : (w : Work) (t : Thread) (v : View) (step : Step) (intent : Intent) (found : ℕ) (v' : View) → IsServedWork w → Drives w t v → t.asked ≡ moves.Step step intent → (told : Told w.shape intent step v found v')
-    → FitsChain t [] (Some found) → Comes w t v step intent found v' (told.between ++ v.seen) t.doing (turned t (Some found)) → GoesOn w t v step intent found v'
-goes_on w t v step intent found v' served d asked told fits c =
+-- the notes of a deinit that looks at a field have the object's name
+name_noted : (shape : HeapShape) (root : ℕ) (base : List Note) (c : CascadeState) (fs : List Frame) (asked : Option (Step × Intent)) (now : List Note) → CascadeStandsFor root base c fs asked now → IsNoted c.slot c.at now
+name_noted shape root base c fs asked now stands = at c.at stands.up_to
+  where
+    at : (a : CascadeAt) → CascadeUpTo c root base fs asked now a → IsNoted c.slot a now
+    at ats.Start x = tt
+    at ats.Entering x = tt
+    at ats.Naming x = tt
+    at (ats.Named name) x = tt
+    at (ats.Looking name field) x = x.1.named
+    at (ats.Taking name field place) x = tt
+    at (ats.Dropping name field reference) x = tt
+    at ats.Leaving x = tt
+    at (ats.Finishing parent p) x = tt
+    at (ats.Ending parent p) x = tt
+    at (ats.Resuming field) x = tt
+    at ats.Ended x = tt
+
+pub goes_on : (w : Work) (t : Thread) (v : View) (step : Step) (intent : Intent) (found : ℕ) (v' : View) → IsServedWork w → HasHandLeft t → (d : Drives w t v) → t.asked ≡ moves.Step step intent → (told : Told w.shape intent step v found v')
+    → FitsChain t d.chain (Some found) → ComesUnder (chain_after t (Some found) d.chain) w t v step intent found v' (told.between ++ v.seen) t.doing (turned t (Some found)) → GoesOn d.chain w t v step intent found v'
+goes_on w t v step intent found v' served left d asked told fits c =
     let u : Thread = turned t (Some found) in
     let h = told.between ++ v.seen in
-    let takes_it : takes t (Some found) = (subst (λ (s : HeapShape). takes_at s (Some found) t.doing) (sym d.stands.works.shape_is) c.takes_it, has_hand_left t d.untaken) in
+    let takes_it : takes t (Some found) = (subst (λ (s : HeapShape). takes_at s (Some found) t.doing) (sym d.stands.works.shape_is) c.takes_it, left) in
     let seen_is : v'.seen ≡ event_list v.number (act_of w.shape v step intent found) ++ h = ap (λ (x : View). x.seen) told.after in
     let number_is : v'.number ≡ v.number = ap (λ (x : View). x.number) told.after in
     let extends : Extends (hands_in v.number v.seen) (hands_in v'.number v'.seen) = subst (λ (x : ℕ × History). Extends (hands_in v.number v.seen) (hands_in x.0 x.1)) (λ j. (sym number_is j, sym seen_is j))
     (seen_extends w.shape v.number (act_of w.shape v step intent found) told.between v.seen (subst (IsLegal w.shape) seen_is told.legal) told.others) in
-    let g = stepper_goes_on (known v w) (served-too w (hands_in v.number v.seen) served) (hands_in v'.number v'.seen) t [] (Some found) d.notes d.stands takes_it fits extends c.knows in
+    let g = stepper_goes_on (known v w) (served-too w (hands_in v.number v.seen) served) (hands_in v'.number v'.seen) t d.chain (Some found) d.notes d.stands takes_it fits extends c.knows in
     let others : share told.between w.thread ≡ [] = ap (share told.between) (sym d.number) ∙ told.others in
     let before : Ties Judged w.shape w.thread d.notes h = ties_others Judged w.shape w.thread d.notes v.seen told.between others d.tied in
     let out = came_out t (Some found) in
     let adds : Adds w.shape (extent_of w.shape) (Some (step, intent)) (Some found) u.event out d.notes g.after = subst (λ (m : Move). Adds w.shape (extent_of w.shape) (step_in m) (Some found) u.event out d.notes g.after) asked g.adds in
-    let tied : Ties Judged w.shape w.thread g.after (with_event_of w.thread u.event h) = added_notes_are_tied Judged w.shape (extent_of w.shape) (Some (step, intent)) (Some found) w.thread u.event out h d.notes g.after adds (c.holds d.notes) before in
+    let holds : WordsHold Judged w.shape (extent_of w.shape) (Some (step, intent)) (Some found) w.thread u.event out h d.notes =
+    notes_of t.doing (WordsHold Judged w.shape (extent_of w.shape) (Some (step, intent)) (Some found) w.thread u.event out h) d.notes (named t.doing d.stands.up_to) c.holds in
+    let tied : Ties Judged w.shape w.thread g.after (with_event_of w.thread u.event h) = added_notes_are_tied Judged w.shape (extent_of w.shape) (Some (step, intent)) (Some found) w.thread u.event out h d.notes g.after adds holds before in
     let seen : v'.seen ≡ with_event_of w.thread u.event h =
     ap (λ (x : View). x.seen) told.after ∙ ((λ j. event_list (d.number j) (c.event j) ++ h) ∙ sym (event_is w.thread u.event h)) in record {
       takes_it = takes_it;
+      fits = fits;
+      under = refl;
       drives = record {
         pass = ap (λ (x : View). x.role) told.after ∙ d.pass;
         number = ap (λ (x : View). x.number) told.after ∙ d.number;
         legal = told.legal;
         in_shape = told.in_shape;
         notes = g.after;
-        stands = subst (λ (fs : List Frame). StandsFor (known v' w) (turned t (Some found)) fs g.after) (chain_none w.shape t (Some found) t.doing d.asks) g.stands;
+        chain = chain_after t (Some found) d.chain;
+        stands = g.stands;
         tied = subst (Ties Judged w.shape w.thread g.after) (sym seen) tied;
-        untaken = c.untaken;
         count = c.count;
         owns = c.owns;
         classed = c.classed;
@@ -295,6 +289,12 @@ goes_on w t v step intent found v' served d asked told fits c =
       };
       event = sym c.event;
     }
+  where
+    named : (e : Doing) → StepperUpTo (known v w) t.index t.vars t.cleared d.chain t.asked d.notes e → (c : CascadeState) → e ≡ doings.Dying c → IsNoted c.slot c.at d.notes
+    named e x c is = of (subst (StepperUpTo (known v w) t.index t.vars t.cleared d.chain t.asked d.notes) is x)
+      where
+        of : IsDying (known v w) t.index c d.chain t.asked t.vars t.cleared d.notes → IsNoted c.slot c.at d.notes
+        of y = name_noted w.shape y.root y.base c d.chain (step_in t.asked) d.notes y.stands
 
 move_inj : (a b : Step) (i j : Intent) → moves.Step a i ≡ moves.Step b j → (a ≡ b) × (i ≡ j)
 move_inj a b i j e = (cc, cc)
@@ -328,7 +328,7 @@ pub told_by : (shape : HeapShape) (intent : Intent) (st : Step) (v : View) (foun
 told_by shape intent st v found w a is t = subst (λ b. Called shape (acts_of b) 1 v w) is (told_called shape intent st v found w t)
 
 -- an operation has just begun
-pub fresh_under : (shape : HeapShape) (v : View) (d : Doing) → IsFresh d → v.working ≡ idle → OwesNothing v → UnderWay shape v d
+pub fresh_under : (shape : HeapShape) (v : View) (d : Doing) → IsFresh d → v.working ≡ idle → OwesNothing v → UnderWay shape v [] d
 fresh_under shape v doings.Ready fresh works none = record { working = works; none = none }
 fresh_under shape v (doings.Making to name plan) fresh works none = at plan.at fresh
   where
@@ -402,9 +402,9 @@ owns_on shape k a v w n L M c ends brings o same =
 
 -- ---- what a word shows of the heap
 
--- the step is no load of a name
+-- the step is no load of a name, nor one of a field in a deinit
 abbrev pub ReadsNoName : Extent → Step → Intent → Type 0
-ReadsNoName l (steps.Load place) (intents.Deinit slot) = (s : ℕ) → place ≡ number l (Isa s) → ⊥
+ReadsNoName l (steps.Load place) (intents.Deinit slot) = ((s : ℕ) → place ≡ number l (Isa s) → ⊥) × ((s f : ℕ) → f < 8 → place ≡ number l (Field s f) → ⊥)
 ReadsNoName l (steps.Load place) intents.Look = ⊥
 ReadsNoName l _ _ = Unit {0}
 
@@ -415,7 +415,7 @@ TakesNoLast (Some (acts.Drop k true)) = ⊥
 TakesNoLast _ = Unit {0}
 
 no_name : (l : Extent) (slot : ℕ) (intent : Intent) → IsNamedFor slot intent → ReadsNoName l (steps.Load (number l (Isa slot))) intent → ⊥
-no_name l slot intent deinit reads = reads slot refl
+no_name l slot intent deinit reads = reads.0 slot refl
 no_name l slot intent line reads = reads
 
 no_last : (slot : ℕ) (act : Act) (intent : Intent) → TakesLast slot act intent → TakesNoLast (Some act) → ⊥
@@ -423,37 +423,41 @@ no_last slot act intent finish none = none
 no_last slot act intent drop none = none
 
 -- the words show at most what a cell refers to that is copied
-pub cell_shown : (shape : HeapShape) → HasNoFields shape → (l : Extent) (asked : Step) (intent : Intent) (last p : ℕ) (event : Option Act) (out : Option CameOut) (h : History) → ReadsNoName l asked intent → TakesNoLast event
+pub cell_shown : (shape : HeapShape) → IsSized shape → (l : Extent) (asked : Step) (intent : Intent) (last p : ℕ) (event : Option Act) (out : Option CameOut) (h : History) → ReadsNoName l asked intent → TakesNoLast event
     → ((x : CameOut) → out ≡ Some x → event ≡ Some (acts.Copy (origins.Cell x.cell) x.hand) → Holds Judged shape (heap_after h) (Refers x.cell x.kind x.place)) → AllHold Judged shape l (Some (asked, intent)) (Some last) p event out h
-cell_shown shape bare l asked intent last p event out h no_name_read no_end refers now = record {
+cell_shown shape sized l asked intent last p event out h no_name_read no_end refers now = record {
   names = λ slot w i a named is. absurd (no_name l slot i named (subst (λ (x : Step × Intent). ReadsNoName l x.0 x.1) (Some-inj a) no_name_read));
   refers = refers;
-  nil_fields = λ slot field of a is name lt. no_field shape of.class field bare lt;
-  fields = λ slot field w of a is some name lt. no_field shape of.class field bare lt;
+  nil_fields = λ slot field of a is name lt. absurd (read slot field a (let few = few_fields shape of.class sized in omega (arith, few, lt)));
+  fields = λ slot field w of a is some name lt. absurd (read slot field a (let few = few_fields shape of.class sized in omega (arith, few, lt)));
   entries = λ slot w new act i entry e a takes is counts. absurd (no_last slot act i takes (subst TakesNoLast e no_end));
 }
+  where
+    read : (slot field : ℕ) → Path (Option (Step × Intent)) (Some (asked, intent)) (Some (steps.Load (number l (Field slot field)), intents.Deinit slot)) → field < 8 → ⊥
+    read slot field a lt = (subst (λ (x : Step × Intent). ReadsNoName l x.0 x.1) (Some-inj a) no_name_read).1 slot field lt refl
 
-pub nothing_shown : (shape : HeapShape) → HasNoFields shape → (l : Extent) (asked : Step) (intent : Intent) (last p : ℕ) (event : Option Act) (h : History) → ReadsNoName l asked intent → TakesNoLast event
+pub nothing_shown : (shape : HeapShape) → IsSized shape → (l : Extent) (asked : Step) (intent : Intent) (last p : ℕ) (event : Option Act) (h : History) → ReadsNoName l asked intent → TakesNoLast event
     → AllHold Judged shape l (Some (asked, intent)) (Some last) p event None h
-nothing_shown shape bare l asked intent last p event h no_name_read no_end = cell_shown shape bare l asked intent last p event None h no_name_read no_end (λ x e. absurd (None≢Some x e))
+nothing_shown shape sized l asked intent last p event h no_name_read no_end = cell_shown shape sized l asked intent last p event None h no_name_read no_end (λ x e. absurd (None≢Some x e))
 
 pub count_no_name : (l : Extent) (s i : ℕ) → ReadsNoName l (steps.Load (number l (Count s))) (intents.Deinit i)
-count_no_name l s i x e = omega arith
+count_no_name l s i = (λ x e. omega arith, λ x g lt e. omega (arith, lt, e))
 
 pub next_no_name : (l : Extent) (s i : ℕ) → ReadsNoName l (steps.Load (number l (Next s))) (intents.Deinit i)
-next_no_name l s i x e = omega arith
+next_no_name l s i = (λ x e. omega arith, λ x g lt e. omega (arith, lt, e))
 
 -- ---- a step of no event after which the stepper goes on to this
 
 -- the word that is read shows this
 pub stays_shown : (w : Work) (t : Thread) (v : View) (step : Step) (intent : Intent) (found : ℕ) (v' : View) (d : Doing) (u : Thread) (told : Told w.shape intent step v found v') → Facts w t v d → takes_at w.shape (Some found) d → came_out_at t (Some found) d ≡ None → act_of w.shape v step intent found ≡ None
     → u.event ≡ None → AllHold Judged w.shape (extent_of w.shape) (Some (step, intent)) (Some found) w.thread None None (told.between ++ v.seen) → u.hands ≡ t.hands → length u.vars ≡ length t.vars → ((f : Held → ℕ) → references u.vars u.hands u.doing f ≡ references t.vars t.hands d f)
-    → AreOfClasses w.classes v' u.vars → ComesOfClass w.classes v' u.doing → Asks w.shape u u.doing → UnderWay w.shape v' u.doing → u.taken ≡ 0 → Comes w t v step intent found v' (told.between ++ v.seen) d u
-stays_shown w t v step intent found v' d u told f takes out act event holds hands count same classed coming asks under untaken =
+    → AreOfClasses w.classes v' u.vars → ComesOfClass w.classes v' u.doing → Asks w.shape [] u u.doing → UnderWay w.shape v' [] u.doing → Comes w t v step intent found v' (told.between ++ v.seen) d u
+stays_shown w t v step intent found v' d u told f takes out act event holds hands count same classed coming asks under =
     let c = told_by w.shape intent step v found v' None act told in record {
       takes_it = takes;
       event = act ∙ sym event;
-      holds = subst (λ (x : Option Act × Option CameOut). AllHold Judged w.shape (extent_of w.shape) (Some (step, intent)) (Some found) w.thread x.0 x.1 (told.between ++ v.seen)) (λ j. (sym event j, sym out j)) holds;
+      holds = notes_at d (WordsHold Judged w.shape (extent_of w.shape) (Some (step, intent)) (Some found) w.thread u.event (came_out_at t (Some found) d) (told.between ++ v.seen))
+          (subst (λ (x : Option Act × Option CameOut). AllHold Judged w.shape (extent_of w.shape) (Some (step, intent)) (Some found) w.thread x.0 x.1 (told.between ++ v.seen)) (λ j. (sym event j, sym out j)) holds);
       knows = subst (KnowsOf v') (sym out) (knows_none v');
       count = count ∙ f.count;
       owns = subst (λ n. Owns v' n (references u.vars u.hands u.doing)) (sym hands) (owns_still w.shape 1 v v' t.hands (references t.vars t.hands d) (references u.vars u.hands u.doing) c f.owns same);
@@ -462,12 +466,11 @@ stays_shown w t v step intent found v' d u told f takes out act event holds hand
       no_claim = claims_still w.shape 1 v v' c f.no_claim;
       asks = asks;
       under_way = under;
-      untaken = untaken;
     }
 
 -- it shows no name
 pub stays : (w : Work) (t : Thread) (v : View) (step : Step) (intent : Intent) (found : ℕ) (v' : View) (d : Doing) (u : Thread) (told : Told w.shape intent step v found v') → Facts w t v d → takes_at w.shape (Some found) d → came_out_at t (Some found) d ≡ None → act_of w.shape v step intent found ≡ None
     → u.event ≡ None → ReadsNoName (extent_of w.shape) step intent → u.hands ≡ t.hands → length u.vars ≡ length t.vars → ((f : Held → ℕ) → references u.vars u.hands u.doing f ≡ references t.vars t.hands d f) → AreOfClasses w.classes v' u.vars → ComesOfClass w.classes v' u.doing
-    → Asks w.shape u u.doing → UnderWay w.shape v' u.doing → u.taken ≡ 0 → Comes w t v step intent found v' (told.between ++ v.seen) d u
+    → Asks w.shape [] u u.doing → UnderWay w.shape v' [] u.doing → Comes w t v step intent found v' (told.between ++ v.seen) d u
 stays w t v step intent found v' d u told f takes out act event no_name_read =
-    stays_shown w t v step intent found v' d u told f takes out act event (nothing_shown w.shape f.bare (extent_of w.shape) step intent found w.thread None (told.between ++ v.seen) no_name_read tt)
+    stays_shown w t v step intent found v' d u told f takes out act event (nothing_shown w.shape f.sized (extent_of w.shape) step intent found w.thread None (told.between ++ v.seen) no_name_read tt)

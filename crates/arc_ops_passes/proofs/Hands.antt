@@ -15,7 +15,7 @@ use Rattle.arc_model.specs.Holders.{is_number}
 use Rattle.arc_model.specs.History.{History, heap_after, next_hand, brings, is_of, sight, share, IsLegal}
 use Rattle.arc_model.specs.Lookup.{spot}
 use Rattle.arc_model.specs.Own.{brings_hand}
-use Rattle.arc_model.specs.SpellingTies.{Reference, place_of, reference_to, reference_in, reference_of}
+use Rattle.arc_model.specs.References.{Reference, place_of, reference_to, reference_in, reference_of}
 use Rattle.arc_model.proofs.Basics.{None≢Some, Some-inj}
 use Rattle.arc_model.proofs.Others.{not-among}
 use Rattle.arc_side.specs.Inline.{IsCountedInline}

@@ -89,8 +89,8 @@ module _ (w : Work) (t : Thread) (v : View) (to : ℕ) (held : Held) (f : Facts 
         let u : Thread = replaced to (Some held) got in
         let here = to_still w.shape 1 v v' held (class_of w.classes to) c f.coming in
         let walk = replaced_walks w (LeadsTo v') got to (Some held) f.is_for f.fit f.fits.0 (classed_still w.shape 1 w.classes v v' t.vars c f.classed) (new-some (LeadsTo v') (class_of w.classes to) held here) in
-        stays_shown w t v ReadName intents.Look found v' (naming w to held once.Asked) u told f (read.takes.0, read.takes) refl act walk.event (name_shown w.shape f.bare (extent_of w.shape) held.place found w.thread intents.Look h read.named) walk.hands walk.count walk.same walk.classed (fresh_coming w.classes v' u.doing walk.fresh) walk.asks
-        (fresh_under w.shape v' u.doing walk.fresh (works ∙ f.under_way.working) (owes_still w.shape 1 v v' c f.under_way.none)) walk.untaken
+        stays_shown w t v ReadName intents.Look found v' (naming w to held once.Asked) u told f (read.takes.0, read.takes) refl act walk.event (name_shown w.shape f.sized (extent_of w.shape) held.place found w.thread intents.Look h read.named) walk.hands walk.count walk.same walk.classed (fresh_coming w.classes v' u.doing walk.fresh) walk.asks
+        (fresh_under w.shape v' u.doing walk.fresh (works ∙ f.under_way.working) (owes_still w.shape 1 v v' c f.under_way.none))
 
 -- ---- by where the plan is
 

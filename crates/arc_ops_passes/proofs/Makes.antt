@@ -19,14 +19,14 @@ use Rattle.arc_model.specs.Effects.{made}
 use Rattle.arc_model.specs.History.{History, heap_after, share, IsLegal}
 use Rattle.arc_model.specs.Lookup.{spot}
 use Rattle.arc_model.specs.Own.{brought}
-use Rattle.arc_model.specs.SpellingTies.{name_of}
+use Rattle.arc_model.specs.References.{name_of}
 use Rattle.arc_model.proofs.Own.{own_gains}
 use Rattle.arc_rule.specs.Places.{extent_of, number, place_at}
 use Rattle.arc_rule.specs.Extents.{Extent}
 use Rattle.arc_rule.specs.Isa.{isa_word_of}
 use Rattle.arc_rule.specs.Bits.{ShowsBits, words_of, bit_of, full_word, is_set}
 use Rattle.arc_rule.proofs.Bits.{clear_at, set_in_full, thing_of_bit}
-use Rattle.arc_model.specs.SpellingTies.Causes.{Judged}
+use Rattle.arc_spelling.specs.SpellingTies.Causes.{Judged}
 use Rattle.arc_rule.proofs.Places.{place_at-number}
 use Rattle.arc_rule.specs.declared.layout.Place.TheVariants.{Count, Isa, SlotBits}
 use Rattle.arc_rule.specs.declared.step.Step.{Step}
@@ -125,9 +125,6 @@ class_fits w t to class stepper same program there =
     subst (λ (s : HeapShape). class < length s.classes) same fits.0
 
 module _ (w : Work) (t : Thread) (v : View) (to : ℕ) (name : ObjectName) where
-  abbrev l : Extent
-  l = extent_of w.shape
-
   abbrev at : ℕ → ℕ
   at k = number (extent_of w.shape) (SlotBits k)
 
@@ -185,7 +182,7 @@ module _ (w : Work) (t : Thread) (v : View) (to : ℕ) (name : ObjectName) where
           act_is false (second_fails (suc k == words_of w.shape.slots) (found == full) (searched at w.shape.slots (made_in v.number v.seen) k v.trail) (ne_eqb found full (not_full w.shape.slots k s found clear.0 clear.1))) in
           let c = told_by w.shape new (looking (extent_of w.shape) k) v found v' None act told in
           stays w t v (looking (extent_of w.shape) k) new found v' d (asks (search.Taking s found) (taking (extent_of w.shape) s)) told f (λ x. cc) refl act refl tt refl refl (λ g. refl) (classed_still w.shape 1 w.classes v v' t.vars c f.classed) tt (refl, refl)
-          (works ∙ f.under_way.0, owes_still w.shape 1 v v' c f.under_way.1, tt) f.is_for.2
+          (works ∙ f.under_way.0, owes_still w.shape 1 v v' c f.under_way.1, tt)
 
       -- the words with this one
       more_tries : (v'.seen ≡ h) → found ≡ full → searched at w.shape.slots (made_in v'.number v'.seen) (k + 1) v'.trail ≡ true
@@ -206,7 +203,7 @@ module _ (w : Work) (t : Thread) (v : View) (to : ℕ) (name : ObjectName) where
           let c = told_by w.shape new (looking (extent_of w.shape) k) v found v' None act told in
           let seen : v'.seen ≡ h = ap (λ (x : View). x.seen) told.after ∙ ap (λ a. event_list v.number a ++ h) act in
           stays w t v (looking (extent_of w.shape) k) new found v' d (asks (search.Looking (k + 1)) (looking (extent_of w.shape) (k + 1))) told f (λ x. cc) refl act refl tt refl refl (λ g. refl) (classed_still w.shape 1 w.classes v v' t.vars c f.classed) tt (refl, refl)
-          (works ∙ f.under_way.0, owes_still w.shape 1 v v' c f.under_way.1, more_tries seen is_full) f.is_for.2
+          (works ∙ f.under_way.0, owes_still w.shape 1 v v' c f.under_way.1, more_tries seen is_full)
 
       abbrev finds_full : Thread
       finds_full = next_op (put answers.Full (record (quiet t) { event = Some acts.Full }))
@@ -219,7 +216,7 @@ module _ (w : Work) (t : Thread) (v : View) (to : ℕ) (name : ObjectName) where
           let m : Walks w (LeadsTo v') (put answers.Full (record (quiet t) { event = Some acts.Full })) finds_full (in_vars t.vars) = next_walks w (LeadsTo v') (put answers.Full (record (quiet t) { event = Some acts.Full })) f.is_for f.fit (classed_on w.shape 1 acts.Full w.classes v v' t.vars c (λ x held e. refl) f.classed) in record {
             takes_it = λ e. cc;
             event = act ∙ sym m.event;
-            holds = subst (λ e. AllHold Judged w.shape (extent_of w.shape) (Some (looking (extent_of w.shape) k, new)) (Some found) w.thread e None h) (sym m.event) (nothing_shown w.shape f.bare (extent_of w.shape) (looking (extent_of w.shape) k) new found w.thread (Some acts.Full) h tt tt);
+            holds = subst (λ e. AllHold Judged w.shape (extent_of w.shape) (Some (looking (extent_of w.shape) k, new)) (Some found) w.thread e None h) (sym m.event) (nothing_shown w.shape f.sized (extent_of w.shape) (looking (extent_of w.shape) k) new found w.thread (Some acts.Full) h tt tt);
             knows = knows_none v';
             count = m.count ∙ f.count;
             classed = m.classed;
@@ -227,7 +224,6 @@ module _ (w : Work) (t : Thread) (v : View) (to : ℕ) (name : ObjectName) where
             owns = subst (λ n. Owns v' n (references finds_full.vars finds_full.hands finds_full.doing)) (sym m.hands)
                 (owns_on w.shape 1 acts.Full v v' t.hands (references t.vars t.hands d) (references finds_full.vars finds_full.hands finds_full.doing) c (λ h. refl) refl f.owns (λ g. let e = m.same g in omega arith));
             no_claim = claims_on w.shape 1 acts.Full v v' c (λ m e. refl) f.no_claim;
-            untaken = m.untaken;
             asks = m.asks;
             under_way = fresh_under w.shape v' finds_full.doing m.fresh (works ∙ f.under_way.0) (owes_on w.shape 1 acts.Full v v' c (λ i h. refl) f.under_way.1);
           }
@@ -355,14 +351,13 @@ module _ (w : Work) (t : Thread) (v : View) (to : ℕ) (name : ObjectName) where
         takes_slot = record {
           takes_it = λ e. cc;
           event = hit_act_is hit;
-          holds = nothing_shown w.shape f.bare (extent_of w.shape) (taking (extent_of w.shape) s) new found w.thread took.event h_taken tt tt;
+          holds = nothing_shown w.shape f.sized (extent_of w.shape) (taking (extent_of w.shape) s) new found w.thread took.event h_taken tt tt;
           knows = knows_none v';
           count = f.count;
           classed = classed_on w.shape 1 look w.classes v v' t.vars called (λ x held e. refl) f.classed;
           coming = tt;
           owns = owns_more v v' t.hands (references t.vars t.hands d_taking) (references took.vars took.hands took.doing) (strong_to (t.hands + 1) s) f.owns refl (λ g. omega arith) leads (λ x. leads_on w.shape look 1 v v' x called refl) spots;
           no_claim = claims_on w.shape 1 look v v' called (λ m e. refl) f.no_claim;
-          untaken = f.is_for.2;
           asks = (refl, refl);
           under_way = (
             works_taken true (eq-eqb bits 0 hit) ∙ ap (λ (x : Working). record x { owes = Some (record { slot = s; counted = false }) }) f.under_way.0,
@@ -382,7 +377,7 @@ module _ (w : Work) (t : Thread) (v : View) (to : ℕ) (name : ObjectName) where
           let c = told_by w.shape new (taking (extent_of w.shape) s) v found v' None act told in
           let m = make_walks w (LeadsTo v') to name (quiet t) (quiet t) (in_vars t.vars) f.is_for refl refl refl (λ g. refl) (classed_still w.shape 1 w.classes v v' t.vars c f.classed) in
           stays w t v (taking (extent_of w.shape) s) new found v' d_taking anew told f (λ x. cc) refl act m.event tt m.hands m.count (λ g. let e = m.same g in omega arith) m.classed (fresh_coming w.classes v' anew.doing m.fresh) m.asks
-          (fresh_under w.shape v' anew.doing m.fresh (works_taken false (ne_eqb bits 0 ne) ∙ f.under_way.0) (owes_still w.shape 1 v v' c f.under_way.1)) m.untaken
+          (fresh_under w.shape v' anew.doing m.fresh (works_taken false (ne_eqb bits 0 ne) ∙ f.under_way.0) (owes_still w.shape 1 v v' c f.under_way.1))
 
       pub take_comes : Comes w t v (taking (extent_of w.shape) s) new found v' h_taken d_taking (turned_at (Some found) d_taking (quiet t))
       take_comes = dite (ℕ_discrete bits 0) (λ e. subst Then (sym (eq-eqb bits 0 e)) (takes_slot e)) (λ ne. subst Then (sym (ne_eqb bits 0 ne)) (begins_anew ne))
@@ -455,7 +450,7 @@ module _ (w : Work) (t : Thread) (v : View) (to : ℕ) (name : ObjectName) where
                 ∙ ap (λ (x : Working). record x { owes = Some (record { slot = s; counted = true }) }) f.under_way.0),
             owes_still w.shape 1 v v' c f.under_way.1,
             still_made,
-          ) f.is_for.2
+          )
 
   -- ---- while it stores the name
   module _ (s : ℕ) (f : Facts w t v (making w to name (search.Naming s))) where
@@ -492,7 +487,7 @@ module _ (w : Work) (t : Thread) (v : View) (to : ℕ) (name : ObjectName) where
           let works : v'.working ≡ record v.working { owes = None } =
           ap (λ (x : View). x.working) told.after ∙ ap (λ (q : Place). working_stored (number (extent_of w.shape)) v.working q (isa_word_of name) new) (place_at-number (extent_of w.shape) (Isa s) in_slot) in
           stays w t v (naming (extent_of w.shape) name s) new found v' (making w to name (search.Naming s)) done told f (λ e. cc) refl name_act m.event tt m.hands m.count m.same m.classed (fresh_coming w.classes v' done.doing m.fresh) m.asks
-          (fresh_under w.shape v' done.doing m.fresh (works ∙ ap (λ (x : Working). record x { owes = None }) f.under_way.0) (owes_still w.shape 1 v v' c f.under_way.1)) m.untaken
+          (fresh_under w.shape v' done.doing m.fresh (works ∙ ap (λ (x : Working). record x { owes = None }) f.under_way.0) (owes_still w.shape 1 v v' c f.under_way.1))
 
 -- ---- by where the making is
 

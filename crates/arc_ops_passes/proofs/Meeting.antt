@@ -1,9 +1,9 @@
 -- A stepper between phases, whose pass takes in what others had seen; and notes of passes that were taken in.
 use Rattle.std.proofs.Common.{◌≡◌, ℕ, [], refl, sym, ap, ◌∙◌, subst}
 use Rattle.arc_model.specs.History.{History, share}
-use Rattle.arc_model.specs.SpellingTies.{Ties}
-use Rattle.arc_model.specs.SpellingTies.Causes.{Judged}
-use Rattle.arc_model.proofs.SpellTies.{ties_others}
+use Rattle.arc_spelling.specs.SpellingTies.{Ties}
+use Rattle.arc_spelling.specs.SpellingTies.Causes.{Judged}
+use Rattle.arc_spelling.proofs.SpellTies.{ties_others}
 use Rattle.arc_programs.specs.ProgramsTied.{hands_in}
 use Rattle.arc_spelled.specs.Came.{Extends}
 use Rattle.arc_spelled.proofs.MoreKnown.{more_is_known}
@@ -19,7 +19,7 @@ pub steppers_meet : SteppersMeet
 steppers_meet w t v v' n d ready c works =
     let f = called_follows w.shape [] n v v' c in
     let others : share f.rest w.thread ≡ [] = ap (share f.rest) (sym d.number) ∙ f.mine in
-    let free : IsFree v = subst (UnderWay w.shape v) ready d.under_way in
+    let free : IsFree v = subst (UnderWay w.shape v d.chain) ready d.under_way in
     let extends : Extends (hands_in v.number v.seen) (hands_in v'.number v'.seen) = subst (λ (x : ℕ × History). Extends (hands_in v.number v.seen) (hands_in x.0 x.1)) (λ j. (sym f.number j, sym f.is j))
     (λ k r is. others_bring_none v.number f.rest v.seen k f.mine ∙ is) in record {
       pass = c.grew.role ∙ d.pass;
@@ -27,16 +27,16 @@ steppers_meet w t v v' n d ready c works =
       legal = c.legal;
       in_shape = c.in_shape;
       notes = d.notes;
-      stands = more_is_known (known v w) (hands_in v'.number v'.seen) t [] d.notes d.stands extends;
+      chain = d.chain;
+      stands = more_is_known (known v w) (hands_in v'.number v'.seen) t d.chain d.notes d.stands extends;
       tied = subst (Ties Judged w.shape w.thread d.notes) (sym f.is) (ties_others Judged w.shape w.thread d.notes v.seen f.rest others d.tied);
-      untaken = d.untaken;
       count = d.count;
       owns = owns_still w.shape n v v' t.hands (references t.vars t.hands t.doing) (references t.vars t.hands t.doing) c d.owns (λ g. refl);
       classed = classed_still w.shape n w.classes v v' t.vars c d.classed;
       coming = subst (ComesOfClass w.classes v') (sym ready) tt;
       no_claim = claims_still w.shape n v v' c d.no_claim;
       asks = d.asks;
-      under_way = subst (UnderWay w.shape v') (sym ready) (record { working = works ∙ free.working; none = owes_still w.shape n v v' c free.none });
+      under_way = subst (UnderWay w.shape v' d.chain) (sym ready) (record { working = works ∙ free.working; none = owes_still w.shape n v v' c free.none });
     }
 
 pub notes_are_taken_in : NotesAreTakenIn

@@ -10,25 +10,26 @@ use Rattle.arc_model.specs.Shapes.{HeapShape}
 use Rattle.arc_model.specs.Heaps.{Object}
 use Rattle.arc_model.specs.Holders.{at_slot, made_by}
 use Rattle.arc_model.specs.History.{History, heap_after, IsLegal}
-use Rattle.arc_model.specs.SpellingTies.{name_of}
-use Rattle.arc_model.specs.SpellingTies.Causes.{Judged}
+use Rattle.arc_model.specs.References.{name_of}
+use Rattle.arc_spelling.specs.SpellingTies.Causes.{Judged}
 use Rattle.arc_model.proofs.Basics.{None≢Some, Some-inj}
 use Rattle.arc_rule.specs.Extents.{Extent}
 use Rattle.arc_rule.specs.Isa.{IsName, IsIsaWord, isa_word_of, isa_name_of}
 use Rattle.arc_rule.specs.Places.{number}
 use Rattle.arc_rule.specs.Shown.{ShowsName}
-use Rattle.arc_rule.specs.declared.layout.Place.TheVariants.{Count, Isa}
+use Rattle.arc_rule.specs.declared.layout.Place.TheVariants.{Count, Isa, Field}
 use Rattle.arc_rule.specs.declared.layout.Place.TheVariants as places
 use Rattle.arc_rule.specs.declared.step.Step.{Step}
 use Rattle.arc_rule.specs.declared.step.Step.TheVariants.{Load, Exchange}
 use Rattle.arc_rule.specs.declared.step.Intent.{Intent}
+use Rattle.arc_rule.specs.declared.step.Intent.TheVariants as intents
 use Rattle.arc_side.specs.Inline.{counted_at}
-use Rattle.arc_cells.specs.Cascades.{HasNoFields, NamesClass}
+use Rattle.arc_cells.specs.Cascades.{NamesClass}
 use Rattle.arc_view.specs.Holding.{At}
 use Rattle.arc_view.specs.Rule.{InShape, IsSized, news}
 use Rattle.arc_view.proofs.Classes.{made_named, news_named}
 use Rattle.arc_view.proofs.Strongs.{slot_found}
-use Rattle.arc_ops_passes.proofs.Fields.{AllHold, no_field}
+use Rattle.arc_ops_passes.proofs.Fields.{AllHold, few_fields}
 
 -- ---- the name of an object has its place in an isa word
 
@@ -100,7 +101,7 @@ name_read shape h i s found o sized legal within here slot shows = record {
 
 -- ---- what is noted of the words
 
-step_is : (a b : Step) (i j : Intent) → Path (Option (Step × Intent)) (Some (a, i)) (Some (b, j)) → a ≡ b
+pub step_is : (a b : Step) (i j : Intent) → Path (Option (Step × Intent)) (Some (a, i)) (Some (b, j)) → a ≡ b
 step_is a b i j e = ap (λ (x : Step × Intent). x.0) (Some-inj e)
 
 isa_slot : (l : Extent) (s slot : ℕ) → Load (number l (Isa s)) ≡ Load (number l (Isa slot)) → s ≡ slot
@@ -122,32 +123,44 @@ no_count_of_entry l s e seen new w n below x = omega (arith, below, place x)
     place : Exchange (number l (Count s)) seen new ≡ Exchange (number l (places.Unowned e)) w n → number l (Count s) ≡ number l (places.Unowned e)
     place x = cc
 
-no_exchange : (place other seen new : ℕ) → Load place ≡ Exchange other seen new → ⊥
+pub no_exchange : (place other seen new : ℕ) → Load place ≡ Exchange other seen new → ⊥
 no_exchange place other seen new e = cc
 
+pub isa_no_field : (l : Extent) (s slot field : ℕ) {n : ℕ} → n ≤ 8 → field < n → Load (number l (Isa s)) ≡ Load (number l (Field slot field)) → ⊥
+isa_no_field l s slot field few lt e = omega (arith, few, lt, place e)
+  where
+    place : Load (number l (Isa s)) ≡ Load (number l (Field slot field)) → number l (Isa s) ≡ number l (Field slot field)
+    place e = cc
+
 -- a load of a name, with no event
-pub name_shown : (shape : HeapShape) → HasNoFields shape → (l : Extent) (s found p : ℕ) (intent : Intent) (h : History) → option_map name_of (at_slot s (heap_after h)) ≡ Some (isa_name_of found) → AllHold Judged shape l (Some (Load (number l (Isa s)), intent)) (Some found) p None None h
-name_shown shape bare l s found p intent h named now = record {
+pub name_shown : (shape : HeapShape) → IsSized shape → (l : Extent) (s found p : ℕ) (intent : Intent) (h : History) → option_map name_of (at_slot s (heap_after h)) ≡ Some (isa_name_of found) → AllHold Judged shape l (Some (Load (number l (Isa s)), intent)) (Some found) p None None h
+name_shown shape sized l s found p intent h named now = record {
   names = λ slot w i asked why last.
       let same = isa_slot l s slot (step_is (Load (number l (Isa s))) (Load (number l (Isa slot))) intent i asked) in
       subst (λ (x : ℕ × ℕ). option_map name_of (at_slot x.0 (heap_after h)) ≡ Some (isa_name_of x.1)) (λ j. (same j, Some-inj last j)) named;
   refers = λ x e. absurd (None≢Some x e);
-  nil_fields = λ slot field of a is name lt. no_field shape of.class field bare lt;
-  fields = λ slot field w of a is some name lt. no_field shape of.class field bare lt;
+  nil_fields = λ slot field of a is name lt. absurd (no_isa slot field (few_fields shape of.class sized) lt a);
+  fields = λ slot field w of a is some name lt. absurd (no_isa slot field (few_fields shape of.class sized) lt a);
   entries = λ slot w n act i entry event. absurd (None≢Some act event);
 }
+  where
+    no_isa : (slot field : ℕ) {n : ℕ} → n ≤ 8 → field < n → Path (Option (Step × Intent)) (Some (Load (number l (Isa s)), intent)) (Some (Load (number l (Field slot field)), intents.Deinit slot)) → ⊥
+    no_isa slot field few lt a = isa_no_field l s slot field few lt (step_is (Load (number l (Isa s))) (Load (number l (Field slot field))) intent (intents.Deinit slot) a)
 
 -- an exchange of counts whose event takes the last of a list of an object that has no entry
-pub no_entry_shown : (shape : HeapShape) → HasNoFields shape → (l : Extent) (s seen new found p : ℕ) (intent : Intent) (act : Act) (h : History) → s < l.slots → option_map (λ (o : Object). o.entry) (at_slot s (heap_after (record { thread = p; act = act } ∷ h))) ≡ Some None
+pub no_entry_shown : (shape : HeapShape) (l : Extent) (s seen new found p : ℕ) (intent : Intent) (act : Act) (h : History) → s < l.slots → option_map (λ (o : Object). o.entry) (at_slot s (heap_after (record { thread = p; act = act } ∷ h))) ≡ Some None
     → AllHold Judged shape l (Some (Exchange (number l (Count s)) seen new, intent)) (Some found) p (Some act) None h
-no_entry_shown shape bare l s seen new found p intent act h below none now = record {
+no_entry_shown shape l s seen new found p intent act h below none now = record {
   names = λ slot w i asked. absurd (no_exchange (number l (Isa slot)) (number l (Count s)) seen new (sym (step_is (Exchange (number l (Count s)) seen new) (Load (number l (Isa slot))) intent i asked)));
   refers = λ x e. absurd (None≢Some x e);
-  nil_fields = λ slot field of a is name lt. no_field shape of.class field bare lt;
-  fields = λ slot field w of a is some name lt. no_field shape of.class field bare lt;
+  nil_fields = λ slot field of a. absurd (no_load slot field a);
+  fields = λ slot field w of a. absurd (no_load slot field a);
   entries = λ slot w n a i entry event asked takes last counts. counted_here slot w n i entry asked;
 }
   where
+    no_load : (slot field : ℕ) → Path (Option (Step × Intent)) (Some (Exchange (number l (Count s)) seen new, intent)) (Some (Load (number l (Field slot field)), intents.Deinit slot)) → ⊥
+    no_load slot field a = no_exchange (number l (Field slot field)) (number l (Count s)) seen new (sym (step_is (Exchange (number l (Count s)) seen new) (Load (number l (Field slot field))) intent (intents.Deinit slot) a))
+
     counted_here : (slot w n : ℕ) (i : Intent) (entry : Option ℕ) → Path (Option (Step × Intent)) (Some (Exchange (number l (Count s)) seen new, intent)) (Some (Exchange (number l (counted_at Unowned slot entry)) w n, i))
         → option_map (λ (o : Object). o.entry) (at_slot slot (heap_after (record { thread = p; act = act } ∷ h))) ≡ Some entry
     counted_here slot w n i None asked =

@@ -94,10 +94,10 @@ other-hand k x ne = go (x.hand == k) refl
 -- ---- a reference stays where the pass doesn't give it up
 
 -- it leads to an object of this class in its slot
-abbrev Stands : ℕ → Held → (class : ℕ) → Heap → Type 0
+abbrev pub Stands : ℕ → Held → (class : ℕ) → Heap → Type 0
 Stands p held class heap = (i : ℕ) × (o : Object) × (spot (Hand p held.hand) heap ≡ Some (record { place = i; kind = held.kind })) × At heap i o × (o.slot ≡ Some held.place) × (o.class ≡ class)
 
-others_stand : (shape : HeapShape) (p : ℕ) (held : Held) (class : ℕ) (before after : History) → held.kind ≢ Weak → IsLegal shape (after ++ before) → share after p ≡ [] → Stands p held class (heap_after before) → Stands p held class (heap_after (after ++ before))
+pub others_stand : (shape : HeapShape) (p : ℕ) (held : Held) (class : ℕ) (before after : History) → held.kind ≢ Weak → IsLegal shape (after ++ before) → share after p ≡ [] → Stands p held class (heap_after before) → Stands p held class (heap_after (after ++ before))
 others_stand shape p held class before after ne legal none (i, o, hand, here, slot, is) =
     let q = held_stays shape p held.hand i held.kind o before after legal none hand here in
     (i, q.q, (others_leave shape p before after legal none).hands held.hand ∙ hand, q.here, q.slot ne ∙ slot, q.class ∙ is)

@@ -1,29 +1,29 @@
--- A stepper that exchanges what a global has: a variable's reference, or nil, goes into it, and what was there comes into the next hand.
+-- A stepper that exchanges what a cell has: a variable's reference, or nil, goes into it, and what was there comes into the next hand.
 use Rattle.std.proofs.Common.{◌≡◌, ◌≢◌, ◌⊎◌, ⊎_elim, ℕ, ◌+◌, ◌-◌, ◌<◌, ◌≤◌, ◌==◌, Bool, true, false, cond, List, [], ◌∷◌, ◌++◌, length, set, Option, Some, None, refl, sym, ap, ◌∙◌, subst, arith, eq-eqb, ne_eqb}
 use Rattle.std.specs.Prelude.{slice_get, All}
 use Rattle.std.proofs.lemmas.List.{length-set}
-use Rattle.std.proofs.lemmas.Option.{slice_get-get_or}
 use mathlib.Core.Logic.{dite}
 use native.Mathlib.Decide.{ℕ_discrete}
 use Rattle.arc_model.specs.declared.answer.Answer.TheVariants as answers
 use Rattle.arc_model.specs.declared.event.Act.{Act}
 use Rattle.arc_model.specs.declared.event.Act.TheVariants as acts
+use Rattle.arc_model.specs.declared.event.CellName.{CellName}
 use Rattle.arc_model.specs.declared.event.CellName.TheVariants as cells
 use Rattle.arc_model.specs.declared.event.Event.{Event}
 use Rattle.arc_model.specs.declared.event.Origin.TheVariants as origins
 use Rattle.arc_model.specs.declared.shape.Kind.{Kind}
 use Rattle.arc_model.specs.declared.shape.Kind.TheVariants.{Strong, Unowned, Weak}
+use Rattle.arc_model.specs.declared.shape.RefShape.{RefShape}
 use Rattle.arc_model.specs.Shapes.{HeapShape}
-use Rattle.arc_model.specs.Heaps.{Hand}
-use Rattle.arc_model.specs.Heaps as holders
+use Rattle.arc_model.specs.Heaps.{Holder, Hand}
+use Rattle.arc_model.specs.Cells.{cell, cell_shape}
 use Rattle.arc_model.specs.Holders.{is_number}
 use Rattle.arc_model.specs.History.{History, heap_after, IsLegal}
 use Rattle.arc_model.specs.Lookup.{spot}
 use Rattle.arc_model.specs.Own.{ends_hand}
-use Rattle.arc_model.specs.SpellingTies.Causes.{Judged}
+use Rattle.arc_spelling.specs.SpellingTies.Causes.{Judged}
 use Rattle.arc_model.proofs.Basics.{None≢Some, Some-inj}
-use Rattle.arc_rule.specs.Extents.{Extent}
-use Rattle.arc_rule.specs.Places.{extent_of, number, place_at}
+use Rattle.arc_rule.specs.Places.{IsPlace, extent_of, number, place_at}
 use Rattle.arc_rule.proofs.Places.{place_at-number}
 use Rattle.arc_rule.specs.declared.layout.Place.{Place}
 use Rattle.arc_rule.specs.declared.layout.Place.TheVariants.{Global}
@@ -44,16 +44,14 @@ use Rattle.arc_cells.specs.declared.swap.SwapAnswer.TheVariants as swaps
 use Rattle.arc_cells.specs.Swaps.{SwapAttempt, swap_row}
 use Rattle.arc_programs.specs.ProgramsTied.{hands_in}
 use Rattle.arc_script.specs.declared.script.Op.{Op}
-use Rattle.arc_script.specs.declared.script.Op.TheVariants as op
-use Rattle.arc_script.specs.declared.script.OpCell.TheVariants as opcell
 use Rattle.arc_script.specs.Valid.{ref_at}
 use Rattle.arc_ops.specs.declared.cell.Cell.{Cell}
 use Rattle.arc_ops.specs.declared.stepper.Held.{Held}
 use Rattle.arc_ops.specs.declared.stepper.Doing.{Doing}
 use Rattle.arc_ops.specs.declared.stepper.Doing.TheVariants as doings
 use Rattle.arc_ops.specs.declared.stepper.Move.TheVariants as moves
-use Rattle.arc_ops.specs.Cells.{IsCellWord, global_of, word_of, held_in, hand_in, swapped, set_begun, clear_begun}
-use Rattle.arc_served.specs.Programs.{KindsFit, ClassesFit, class_of}
+use Rattle.arc_ops.specs.Cells.{IsCellWord, global_of, cell_number, place_in, word_of, held_in, hand_in, swapped, set_begun, clear_begun}
+use Rattle.arc_served.specs.Programs.{class_of, ref_of}
 use Rattle.arc_ops.specs.Thread.{Thread, value, set_var, put}
 use Rattle.arc_ops.specs.Drops.{replaced_old}
 use Rattle.arc_ops.specs.Sets.{set_on, cleared_on}
@@ -61,8 +59,7 @@ use Rattle.arc_ops.specs.Takes.{takes_at}
 use Rattle.arc_ops.specs.Turns.{turned_at}
 use Rattle.arc_spelled.specs.Came.{CameOut, was_there, swapped_out, came_out_at}
 use Rattle.arc_spelled.specs.StepperStands.{Work}
-use Rattle.arc_spelled.proofs.KindsKept.{holds-at}
-use Rattle.arc_spelled.proofs.StepperKeeps.{served-too}
+use Rattle.arc_spelled.specs.Spelled.{WordsHold}
 use Rattle.arc_view.specs.declared.view.Working.{Working}
 use Rattle.arc_view.specs.declared.view.View.{View}
 use Rattle.arc_view.specs.Views.{idle}
@@ -71,29 +68,39 @@ use Rattle.arc_view.specs.Kinds.{act_of, event_list, loaded_act, hit_act, workin
 use Rattle.arc_view.specs.Admission.{Admits, IsPut}
 use Rattle.arc_view.specs.Steps.{Told}
 use Rattle.arc_view.specs.Calls.{Called}
+use Rattle.arc_view.proofs.AtCell.{cell_own}
 use Rattle.arc_view.proofs.Held.{listed_busy, stays_after}
 use Rattle.arc_view_laws.specs.Hands.{hand_after}
 use Rattle.arc_view_laws.proofs.Hands.{told_hands}
 use Rattle.arc_view_laws.proofs.Moving.{legal_tail}
 use Rattle.arc_ops_passes.specs.References.{weigh, in_vars, references, one_if, has_hand, LeadsTo, Owns}
 use Rattle.arc_ops_passes.specs.Drives.{MaySwap, OwesNothing, IsFree, AreOfClasses}
-use Rattle.arc_ops_passes.proofs.Fields.{AllHold, IsPuttingGlobal, putting_global}
+use Rattle.arc_ops_passes.proofs.Fields.{AllHold, notes_at}
 use Rattle.arc_ops_passes.proofs.Walks.{Fits, IsFor, set_walks, clear_walks, old_walks, set-value, vars-set, vars-least}
 use Rattle.arc_ops_passes.proofs.Hands.{known_new}
 use Rattle.arc_ops_passes.proofs.Owned.{not_weak, leads_on, to_on, to_leads, owns_exchanged}
-use Rattle.arc_ops_passes.proofs.Cells.{GlobalIsNil, GlobalLeads, global_read, read_word, listed}
-use Rattle.arc_ops_passes.proofs.Goes.{quiet, known, Facts, Comes, KnowsOf, knows_none, attempt_asked, told_by, fresh_under, fresh_coming, owes_still, owes_on, claims_on, classed_still, ReadsNoName, cell_shown, stays}
+use Rattle.arc_ops_passes.proofs.Cells.{listed}
+use Rattle.arc_ops_passes.proofs.CellReads.{CellIsNil, CellLeads}
+use Rattle.arc_ops_passes.proofs.Reached.{IsReached, NamesCell, puts, reached, global_reached, vars_stand, vars_met, same_place, may_load, reads_cell, reads_word}
+use Rattle.arc_ops_passes.proofs.Goes.{quiet, Facts, Comes, KnowsOf, knows_none, attempt_asked, told_by, fresh_under, fresh_coming, owes_still, owes_on, claims_on, classed_still, ReadsNoName, cell_shown, stays}
 
--- what is put in is the word of a reference of the global's kind and class
-pub put_word : (shape : HeapShape) (v : View) (g : ℕ) (held : Held) → g < length shape.globals → held.kind ≡ (ref_at shape.globals g).kind → LeadsTo v held (ref_at shape.globals g).class → IsPut shape v (cells.Global g) (Some held.hand) (held.place + 2)
-put_word shape v g held inside kind (counted, i, o, hand, here, slot, class) = go held.kind refl counted hand
+-- ---- what a step on a cell's word is
+
+read_act : (shape : HeapShape) (v : View) (found : ℕ) (c : CellName) (put_in : Option ℕ) → loaded_act shape v (place_in c) found (intents.Swap c put_in) ≡ None
+read_act shape v found (cells.Field s f) put_in = refl
+read_act shape v found (cells.Global g) put_in = refl
+
+read_works : (x : Working) (found : ℕ) (c : CellName) (put_in : Option ℕ) → working_loaded x (place_in c) found (intents.Swap c put_in) ≡ x
+read_works x found (cells.Field s f) put_in = refl
+read_works x found (cells.Global g) put_in = refl
+
+-- what is put in is the word of a reference of the cell's kind and class
+put_word : (shape : HeapShape) (v : View) (c : CellName) (r : RefShape) (held : Held) → cell_shape shape (heap_of v) c ≡ Some r → held.kind ≡ r.kind → LeadsTo v held r.class → IsPut shape v c (Some held.hand) (held.place + 2)
+put_word shape v c r held named kind (counted, i, o, hand, here, slot, class) = go held.kind refl counted hand
   where
-    named : slice_get shape.globals g ≡ Some (ref_at shape.globals g)
-    named = slice_get-get_or shape.globals g (record { kind = Strong; class = 0 }) inside
-
-    go : (k : Kind) → held.kind ≡ k → IsCountedInline k → spot (Hand v.number held.hand) (heap_of v) ≡ Some (record { place = i; kind = k }) → IsPut shape v (cells.Global g) (Some held.hand) (held.place + 2)
-    go Strong is counted hand = (Strong, i, o, ref_at shape.globals g, hand, here, named, sym kind ∙ is, sym class, (held.place, slot, refl))
-    go Unowned is counted hand = (Unowned, i, o, ref_at shape.globals g, hand, here, named, sym kind ∙ is, sym class, (held.place, slot, refl))
+    go : (k : Kind) → held.kind ≡ k → IsCountedInline k → spot (Hand v.number held.hand) (heap_of v) ≡ Some (record { place = i; kind = k }) → IsPut shape v c (Some held.hand) (held.place + 2)
+    go Strong is counted hand = (Strong, i, o, r, hand, here, named, sym kind ∙ is, sym class, (held.place, slot, refl))
+    go Unowned is counted hand = (Unowned, i, o, r, hand, here, named, sym kind ∙ is, sym class, (held.place, slot, refl))
     go Weak is counted hand = absurd counted
 
 -- how many references have come then
@@ -102,35 +109,29 @@ after hands None = hands
 after hands (Some held) = hands + 1
 
 -- The exchange itself. The stepper, which has nothing else in flight, has these references behind it beside the one that comes.
-module _ (w : Work) (t : Thread) (v : View) (g : ℕ) (put_in : Option Held) (rest : List (Option Held)) (d : Doing) (f : Facts w t v d) (is_free : IsFree v) (all : (x : Held → ℕ) → references t.vars t.hands d x ≡ in_vars rest x + weigh x put_in)
-    (sub : (x : ℕ) (held : Held) → value rest x ≡ Some held → value t.vars x ≡ Some held) (count_is : length rest ≡ length t.vars) (inside : g < length w.shape.globals) (seen new found : ℕ) (v' : View)
-    (told : Told w.shape (intents.Swap (cells.Global g) (hand_in put_in)) (Exchange (number (extent_of w.shape) (Global g)) seen new) v found v') (same : found ≡ seen) (unmarked : seen ≢ 1) where
-  abbrev at : ℕ
-  at = number (extent_of w.shape) (Global g)
-
+module _ (w : Work) (t : Thread) (v : View) (c : Cell) (r : RefShape) (put_in : Option Held) (rest : List (Option Held)) (d : Doing) (f : Facts w t v d) (is_free : IsFree v) (all : (x : Held → ℕ) → references t.vars t.hands d x ≡ in_vars rest x + weigh x put_in)
+    (sub : (x : ℕ) (held : Held) → value rest x ≡ Some held → value t.vars x ≡ Some held) (count_is : length rest ≡ length t.vars) (seen new found : ℕ) (v' : View)
+    (told : Told w.shape (intents.Swap c.name (hand_in put_in)) (Exchange (cell_number (extent_of w.shape) c.name) seen new) v found v') (reach : IsLegal w.shape (told.between ++ v.seen) → IsReached w.shape v.number (told.between ++ v.seen) c r) (same : found ≡ seen) (unmarked : seen ≢ 1) where
   abbrev why : Intent
-  why = intents.Swap (cells.Global g) (hand_in put_in)
+  why = intents.Swap c.name (hand_in put_in)
 
   abbrev step : Step
-  step = Exchange (number (extent_of w.shape) (Global g)) seen new
+  step = Exchange (cell_number (extent_of w.shape) c.name) seen new
 
   abbrev h : History
   h = told.between ++ v.seen
 
-  abbrev its : Kind
-  its = (ref_at w.shape.globals g).kind
-
   -- what comes
   abbrev came : Option Held
-  came = held_in (ref_at w.shape.globals g).kind (t.hands + 1) seen
+  came = held_in c.kind (t.hands + 1) seen
 
   abbrev did : Option Held → Act
-  did there = acts.Swap (cells.Global g) (hand_in put_in) (hand_in there)
+  did there = acts.Swap c.name (hand_in put_in) (hand_in there)
 
-  act_if : (b : Bool) → (seen == 0) ≡ b → act_of w.shape v step why found ≡ Some (acts.Swap (cells.Global g) (hand_in put_in) (cond b None (Some (t.hands + 1))))
+  act_if : (b : Bool) → (seen == 0) ≡ b → act_of w.shape v step why found ≡ Some (acts.Swap c.name (hand_in put_in) (cond b None (Some (t.hands + 1))))
   act_if b is =
-      (λ j. cond (eq-eqb found seen same j) (hit_act v (place_at (extent_of w.shape) (number (extent_of w.shape) (Global g))) seen new why) None)
-      ∙ (λ j. Some (acts.Swap (cells.Global g) (hand_in put_in) (cond (is j) None (Some (f.next j)))))
+      (λ j. cond (eq-eqb found seen same j) (hit_act v (place_at (extent_of w.shape) (cell_number (extent_of w.shape) c.name)) seen new why) None)
+      ∙ (λ j. Some (acts.Swap c.name (hand_in put_in) (cond (is j) None (Some (f.next j)))))
 
   works : v'.working ≡ v.working
   works = ap (λ (x : View). x.working) told.after ∙ go (found == seen)
@@ -145,8 +146,15 @@ module _ (w : Work) (t : Thread) (v : View) (g : ℕ) (put_in : Option Held) (re
   legal_met : IsLegal w.shape h
   legal_met = legal_tail w.shape (event_list v.number (act_of w.shape v step why found)) h (subst (IsLegal w.shape) (ap (λ (x : View). x.seen) told.after) told.legal)
 
-  read : GlobalIsNil h g found ⊎ GlobalLeads w.shape h g found
-  read = global_read w.shape h g found legal_met told.met_in_shape f.served.globals ((told.read (Global g) tt inside refl).says (λ one. unmarked (sym same ∙ one)))
+  there_still : IsReached w.shape v.number h c r
+  there_still = reach legal_met
+
+  -- the cell as a holder
+  abbrev z : Holder
+  z = cell (heap_after h) c.name
+
+  read : CellIsNil h c.name found ⊎ CellLeads w.shape h c.name r found
+  read = reads_cell w.shape why step v found v' told c r legal_met there_still tt refl (λ one. unmarked (sym same ∙ one))
 
   -- a variable that is left has another hand
   apart : (x : ℕ) (held : Held) → value rest x ≡ Some held → (p : Held) → put_in ≡ Some p → held.hand ≢ p.hand
@@ -172,19 +180,19 @@ module _ (w : Work) (t : Thread) (v : View) (g : ℕ) (put_in : Option Held) (re
     legal : IsLegal w.shape (event ∷ h)
     legal = subst (IsLegal w.shape) seen_is told.legal
 
-    hands_then : (k : ℕ) → spot (Hand v'.number k) (heap_of v') ≡ cond (ends_hand k (did there)) None (cond (is_number (hand_in there) k) (spot (holders.Global g) (heap_after h)) (spot (Hand v.number k) (heap_of v)))
+    hands_then : (k : ℕ) → spot (Hand v'.number k) (heap_of v') ≡ cond (ends_hand k (did there)) None (cond (is_number (hand_in there) k) (spot z (heap_after h)) (spot (Hand v.number k) (heap_of v)))
     hands_then k = (λ j. spot (Hand (number_is j) k) (heap_of v')) ∙ (told_hands w.shape why step v found v' told k ∙ ap (λ b. hand_after v.number b k (heap_after h) (heap_of v)) act)
 
     -- a hand that isn't put in isn't ended
     not_ended : (k : ℕ) → ((p : Held) → put_in ≡ Some p → k ≢ p.hand) → ends_hand k (did there) ≡ false
     not_ended k other = go put_in refl
       where
-        go : (m : Option Held) → put_in ≡ m → ends_hand k (acts.Swap (cells.Global g) (hand_in m) (hand_in there)) ≡ false
+        go : (m : Option Held) → put_in ≡ m → ends_hand k (acts.Swap c.name (hand_in m) (hand_in there)) ≡ false
         go None e = refl
         go (Some p) e = ne_eqb p.hand k (λ is. other p e (sym is))
 
     ended : (p : Held) → put_in ≡ Some p → ends_hand p.hand (did there) ≡ true
-    ended p e = ap (λ (m : Option Held). ends_hand p.hand (acts.Swap (cells.Global g) (hand_in m) (hand_in there))) e ∙ eq-eqb p.hand p.hand refl
+    ended p e = ap (λ (m : Option Held). ends_hand p.hand (acts.Swap c.name (hand_in m) (hand_in there))) e ∙ eq-eqb p.hand p.hand refl
 
     not_brought : (k : ℕ) → ((x : Held) → there ≡ Some x → k ≢ x.hand) → is_number (hand_in there) k ≡ false
     not_brought k other = go there refl
@@ -194,10 +202,10 @@ module _ (w : Work) (t : Thread) (v : View) (g : ℕ) (put_in : Option Held) (re
         go (Some x) e = ne_eqb x.hand k (λ is. other x e (sym is))
 
     gone : (p : Held) → put_in ≡ Some p → spot (Hand v'.number p.hand) (heap_of v') ≡ None
-    gone p e = hands_then p.hand ∙ ap (λ b. cond b None (cond (is_number (hand_in there) p.hand) (spot (holders.Global g) (heap_after h)) (spot (Hand v.number p.hand) (heap_of v)))) (ended p e)
+    gone p e = hands_then p.hand ∙ ap (λ b. cond b None (cond (is_number (hand_in there) p.hand) (spot z (heap_after h)) (spot (Hand v.number p.hand) (heap_of v)))) (ended p e)
 
     spots : (k : ℕ) → ((p : Held) → put_in ≡ Some p → k ≢ p.hand) → ((x : Held) → there ≡ Some x → k ≢ x.hand) → spot (Hand v'.number k) (heap_of v') ≡ spot (Hand v.number k) (heap_of v)
-    spots k other new_one = hands_then k ∙ (λ j. cond (not_ended k other j) None (cond (not_brought k new_one j) (spot (holders.Global g) (heap_after h)) (spot (Hand v.number k) (heap_of v))))
+    spots k other new_one = hands_then k ∙ (λ j. cond (not_ended k other j) None (cond (not_brought k new_one j) (spot z (heap_after h)) (spot (Hand v.number k) (heap_of v))))
 
     -- the new hand is none that was put in
     new_hand : (x : Held) → there ≡ Some x → (p : Held) → put_in ≡ Some p → x.hand ≢ p.hand
@@ -208,30 +216,32 @@ module _ (w : Work) (t : Thread) (v : View) (g : ℕ) (put_in : Option Held) (re
         let n = is_next x e in
         omega (arith, one, n, below)
 
-    -- it leads where the global did
-    leads : (x : Held) → there ≡ Some x → (r : GlobalLeads w.shape h g found) → x.kind ≡ its → x.place ≡ r.slot → LeadsTo v' x (ref_at w.shape.globals g).class
-    leads x e r kind place =
-        let s = stays_after w.shape event h legal r.place r.object r.here in
-        let busy = listed_busy its (holders.Global g) r.object (listed w.shape h (holders.Global g) r.place its r.object legal_met refl r.at r.here) (not_weak its r.counted) in
-        let hand : spot (Hand v'.number x.hand) (heap_of v') ≡ Some (record { place = r.place; kind = its }) =
-        hands_then x.hand ∙ ((λ j. cond (not_ended x.hand (new_hand x e) j) None (cond ((ap (λ m. is_number (hand_in m) x.hand) e ∙ eq-eqb x.hand x.hand refl) j) (spot (holders.Global g) (heap_after h)) (spot (Hand v.number x.hand) (heap_of v)))) ∙ r.at) in
-        (subst IsCountedInline (sym kind) r.counted, r.place, s.q, hand ∙ ap (λ k. Some (record { place = r.place; kind = k })) (sym kind), ap (λ k. slice_get (heap_after k).objects r.place) seen_is ∙ s.here, s.slot busy ∙ (r.in_slot ∙ ap Some (sym place)), s.class ∙ r.class)
+    -- it leads where the cell did
+    leads : (x : Held) → there ≡ Some x → (q : CellLeads w.shape h c.name r found) → x.kind ≡ c.kind → x.place ≡ q.slot → LeadsTo v' x r.class
+    leads x e q kind place =
+        let s = stays_after w.shape event h legal q.place q.object q.here in
+        let own = cell_own (heap_after h) c.name in
+        let busy = listed_busy r.kind z q.object (listed w.shape h z q.place r.kind q.object legal_met own q.at q.here) (not_weak r.kind there_still.counted) in
+        let hand : spot (Hand v'.number x.hand) (heap_of v') ≡ Some (record { place = q.place; kind = r.kind }) =
+        hands_then x.hand ∙ ((λ j. cond (not_ended x.hand (new_hand x e) j) None (cond ((ap (λ m. is_number (hand_in m) x.hand) e ∙ eq-eqb x.hand x.hand refl) j) (spot z (heap_after h)) (spot (Hand v.number x.hand) (heap_of v)))) ∙ q.at) in
+        let its : r.kind ≡ x.kind = sym (kind ∙ there_still.kind) in
+        (subst IsCountedInline its there_still.counted, q.place, s.q, hand ∙ ap (λ k. Some (record { place = q.place; kind = k })) its, ap (λ k. slice_get (heap_after k).objects q.place) seen_is ∙ s.here, s.slot busy ∙ (q.in_slot ∙ ap Some (sym place)), s.class ∙ q.class)
 
     kept : AreOfClasses w.classes v' rest
     kept x held e = to_on w.shape (did there) 1 v v' held (class_of w.classes x) called (not_ended held.hand (apart x held e)) (f.classed x held (sub x held e))
 
-    module _ (comes : (x : Held) → there ≡ Some x → LeadsTo v' x (ref_at w.shape.globals g).class) (out : came_out_at t (Some found) d ≡ was_there (cells.Global g) there) (takes : takes_at w.shape (Some found) d) where
-      knows : KnowsOf v' (was_there (cells.Global g) there)
+    module _ (comes : (x : Held) → there ≡ Some x → LeadsTo v' x r.class) (out : came_out_at t (Some found) d ≡ was_there c.name there) (takes : takes_at w.shape (Some found) d) where
+      knows : KnowsOf v' (was_there c.name there)
       knows = go there refl
         where
-          go : (m : Option Held) → there ≡ m → KnowsOf v' (was_there (cells.Global g) m)
+          go : (m : Option Held) → there ≡ m → KnowsOf v' (was_there c.name m)
           go None e = knows_none v'
           go (Some x) e = λ y is. subst (λ (z : CameOut). hands_in v'.number v'.seen z.hand ≡ Some (record { kind = z.kind; place = z.place })) (Some-inj is)
-              (known_new v v' (did there) h x number_is seen_is (ap hand_in e) (to_leads v' x (ref_at w.shape.globals g).class (comes x e)))
+              (known_new v v' (did there) h x number_is seen_is (ap hand_in e) (to_leads v' x r.class (comes x e)))
 
       owns_then : (n : ℕ) (M : (Held → ℕ) → ℕ) → n ≡ after t.hands there → ((x : Held → ℕ) → M x ≡ in_vars rest x + weigh x there) → Owns v' n M
       owns_then n M is m = subst (λ k. Owns v' k M) (sym is)
-          (owns_exchanged v v' t.hands (after t.hands there) rest (references t.vars t.hands d) M put_in there f.owns all m (grows there) (λ x e. (is_next x e, ap (after t.hands) e, to_leads v' x (ref_at w.shape.globals g).class (comes x e)))
+          (owns_exchanged v v' t.hands (after t.hands there) rest (references t.vars t.hands d) M put_in there f.owns all m (grows there) (λ x e. (is_next x e, ap (after t.hands) e, to_leads v' x r.class (comes x e)))
           (λ x other. leads_on w.shape (did there) 1 v v' x called (not_ended x.hand other)) gone spots)
         where
           grows : (m : Option Held) → t.hands ≤ after t.hands m
@@ -249,15 +259,15 @@ module _ (w : Work) (t : Thread) (v : View) (g : ℕ) (put_in : Option Held) (re
           let walk = old_walks w (LeadsTo v') q q there (λ x. in_vars rest x + weigh x there) its fit refl refl refl (λ x. ap (λ l. in_vars l x + weigh x there) vars) (subst (AreOfClasses w.classes v') (sym vars) kept) in record {
             takes_it = takes;
             event = act ∙ (sym event_is ∙ sym walk.event);
-            holds = subst (λ (x : Option Act × Option CameOut). AllHold Judged w.shape (extent_of w.shape) (Some (step, why)) (Some found) w.thread x.0 x.1 h) (λ j. (sym (walk.event ∙ event_is) j, sym out j))
-                (cell_shown w.shape f.bare (extent_of w.shape) step why found w.thread (Some (did there)) (was_there (cells.Global g) there) h tt tt (λ x e is. absurd (no_copy x (Some-inj is))));
+            holds = notes_at d (WordsHold Judged w.shape (extent_of w.shape) (Some (step, why)) (Some found) w.thread u.event (came_out_at t (Some found) d) h)
+                (subst (λ (x : Option Act × Option CameOut). AllHold Judged w.shape (extent_of w.shape) (Some (step, why)) (Some found) w.thread x.0 x.1 h) (λ j. (sym (walk.event ∙ event_is) j, sym out j))
+                (cell_shown w.shape f.sized (extent_of w.shape) step why found w.thread (Some (did there)) (was_there c.name there) h tt tt (λ x e is. absurd (no_copy x (Some-inj is)))));
             knows = subst (KnowsOf v') (sym out) knows;
             count = walk.count ∙ (ap length vars ∙ (count_is ∙ f.count));
             owns = owns_then u.hands (references u.vars u.hands u.doing) (walk.hands ∙ hands) walk.same;
             classed = walk.classed;
             coming = fresh_coming w.classes v' u.doing walk.fresh;
             no_claim = claims_on w.shape 1 (did there) v v' called (λ n e. refl) f.no_claim;
-            untaken = walk.untaken;
             asks = walk.asks;
             under_way = fresh_under w.shape v' u.doing walk.fresh (works ∙ is_free.working) owes;
           }
@@ -265,15 +275,15 @@ module _ (w : Work) (t : Thread) (v : View) (g : ℕ) (put_in : Option Held) (re
           no_copy : (x : CameOut) → did there ≡ acts.Copy (origins.Cell x.cell) x.hand → ⊥
           no_copy x e = cc
 
-  -- the global was nil, or had a reference
-  pub takes_out : (q : Option Held → Thread) → ((there : Option Held) → came ≡ there → came_out_at t (Some found) d ≡ was_there (cells.Global g) there) → takes_at w.shape (Some found) d
+  -- the cell was nil, or had a reference
+  pub takes_out : (q : Option Held → Thread) → ((there : Option Held) → came ≡ there → came_out_at t (Some found) d ≡ was_there c.name there) → takes_at w.shape (Some found) d
       → ((there : Option Held) → IsFor w.shape (q there) × ((q there).vars ≡ rest) × ((q there).program ≡ t.program)) → ((there : Option Held) → ((q there).hands ≡ after t.hands there) × ((q there).event ≡ Some (did there)))
       → Comes w t v step why found v' h d (replaced_old came (q came))
   takes_out q out takes plain told_is = dite (ℕ_discrete seen 0) nil some
     where
       nil : seen ≡ 0 → Comes w t v step why found v' h d (replaced_old came (q came))
       nil zero_is =
-          let is : came ≡ None = ap (λ b. cond b None (Some (record { hand = t.hands + 1; kind = its; place = seen - 2 }))) (eq-eqb seen 0 zero_is) in
+          let is : came ≡ None = ap (λ b. cond b None (Some (record { hand = t.hands + 1; kind = c.kind; place = seen - 2 }))) (eq-eqb seen 0 zero_is) in
           let none : (x : Held) → None ≡ Some x → x.hand ≡ t.hands + 1 = λ x e. absurd (None≢Some x e) in
           let p = plain None in
           let s = told_is None in
@@ -282,58 +292,60 @@ module _ (w : Work) (t : Thread) (v : View) (g : ℕ) (put_in : Option Held) (re
 
       some : seen ≢ 0 → Comes w t v step why found v' h d (replaced_old came (q came))
       some ne =
-          let x : Held = record { hand = t.hands + 1; kind = its; place = seen - 2 } in
-          let is : came ≡ Some (record { hand = t.hands + 1; kind = its; place = seen - 2 }) = ap (λ b. cond b None (Some (record { hand = t.hands + 1; kind = its; place = seen - 2 }))) (ne_eqb seen 0 ne) in
-          let one : (y : Held) → Some (record { hand = t.hands + 1; kind = its; place = seen - 2 }) ≡ Some y → y.hand ≡ t.hands + 1 = λ y e. ap (λ (z : Held). z.hand) (sym (Some-inj e)) in
-          let act : act_of w.shape v step why found ≡ Some (did (Some (record { hand = t.hands + 1; kind = its; place = seen - 2 }))) = act_if false (ne_eqb seen 0 ne) in
-          let p = plain (Some (record { hand = t.hands + 1; kind = its; place = seen - 2 })) in
-          let s = told_is (Some (record { hand = t.hands + 1; kind = its; place = seen - 2 })) in
+          let x : Held = record { hand = t.hands + 1; kind = c.kind; place = seen - 2 } in
+          let is : came ≡ Some (record { hand = t.hands + 1; kind = c.kind; place = seen - 2 }) = ap (λ b. cond b None (Some (record { hand = t.hands + 1; kind = c.kind; place = seen - 2 }))) (ne_eqb seen 0 ne) in
+          let one : (y : Held) → Some (record { hand = t.hands + 1; kind = c.kind; place = seen - 2 }) ≡ Some y → y.hand ≡ t.hands + 1 = λ y e. ap (λ (z : Held). z.hand) (sym (Some-inj e)) in
+          let act : act_of w.shape v step why found ≡ Some (did (Some (record { hand = t.hands + 1; kind = c.kind; place = seen - 2 }))) = act_if false (ne_eqb seen 0 ne) in
+          let p = plain (Some (record { hand = t.hands + 1; kind = c.kind; place = seen - 2 })) in
+          let s = told_is (Some (record { hand = t.hands + 1; kind = c.kind; place = seen - 2 })) in
           subst (λ m. Comes w t v step why found v' h d (replaced_old m (q m))) (sym is)
-          (exchanged (Some (record { hand = t.hands + 1; kind = its; place = seen - 2 })) act one (goes act one) (out (Some (record { hand = t.hands + 1; kind = its; place = seen - 2 })) is) takes (q (Some (record { hand = t.hands + 1; kind = its; place = seen - 2 }))) p.0 s.0 s.1 p.1 p.2)
+          (exchanged (Some (record { hand = t.hands + 1; kind = c.kind; place = seen - 2 })) act one (goes act one) (out (Some (record { hand = t.hands + 1; kind = c.kind; place = seen - 2 })) is) takes (q (Some (record { hand = t.hands + 1; kind = c.kind; place = seen - 2 }))) p.0 s.0 s.1 p.1 p.2)
         where
           Comer : Option Held
-          Comer = Some (record { hand = t.hands + 1; kind = (ref_at w.shape.globals g).kind; place = seen - 2 })
+          Comer = Some (record { hand = t.hands + 1; kind = c.kind; place = seen - 2 })
 
-          goes : (act : act_of w.shape v step why found ≡ Some (did Comer)) (one : (y : Held) → Comer ≡ Some y → y.hand ≡ t.hands + 1) → (y : Held) → Comer ≡ Some y → LeadsTo v' y (ref_at w.shape.globals g).class
+          goes : (act : act_of w.shape v step why found ≡ Some (did Comer)) (one : (y : Held) → Comer ≡ Some y → y.hand ≡ t.hands + 1) → (y : Held) → Comer ≡ Some y → LeadsTo v' y r.class
           goes act one y e =
-              let leads_there : (r : GlobalLeads w.shape h g found) → LeadsTo v' y (ref_at w.shape.globals g).class =
-              λ r. leads Comer act one y e r (ap (λ (z : Held). z.kind) (sym (Some-inj e))) (ap (λ (z : Held). z.place) (sym (Some-inj e)) ∙ (let z = r.word in let k : seen - 2 ≡ r.slot = omega arith in k)) in
-              ⊎_elim (λ (r : GlobalIsNil h g found). absurd (ne (sym same ∙ r.word))) leads_there read
+              let leads_there : (q : CellLeads w.shape h c.name r found) → LeadsTo v' y r.class =
+              λ q. leads Comer act one y e q (ap (λ (z : Held). z.kind) (sym (Some-inj e))) (ap (λ (z : Held). z.place) (sym (Some-inj e)) ∙ (let n = q.word in let k : seen - 2 ≡ q.slot = omega arith in k)) in
+              ⊎_elim (λ (q : CellIsNil h c.name found). absurd (ne (sym same ∙ q.word))) leads_there read
 
 -- ---- the load before
 
-module _ (w : Work) (t : Thread) (v : View) (g : ℕ) (put_in : Option Held) (d : Doing) (f : Facts w t v d) (is_free : IsFree v) (inside : g < length w.shape.globals) (found : ℕ) (v' : View)
-    (told : Told w.shape (intents.Swap (cells.Global g) (hand_in put_in)) (Load (number (extent_of w.shape) (Global g))) v found v') where
+module _ (w : Work) (t : Thread) (v : View) (c : Cell) (r : RefShape) (put_in : Option Held) (is_free : IsFree v) (inside : IsPlace (extent_of w.shape) (place_in c.name)) (found : ℕ) (v' : View)
+    (told : Told w.shape (intents.Swap c.name (hand_in put_in)) (Load (cell_number (extent_of w.shape) c.name)) v found v') where
   abbrev Reads : Step
-  Reads = Load (number (extent_of w.shape) (Global g))
+  Reads = Load (cell_number (extent_of w.shape) c.name)
 
   abbrev for_swap : Intent
-  for_swap = intents.Swap (cells.Global g) (hand_in put_in)
+  for_swap = intents.Swap c.name (hand_in put_in)
 
   pub load_act : act_of w.shape v Reads for_swap found ≡ None
-  load_act = ap (λ (q : Place). loaded_act w.shape v q found for_swap) (place_at-number (extent_of w.shape) (Global g) inside)
+  load_act = ap (λ (q : Place). loaded_act w.shape v q found for_swap) (place_at-number (extent_of w.shape) (place_in c.name) inside) ∙ read_act w.shape v found c.name (hand_in put_in)
 
   pub load_works : v'.working ≡ idle
-  load_works = ap (λ (x : View). x.working) told.after ∙ (ap (λ (q : Place). working_loaded v.working q found for_swap) (place_at-number (extent_of w.shape) (Global g) inside) ∙ is_free.working)
+  load_works = ap (λ (x : View). x.working) told.after
+      ∙ (ap (λ (q : Place). working_loaded v.working q found for_swap) (place_at-number (extent_of w.shape) (place_in c.name) inside) ∙ (read_works v.working found c.name (hand_in put_in) ∙ is_free.working))
 
   pub load_called : Called w.shape [] 1 v v'
   load_called = told_by w.shape for_swap Reads v found v' None load_act told
 
-  pub load_word : IsCellWord w.shape.slots found
-  load_word = read_word w.shape (told.between ++ v.seen) g found (legal_tail w.shape (event_list v.number (act_of w.shape v Reads for_swap found)) (told.between ++ v.seen) (subst (IsLegal w.shape) (ap (λ (x : View). x.seen) told.after) told.legal)) told.met_in_shape f.served.globals
-      (told.read (Global g) tt inside refl).says
+  pub load_word : (IsLegal w.shape (told.between ++ v.seen) → IsReached w.shape v.number (told.between ++ v.seen) c r) → IsCellWord w.shape.slots found
+  load_word reach =
+      let legal = legal_tail w.shape (event_list v.number (act_of w.shape v Reads for_swap found)) (told.between ++ v.seen) (subst (IsLegal w.shape) (ap (λ (x : View). x.seen) told.after) told.legal) in
+      reads_word w.shape for_swap Reads v found v' told c r legal (reach legal) tt refl
 
 -- a failed exchange leaves all
-module _ (w : Work) (t : Thread) (v : View) (g : ℕ) (put_in : Option Held) (is_free : IsFree v) (seen new found : ℕ) (v' : View)
-    (told : Told w.shape (intents.Swap (cells.Global g) (hand_in put_in)) (Exchange (number (extent_of w.shape) (Global g)) seen new) v found v') (other : found ≢ seen) where
+module _ (w : Work) (t : Thread) (v : View) (c : CellName) (put_in : Option Held) (is_free : IsFree v) (seen new found : ℕ) (v' : View)
+    (told : Told w.shape (intents.Swap c (hand_in put_in)) (Exchange (cell_number (extent_of w.shape) c) seen new) v found v') (other : found ≢ seen) where
   abbrev Tries : Step
-  Tries = Exchange (number (extent_of w.shape) (Global g)) seen new
+  Tries = Exchange (cell_number (extent_of w.shape) c) seen new
 
   abbrev to_swap : Intent
-  to_swap = intents.Swap (cells.Global g) (hand_in put_in)
+  to_swap = intents.Swap c (hand_in put_in)
 
   pub miss_act : act_of w.shape v Tries to_swap found ≡ None
-  miss_act = ap (λ b. cond b (hit_act v (place_at (extent_of w.shape) (number (extent_of w.shape) (Global g))) seen new to_swap) None) (ne_eqb found seen other)
+  miss_act = ap (λ b. cond b (hit_act v (place_at (extent_of w.shape) (cell_number (extent_of w.shape) c)) seen new to_swap) None) (ne_eqb found seen other)
 
   pub miss_works : v'.working ≡ idle
   miss_works = ap (λ (x : View). x.working) told.after ∙ (ap (λ b. cond b v.working v.working) (ne_eqb found seen other) ∙ is_free.working)
@@ -341,113 +353,117 @@ module _ (w : Work) (t : Thread) (v : View) (g : ℕ) (put_in : Option Held) (is
   pub miss_called : Called w.shape [] 1 v v'
   miss_called = told_by w.shape to_swap Tries v found v' None miss_act told
 
--- ---- a variable's value goes into a global
+-- ---- a variable's value goes into a cell
 
-abbrev pub setting : Work → Thread → (from global : ℕ) → AttemptAt → Doing
-setting w t from g a = doings.Setting from (global_of w.shape g) (record { layout = extent_of w.shape; place = number (extent_of w.shape) (Global g); new = word_of (value t.vars from); at = a })
+abbrev pub setting : Work → Thread → ℕ → Cell → AttemptAt → Doing
+setting w t from c a = doings.Setting from c (record { layout = extent_of w.shape; place = cell_number (extent_of w.shape) c.name; new = word_of (value t.vars from); at = a })
 
-module _ (w : Work) (t : Thread) (v : View) (from g : ℕ) (a : AttemptAt) (op_there : slice_get w.program t.index ≡ Some (op.Set (opcell.Global g) from)) (f : Facts w t v (setting w t from g a)) where
+module _ (w : Work) (t : Thread) (v : View) (from : ℕ) (c : Cell) (a : AttemptAt) (f : Facts w t v (setting w t from c a)) where
   abbrev place : ℕ
-  place = number (extent_of w.shape) (Global g)
-
-  abbrev value_in : Option Held
-  value_in = value t.vars from
+  place = cell_number (extent_of w.shape) c.name
 
   abbrev set_why : Intent
-  set_why = intents.Swap (cells.Global g) (hand_in (value t.vars from))
+  set_why = intents.Swap c.name (hand_in (value t.vars from))
 
-  there : g < length w.shape.globals
-  there = subst (λ (l : Extent). g < l.globals) f.is_for.0 f.fits.1.place
+  named : NamesCell w t.vars from c
+  named = puts w (hands_in v.number v.seen) t.index from c t.vars f.notes f.served f.up_to
+
+  -- what the cell may refer to
+  abbrev ref : RefShape
+  ref = ref_of w.shape w.classes named.of
+
+  here : IsReached w.shape v.number v.seen c ref
+  here = reached w v.number v.seen t.vars from c f.served f.sized f.legal f.in_shape f.kinds (vars_stand w.classes v t.vars f.classed) named
 
   free : v.working.owes ≡ None
   free = ap (λ (x : Working). x.owes) f.under_way.0.working
 
   pub set_load_allowed : Admits w.shape v (Load place) set_why
-  set_load_allowed = (Global g, refl, there, free, tt, tt)
+  set_load_allowed = (place_in c.name, refl, here.place, free, may_load w.shape v c.name set_why here.reaches, tt)
 
-  puts : (m : Option Held) → value t.vars from ≡ m → IsPut w.shape v (cells.Global g) (hand_in m) (word_of m)
-  puts None e = refl
-  puts (Some held) e =
-      let kind : held.kind ≡ (ref_at w.shape.globals g).kind = f.kinds from held e ∙ (holds-at (KindsFit w.shape w.classes w.kinds) w.program t.index (op.Set (opcell.Global g) from) f.served.kinds_fit op_there).0 in
-      let class : class_of w.classes from ≡ (ref_at w.shape.globals g).class = holds-at (ClassesFit w.shape w.classes) w.program t.index (op.Set (opcell.Global g) from) f.served.classes_fit op_there in
-      put_word w.shape v g held there kind (subst (LeadsTo v held) class (f.classed from held e))
+  is_put : (m : Option Held) → value t.vars from ≡ m → IsPut w.shape v c.name (hand_in m) (word_of m)
+  is_put None e = refl
+  is_put (Some held) e = put_word w.shape v c.name ref held here.named (f.kinds from held e ∙ named.kinds.0) (subst (LeadsTo v held) named.class (f.classed from held e))
 
   pub set_swap_allowed : (seen new : ℕ) → a ≡ attempt.Exchanging seen new → Admits w.shape v (Exchange place seen new) set_why
   set_swap_allowed seen new is =
       let m : MaySwap (word_of (value t.vars from)) (attempt.Exchanging seen new) = subst (MaySwap (word_of (value t.vars from))) is f.under_way.1 in
-      (Global g, refl, there, free, (refl, m.0, ap (λ (x : Working). x.access) f.under_way.0.working, tt, subst (IsPut w.shape v (cells.Global g) (hand_in (value t.vars from))) (sym m.1) (puts (value t.vars from) refl)))
+      (place_in c.name, refl, here.place, free, (same_place c.name, m.0, ap (λ (x : Working). x.access) f.under_way.0.working, here.reaches, subst (IsPut w.shape v c.name (hand_in (value t.vars from))) (sym m.1) (is_put (value t.vars from) refl)))
+
+  still : (step : Step) (found : ℕ) (v' : View) (told : Told w.shape set_why step v found v') → IsLegal w.shape (told.between ++ v.seen) → IsReached w.shape v.number (told.between ++ v.seen) c ref
+  still step found v' told legal = reached w v.number (told.between ++ v.seen) t.vars from c f.served f.sized legal told.met_in_shape f.kinds (vars_met w.shape set_why step w.classes v found v' t.vars told legal f.classed) named
 
   -- the attempt begins anew
-  anew : (step : Step) (found : ℕ) (v' : View) (told : Told w.shape set_why step v found v') (b : AttemptAt) → Facts w t v (setting w t from g b) → takes_at w.shape (Some found) (setting w t from g b) → came_out_at t (Some found) (setting w t from g b) ≡ None → act_of w.shape v step set_why found ≡ None
-      → Called w.shape [] 1 v v' → v'.working ≡ idle → ReadsNoName (extent_of w.shape) step set_why → Comes w t v step set_why found v' (told.between ++ v.seen) (setting w t from g b) (set_begun from (global_of w.shape g) (quiet t))
-  anew step found v' told b k takes out act c works reads =
-      let walk = set_walks w (LeadsTo v') from (global_of w.shape g) (quiet t) (quiet t) (in_vars t.vars) f.is_for refl refl refl (λ x. refl) (classed_still w.shape 1 w.classes v v' t.vars c f.classed) in
-      let u : Thread = set_begun from (global_of w.shape g) (quiet t) in
-      stays w t v step set_why found v' (setting w t from g b) u told k takes out act walk.event reads walk.hands walk.count (λ x. let e = walk.same x in omega arith) walk.classed (fresh_coming w.classes v' u.doing walk.fresh) walk.asks
-      (fresh_under w.shape v' u.doing walk.fresh works (owes_still w.shape 1 v v' c f.under_way.0.none)) walk.untaken
+  anew : (step : Step) (found : ℕ) (v' : View) (told : Told w.shape set_why step v found v') (b : AttemptAt) → Facts w t v (setting w t from c b) → takes_at w.shape (Some found) (setting w t from c b) → came_out_at t (Some found) (setting w t from c b) ≡ None → act_of w.shape v step set_why found ≡ None
+      → Called w.shape [] 1 v v' → v'.working ≡ idle → ReadsNoName (extent_of w.shape) step set_why → Comes w t v step set_why found v' (told.between ++ v.seen) (setting w t from c b) (set_begun from c (quiet t))
+  anew step found v' told b k takes out act called works reads =
+      let walk = set_walks w (LeadsTo v') from c (quiet t) (quiet t) (in_vars t.vars) f.is_for refl refl refl (λ x. refl) (classed_still w.shape 1 w.classes v v' t.vars called f.classed) in
+      let u : Thread = set_begun from c (quiet t) in
+      stays w t v step set_why found v' (setting w t from c b) u told k takes out act walk.event reads walk.hands walk.count (λ x. let e = walk.same x in omega arith) walk.classed (fresh_coming w.classes v' u.doing walk.fresh) walk.asks
+      (fresh_under w.shape v' u.doing walk.fresh works (owes_still w.shape 1 v v' called f.under_way.0.none))
 
   -- ---- it loads the word
   module _ (found : ℕ) (v' : View) (told : Told w.shape set_why (Load place) v found v') where
     abbrev SetLoaded : Choice SwapAnswer → Type 0
-    SetLoaded r = came_out_at t (Some found) (setting w t from g attempt.Loading) ≡ swapped_out (global_of w.shape g) (t.hands + 1) (chosen place found r)
-        → Comes w t v (Load place) set_why found v' (told.between ++ v.seen) (setting w t from g attempt.Loading)
-        (set_on from (global_of w.shape g) (record { layout = extent_of w.shape; place = place; new = word_of (value t.vars from); at = exchanging found r }) (chosen place found r) (quiet t))
+    SetLoaded r = came_out_at t (Some found) (setting w t from c attempt.Loading) ≡ swapped_out c (t.hands + 1) (chosen place found r)
+        → Comes w t v (Load place) set_why found v' (told.between ++ v.seen) (setting w t from c attempt.Loading)
+        (set_on from c (record { layout = extent_of w.shape; place = place; new = word_of (value t.vars from); at = exchanging found r }) (chosen place found r) (quiet t))
 
     pub set_load_comes : a ≡ attempt.Loading → SetLoaded (swap_row (word_of (value t.vars from)) found)
     set_load_comes is = dite (ℕ_discrete found 1)
-        (λ e. subst (λ b. SetLoaded (row b)) (sym (eq-eqb found 1 e)) (λ out. anew (Load place) found v' told attempt.Loading fact takes out act c works tt))
+        (λ e. subst (λ b. SetLoaded (row b)) (sym (eq-eqb found 1 e)) (λ out. anew (Load place) found v' told attempt.Loading fact takes out act called works tt))
         (λ ne. subst (λ b. SetLoaded (row b)) (sym (ne_eqb found 1 ne)) (λ out.
-        let u : Thread = record (quiet t) { doing = setting w t from g (attempt.Exchanging found (word_of (value t.vars from))); asked = moves.Step (Exchange place found (word_of (value t.vars from))) set_why } in
-        stays w t v (Load place) set_why found v' (setting w t from g attempt.Loading) u told fact takes out act refl tt refl refl (λ x. refl) (classed_still w.shape 1 w.classes v v' t.vars c f.classed) tt (refl, refl)
-        (record { working = works; none = owes_still w.shape 1 v v' c f.under_way.0.none }, (ne, refl)) f.is_for.2))
+        let u : Thread = record (quiet t) { doing = setting w t from c (attempt.Exchanging found (word_of (value t.vars from))); asked = moves.Step (Exchange place found (word_of (value t.vars from))) set_why } in
+        stays w t v (Load place) set_why found v' (setting w t from c attempt.Loading) u told fact takes out act refl tt refl refl (λ x. refl) (classed_still w.shape 1 w.classes v v' t.vars called f.classed) tt (refl, refl)
+        (record { working = works; none = owes_still w.shape 1 v v' called f.under_way.0.none }, (ne, refl))))
       where
         row : Bool → Choice SwapAnswer
         row b = cond b (Tell swaps.Busy) (Write (word_of (value t.vars from)))
 
-        fact : Facts w t v (setting w t from g attempt.Loading)
-        fact = subst (λ b. Facts w t v (setting w t from g b)) is f
+        fact : Facts w t v (setting w t from c attempt.Loading)
+        fact = subst (λ b. Facts w t v (setting w t from c b)) is f
 
         act : act_of w.shape v (Load place) set_why found ≡ None
-        act = load_act w t v g (value t.vars from) (setting w t from g a) f f.under_way.0 there found v' told
+        act = load_act w t v c ref (value t.vars from) f.under_way.0 here.place found v' told
 
-        c : Called w.shape [] 1 v v'
-        c = load_called w t v g (value t.vars from) (setting w t from g a) f f.under_way.0 there found v' told
+        called : Called w.shape [] 1 v v'
+        called = load_called w t v c ref (value t.vars from) f.under_way.0 here.place found v' told
 
         works : v'.working ≡ idle
-        works = load_works w t v g (value t.vars from) (setting w t from g a) f f.under_way.0 there found v' told
+        works = load_works w t v c ref (value t.vars from) f.under_way.0 here.place found v' told
 
-        takes : takes_at w.shape (Some found) (setting w t from g attempt.Loading)
-        takes = (tt, load_word w t v g (value t.vars from) (setting w t from g a) f f.under_way.0 there found v' told)
+        takes : takes_at w.shape (Some found) (setting w t from c attempt.Loading)
+        takes = (tt, load_word w t v c ref (value t.vars from) f.under_way.0 here.place found v' told (still (Load place) found v' told))
 
   -- ---- it exchanges it
   module _ (seen new : ℕ) (found : ℕ) (v' : View) (told : Told w.shape set_why (Exchange place seen new) v found v') (is : a ≡ attempt.Exchanging seen new) where
     abbrev set_d : Doing
-    set_d = setting w t from g (attempt.Exchanging seen new)
+    set_d = setting w t from c (attempt.Exchanging seen new)
 
     fact : Facts w t v set_d
-    fact = subst (λ b. Facts w t v (setting w t from g b)) is f
+    fact = subst (λ b. Facts w t v (setting w t from c b)) is f
 
     abbrev answer_if : Bool → Next SwapAnswer
     answer_if b = nexts.Done (cond b (swaps.Took seen) (swaps.Again (record { seen = seen; found = found })))
 
     abbrev SetSwapped : Bool → Type 0
-    SetSwapped b = came_out_at t (Some found) set_d ≡ swapped_out (global_of w.shape g) (t.hands + 1) (answer_if b)
+    SetSwapped b = came_out_at t (Some found) set_d ≡ swapped_out c (t.hands + 1) (answer_if b)
         → Comes w t v (Exchange place seen new) set_why found v' (told.between ++ v.seen) set_d
-        (set_on from (global_of w.shape g) (record { layout = extent_of w.shape; place = place; new = word_of (value t.vars from); at = attempt.Ended }) (answer_if b) (quiet t))
+        (set_on from c (record { layout = extent_of w.shape; place = place; new = word_of (value t.vars from); at = attempt.Ended }) (answer_if b) (quiet t))
 
     missed : found ≢ seen → SetSwapped false
     missed ne out =
-        anew (Exchange place seen new) found v' told (attempt.Exchanging seen new) fact ((λ e. cc), tt) out (miss_act w t v g (value t.vars from) f.under_way.0 seen new found v' told ne) (miss_called w t v g (value t.vars from) f.under_way.0 seen new found v' told ne)
-        (miss_works w t v g (value t.vars from) f.under_way.0 seen new found v' told ne) tt
+        anew (Exchange place seen new) found v' told (attempt.Exchanging seen new) fact ((λ e. cc), tt) out (miss_act w t v c.name (value t.vars from) f.under_way.0 seen new found v' told ne) (miss_called w t v c.name (value t.vars from) f.under_way.0 seen new found v' told ne)
+        (miss_works w t v c.name (value t.vars from) f.under_way.0 seen new found v' told ne) tt
 
     -- the thread that has what was there
     abbrev with_it : Option Held → Thread
-    with_it found_there = put answers.Ok (set_var from None (swapped (cells.Global g) (hand_in (value t.vars from)) found_there (quiet t)))
+    with_it found_there = put answers.Ok (set_var from None (swapped c.name (hand_in (value t.vars from)) found_there (quiet t)))
 
     hit : found ≡ seen → SetSwapped true
     hit same out =
         let m : MaySwap (word_of (value t.vars from)) (attempt.Exchanging seen new) = subst (MaySwap (word_of (value t.vars from))) is f.under_way.1 in
-        takes_out w t v g (value t.vars from) (set t.vars from None) set_d fact f.under_way.0 all sub (length-set t.vars from None) there seen new found v' told same m.0 with_it (λ x e. out ∙ ap (was_there (cells.Global g)) e) ((λ e. cc), tt) plain says
+        takes_out w t v c ref (value t.vars from) (set t.vars from None) set_d fact f.under_way.0 all sub (length-set t.vars from None) seen new found v' told (still (Exchange place seen new) found v' told) same m.0 with_it (λ x e. out ∙ ap (was_there c.name) e) ((λ e. cc), tt) plain says
       where
         all : (x : Held → ℕ) → references t.vars t.hands set_d x ≡ in_vars (set t.vars from None) x + weigh x (value t.vars from)
         all x = let s = vars-set x t.vars from None f.fits.0 in omega arith
@@ -459,46 +475,33 @@ module _ (w : Work) (t : Thread) (v : View) (from g : ℕ) (a : AttemptAt) (op_t
         plain None = (f.is_for, refl, refl)
         plain (Some x) = (f.is_for, refl, refl)
 
-        says : (x : Option Held) → ((with_it x).hands ≡ after t.hands x) × ((with_it x).event ≡ Some (acts.Swap (cells.Global g) (hand_in (value t.vars from)) (hand_in x)))
+        says : (x : Option Held) → ((with_it x).hands ≡ after t.hands x) × ((with_it x).event ≡ Some (acts.Swap c.name (hand_in (value t.vars from)) (hand_in x)))
         says None = (refl, refl)
         says (Some x) = (refl, refl)
 
     pub set_swap_comes : SetSwapped (found == seen)
     set_swap_comes = dite (ℕ_discrete found seen) (λ e. subst SetSwapped (sym (eq-eqb found seen e)) (hit e)) (λ ne. subst SetSwapped (sym (ne_eqb found seen ne)) (missed ne))
 
--- the cell that the operation writes is a global
-cell_put : (w : Work) (t : Thread) (v : View) (from : ℕ) (c : Cell) (plan : SwapAttempt) → Facts w t v (doings.Setting from c plan) → IsPuttingGlobal (known v w) t.index from c
-cell_put w t v from c plan f = putting_global (known v w) t.index from c t.vars f.notes (served-too w (hands_in v.number v.seen) f.served) f.bare f.up_to
+-- ---- by where the attempt is
 
 pub sets_allowed : (w : Work) (t : Thread) (v : View) (from : ℕ) (c : Cell) (plan : SwapAttempt) (step : Step) (intent : Intent) → Facts w t v (doings.Setting from c plan) → t.asked ≡ moves.Step step intent → Admits w.shape v step intent
 sets_allowed w t v from c plan step intent f asked =
-    let k = cell_put w t v from c plan f in
-    go k.global k.there (subst (λ (x : Cell). Facts w t v (doings.Setting from x plan)) k.cell_is f)
-  where
-    go : (g : ℕ) → slice_get w.program t.index ≡ Some (op.Set (opcell.Global g) from) → Facts w t v (doings.Setting from (global_of w.shape g) plan) → Admits w.shape v step intent
-    go g at f =
-        attempt_asked t.asked (number (extent_of w.shape) (Global g)) (intents.Swap (cells.Global g) (hand_in (value t.vars from))) (λ a x. Facts w t v (setting w t from g a) → Admits w.shape v x.0 x.1) step intent asked
-        (λ k. set_load_allowed w t v from g attempt.Loading at k) (λ seen new k. set_swap_allowed w t v from g (attempt.Exchanging seen new) at k seen new refl) plan.at f.asks.1
-        (subst (λ (p : SwapAttempt). Facts w t v (doings.Setting from (global_of w.shape g) p)) f.asks.0 f)
+    attempt_asked t.asked (cell_number (extent_of w.shape) c.name) (intents.Swap c.name (hand_in (value t.vars from))) (λ a x. Facts w t v (setting w t from c a) → Admits w.shape v x.0 x.1) step intent asked
+    (λ k. set_load_allowed w t v from c attempt.Loading k) (λ seen new k. set_swap_allowed w t v from c (attempt.Exchanging seen new) k seen new refl) plan.at f.asks.1
+    (subst (λ (p : SwapAttempt). Facts w t v (doings.Setting from c p)) f.asks.0 f)
 
 pub sets_come : (w : Work) (t : Thread) (v : View) (from : ℕ) (c : Cell) (plan : SwapAttempt) (step : Step) (intent : Intent) (found : ℕ) (v' : View) → Facts w t v (doings.Setting from c plan) → t.asked ≡ moves.Step step intent
     → (told : Told w.shape intent step v found v') → Comes w t v step intent found v' (told.between ++ v.seen) (doings.Setting from c plan) (turned_at (Some found) (doings.Setting from c plan) (quiet t))
 sets_come w t v from c plan step intent found v' f asked =
-    let k = cell_put w t v from c plan f in
-    subst (λ (x : Cell). Case x plan) (sym k.cell_is) (go k.global k.there (subst (λ (x : Cell). Facts w t v (doings.Setting from x plan)) k.cell_is f))
+    subst Case (sym f.asks.0)
+    (attempt_asked t.asked (cell_number (extent_of w.shape) c.name) (intents.Swap c.name (hand_in (value t.vars from))) CaseAt step intent asked (λ k told. set_load_comes w t v from c attempt.Loading k found v' told refl refl)
+    (λ seen new k told. set_swap_comes w t v from c (attempt.Exchanging seen new) k seen new found v' told refl refl) plan.at f.asks.1 (subst (λ (p : SwapAttempt). Facts w t v (doings.Setting from c p)) f.asks.0 f))
   where
-    Case : Cell → SwapAttempt → Type 0
-    Case x p = (told : Told w.shape intent step v found v') → Comes w t v step intent found v' (told.between ++ v.seen) (doings.Setting from x p) (turned_at (Some found) (doings.Setting from x p) (quiet t))
+    Case : SwapAttempt → Type 0
+    Case p = (told : Told w.shape intent step v found v') → Comes w t v step intent found v' (told.between ++ v.seen) (doings.Setting from c p) (turned_at (Some found) (doings.Setting from c p) (quiet t))
 
-    CaseAt : ℕ → AttemptAt → Step × Intent → Type 0
-    CaseAt g a x = Facts w t v (setting w t from g a) → (told : Told w.shape x.1 x.0 v found v') → Comes w t v x.0 x.1 found v' (told.between ++ v.seen) (setting w t from g a) (turned_at (Some found) (setting w t from g a) (quiet t))
-
-    go : (g : ℕ) → slice_get w.program t.index ≡ Some (op.Set (opcell.Global g) from) → Facts w t v (doings.Setting from (global_of w.shape g) plan) → Case (global_of w.shape g) plan
-    go g at f =
-        subst (Case (global_of w.shape g)) (sym f.asks.0)
-        (attempt_asked t.asked (number (extent_of w.shape) (Global g)) (intents.Swap (cells.Global g) (hand_in (value t.vars from))) (CaseAt g) step intent asked
-        (λ k told. set_load_comes w t v from g attempt.Loading at k found v' told refl refl) (λ seen new k told. set_swap_comes w t v from g (attempt.Exchanging seen new) at k seen new found v' told refl refl) plan.at f.asks.1
-        (subst (λ (p : SwapAttempt). Facts w t v (doings.Setting from (global_of w.shape g) p)) f.asks.0 f))
+    CaseAt : AttemptAt → Step × Intent → Type 0
+    CaseAt a x = Facts w t v (setting w t from c a) → (told : Told w.shape x.1 x.0 v found v') → Comes w t v x.0 x.1 found v' (told.between ++ v.seen) (setting w t from c a) (turned_at (Some found) (setting w t from c a) (quiet t))
 
 -- ---- the next global is cleared
 
@@ -506,8 +509,11 @@ abbrev pub clearing : Work → Thread → AttemptAt → Doing
 clearing w t a = doings.Clearing (record { layout = extent_of w.shape; place = number (extent_of w.shape) (Global t.cleared); new = 0; at = a })
 
 module _ (w : Work) (t : Thread) (v : View) (a : AttemptAt) (f : Facts w t v (clearing w t a)) where
-  abbrev g : ℕ
-  g = t.cleared
+  abbrev its_cell : Cell
+  its_cell = global_of w.shape t.cleared
+
+  abbrev its_ref : RefShape
+  its_ref = ref_at w.shape.globals t.cleared
 
   abbrev its_place : ℕ
   its_place = number (extent_of w.shape) (Global t.cleared)
@@ -535,7 +541,7 @@ module _ (w : Work) (t : Thread) (v : View) (a : AttemptAt) (f : Facts w t v (cl
       let walk = clear_walks w (LeadsTo v') (quiet t) (quiet t) (in_vars t.vars) f.is_for refl refl refl (λ x. refl) (classed_still w.shape 1 w.classes v v' t.vars c f.classed) in
       let u : Thread = clear_begun (quiet t) in
       stays w t v step clear_why found v' (clearing w t b) u told k takes out act walk.event reads walk.hands walk.count (λ x. let e = walk.same x in omega arith) walk.classed (fresh_coming w.classes v' u.doing walk.fresh) walk.asks
-      (fresh_under w.shape v' u.doing walk.fresh works (owes_still w.shape 1 v v' c f.under_way.0.none)) walk.untaken
+      (fresh_under w.shape v' u.doing walk.fresh works (owes_still w.shape 1 v v' c f.under_way.0.none))
 
   module _ (found : ℕ) (v' : View) (told : Told w.shape clear_why (Load its_place) v found v') where
     abbrev ClearLoaded : Choice SwapAnswer → Type 0
@@ -549,7 +555,7 @@ module _ (w : Work) (t : Thread) (v : View) (a : AttemptAt) (f : Facts w t v (cl
         (λ ne. subst (λ b. ClearLoaded (row b)) (sym (ne_eqb found 1 ne)) (λ out.
         let u : Thread = record (quiet t) { doing = clearing w t (attempt.Exchanging found 0); asked = moves.Step (Exchange its_place found 0) clear_why } in
         stays w t v (Load its_place) clear_why found v' (clearing w t attempt.Loading) u told fact takes out act refl tt refl refl (λ x. refl) (classed_still w.shape 1 w.classes v v' t.vars c f.classed) tt (refl, refl)
-        (record { working = works; none = owes_still w.shape 1 v v' c f.under_way.0.none }, (ne, refl)) f.is_for.2))
+        (record { working = works; none = owes_still w.shape 1 v v' c f.under_way.0.none }, (ne, refl))))
       where
         row : Bool → Choice SwapAnswer
         row b = cond b (Tell swaps.Busy) (Write 0)
@@ -558,16 +564,16 @@ module _ (w : Work) (t : Thread) (v : View) (a : AttemptAt) (f : Facts w t v (cl
         fact = subst (λ b. Facts w t v (clearing w t b)) is f
 
         act : act_of w.shape v (Load its_place) clear_why found ≡ None
-        act = load_act w t v t.cleared None (clearing w t a) f f.under_way.0 below found v' told
+        act = load_act w t v its_cell its_ref None f.under_way.0 below found v' told
 
         c : Called w.shape [] 1 v v'
-        c = load_called w t v t.cleared None (clearing w t a) f f.under_way.0 below found v' told
+        c = load_called w t v its_cell its_ref None f.under_way.0 below found v' told
 
         works : v'.working ≡ idle
-        works = load_works w t v t.cleared None (clearing w t a) f f.under_way.0 below found v' told
+        works = load_works w t v its_cell its_ref None f.under_way.0 below found v' told
 
         takes : takes_at w.shape (Some found) (clearing w t attempt.Loading)
-        takes = (tt, load_word w t v t.cleared None (clearing w t a) f f.under_way.0 below found v' told)
+        takes = (tt, load_word w t v its_cell its_ref None f.under_way.0 below found v' told (λ legal. global_reached w v.number (told.between ++ v.seen) t.cleared f.served below))
 
   module _ (seen new : ℕ) (found : ℕ) (v' : View) (told : Told w.shape clear_why (Exchange its_place seen new) v found v') (is : a ≡ attempt.Exchanging seen new) where
     abbrev clear_d : Doing
@@ -586,8 +592,8 @@ module _ (w : Work) (t : Thread) (v : View) (a : AttemptAt) (f : Facts w t v (cl
 
     clear_missed : found ≢ seen → ClearSwapped false
     clear_missed ne out =
-        begins_anew (Exchange its_place seen new) found v' told (attempt.Exchanging seen new) clear_fact ((λ e. cc), tt) out (miss_act w t v t.cleared None f.under_way.0 seen new found v' told ne) (miss_called w t v t.cleared None f.under_way.0 seen new found v' told ne)
-        (miss_works w t v t.cleared None f.under_way.0 seen new found v' told ne) tt
+        begins_anew (Exchange its_place seen new) found v' told (attempt.Exchanging seen new) clear_fact ((λ e. cc), tt) out (miss_act w t v (cells.Global t.cleared) None f.under_way.0 seen new found v' told ne) (miss_called w t v (cells.Global t.cleared) None f.under_way.0 seen new found v' told ne)
+        (miss_works w t v (cells.Global t.cleared) None f.under_way.0 seen new found v' told ne) tt
 
     abbrev cleared_with : Option Held → Thread
     cleared_with found_there = swapped (cells.Global t.cleared) None found_there (record (quiet t) { cleared = t.cleared + 1 })
@@ -599,7 +605,7 @@ module _ (w : Work) (t : Thread) (v : View) (a : AttemptAt) (f : Facts w t v (cl
     clear_hit same out =
         let m : MaySwap 0 (attempt.Exchanging seen new) = subst (MaySwap 0) is f.under_way.1 in
         subst (λ (s : HeapShape). Comes w t v (Exchange its_place seen new) clear_why found v' (told.between ++ v.seen) clear_d (replaced_old (came_in s) (cleared_with (came_in s)))) (sym f.is_for.1)
-        (takes_out w t v t.cleared None t.vars clear_d clear_fact f.under_way.0 (λ x. refl) (λ x held e. e) refl below seen new found v' told same m.0 cleared_with
+        (takes_out w t v its_cell its_ref None t.vars clear_d clear_fact f.under_way.0 (λ x. refl) (λ x held e. e) refl seen new found v' told (λ legal. global_reached w v.number (told.between ++ v.seen) t.cleared f.served below) same m.0 cleared_with
         (λ x e. out ∙ (ap (λ (s : HeapShape). was_there (cells.Global t.cleared) (came_in s)) f.is_for.1 ∙ ap (was_there (cells.Global t.cleared)) e)) ((λ e. cc), tt) plain says)
       where
         plain : (x : Option Held) → IsFor w.shape (cleared_with x) × ((cleared_with x).vars ≡ t.vars) × ((cleared_with x).program ≡ t.program)

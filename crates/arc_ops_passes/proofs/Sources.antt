@@ -1,49 +1,42 @@
 -- What a gain takes from: a reference in a variable, or one in a cell that is accessed. It stands in its place until the step that gains.
 use Rattle.std.proofs.Common.{◌≡◌, ℕ, ◌+◌, true, List, [], ◌++◌, Some, None, refl, sym, ap, ◌∙◌, subst}
-use Rattle.std.specs.Prelude.{slice_get}
-use Rattle.arc_model.specs.declared.event.CellName.TheVariants as cells
+use Rattle.arc_model.specs.declared.event.CellName.{CellName}
 use Rattle.arc_model.specs.declared.event.Origin.{Origin}
 use Rattle.arc_model.specs.declared.event.Origin.TheVariants as origins
 use Rattle.arc_model.specs.declared.shape.Kind.TheVariants.{Strong, Unowned}
 use Rattle.arc_model.specs.Heaps.{Hand, Object, Heap}
-use Rattle.arc_model.specs.Heaps as holders
-use Rattle.arc_model.specs.Cells.{origin}
+use Rattle.arc_model.specs.Cells.{cell as cell_holder, cell_shape, origin}
 use Rattle.arc_model.specs.WellFormed.{is_own}
 use Rattle.arc_model.specs.History.{History, heap_after, IsLegal}
 use Rattle.arc_model.specs.Lookup.{spot}
-use Rattle.arc_model.specs.Spelling.{Note}
+use Rattle.arc_spelling.specs.Spelling.{Note}
 use Rattle.arc_model.proofs.Others.{others_leave}
 use Rattle.arc_rule.specs.declared.step.Step.{Step}
 use Rattle.arc_rule.specs.declared.step.Intent.{Intent}
 use Rattle.arc_side.specs.Inline.{IsCountedInline}
-use Rattle.arc_cells.specs.Cascades.{HasNoFields}
 use Rattle.arc_programs.specs.ProgramsTied.{hands_in}
-use Rattle.arc_script.specs.declared.script.Op.TheVariants as op
-use Rattle.arc_script.specs.declared.script.OpCell.TheVariants as opcell
-use Rattle.arc_script.specs.Valid.{ref_at}
-use Rattle.arc_ops.specs.declared.cell.Cell.{Cell}
 use Rattle.arc_ops.specs.declared.gain.Gain.{Gain}
 use Rattle.arc_ops.specs.declared.gain.Gain.TheVariants as gains
 use Rattle.arc_ops.specs.declared.gain.Source.{Source}
-use Rattle.arc_served.specs.Programs.{KindsFit, ClassesFit, class_of}
+use Rattle.arc_served.specs.Programs.{KindsFit, ClassesFit, class_of, ref_of}
 use Rattle.arc_ops.specs.Thread.{Thread}
 use Rattle.arc_ops.specs.Plans.{op_of, hand_of}
 use Rattle.arc_spelled.specs.StepperStands.{Work, IsServedWork, AreOfKinds, GainsUpTo}
 use Rattle.arc_spelled.proofs.KindsKept.{holds-at}
-use Rattle.arc_spelled.proofs.StepperKeeps.{served-too}
 use Rattle.arc_view.specs.declared.view.Begun.{Begun}
 use Rattle.arc_view.specs.declared.view.Working.{Working}
 use Rattle.arc_view.specs.declared.view.View.{View}
 use Rattle.arc_view.specs.Holding.{At, IsSource, heap_of}
-use Rattle.arc_view.specs.Rule.{InShape, FitsCell, CellStays}
+use Rattle.arc_view.specs.Rule.{InShape, IsSized, FitsCell, CellStays}
 use Rattle.arc_view.specs.Steps.{Told}
-use Rattle.arc_view.proofs.AtCell.{cell_own}
+use Rattle.arc_view.proofs.AtCell.{cell_own, reach_has}
 use Rattle.arc_view.proofs.Held.{held_stays}
 use Rattle.arc_ops_passes.specs.References.{LeadsTo, LeadsFrom}
 use Rattle.arc_ops_passes.specs.Drives.{OwesNothing, AreOfClasses, GainsFrom}
-use Rattle.arc_ops_passes.proofs.Fields.{getting_global}
-use Rattle.arc_ops_passes.proofs.Cells.{class_is, cell_holds, global_named}
+use Rattle.arc_ops_passes.proofs.Cells.{class_is, cell_holds}
+use Rattle.arc_ops_passes.proofs.CellReads.{cell_fits}
 use Rattle.arc_ops_passes.proofs.Goes.{known}
+use Rattle.arc_ops_passes.proofs.Reached.{NamesCell, gets, reached, vars_stand}
 use Rattle.arc_ops_passes.proofs.Owned.{not_weak}
 
 -- ---- meanwhile nothing else is under way
@@ -94,23 +87,23 @@ own_origin heap p (origins.Cell c) = cell_own heap c
 is_hand : (o : Origin) (h : ℕ) → o ≡ origins.Hand h → o ≡ origins.Hand (hand_of o)
 is_hand o h e = e ∙ ap (λ x. origins.Hand (hand_of x)) (sym e)
 
-module _ (w : Work) (t : Thread) (v : View) (gain : Gain) (to : ℕ) (from : Source) (notes : List Note) (served : IsServedWork w) (bare : HasNoFields w.shape) where
+module _ (w : Work) (t : Thread) (v : View) (gain : Gain) (to : ℕ) (from : Source) (notes : List Note) (served : IsServedWork w) (sized : IsSized w.shape) (legal_seen : IsLegal w.shape v.seen) (kinds : AreOfKinds w.kinds t.vars) where
   abbrev UpTo : Origin → Type 0
   UpTo o = GainsUpTo (known v w) t.index gain to o from.kind from.place t.vars notes
 
-  served_too : IsServedWork (known v w)
-  served_too = served-too w (hands_in v.number v.seen) served
+  named_by : (cell : CellName) → UpTo (origins.Cell cell) → NamesCell w t.vars to (record { name = cell; kind = from.kind })
+  named_by cell up = gets w (hands_in v.number v.seen) t.index to (record { name = cell; kind = from.kind }) t.vars notes served up.1
 
-  pub gain_is_of : AreOfKinds w.kinds t.vars → (o : Origin) → from.origin ≡ o → UpTo o → IsGainOf gain from
-  gain_is_of kinds (origins.Hand hand) e up = at gain (holds-at (KindsFit w.shape w.classes w.kinds) w.program t.index (op_of gain to up.of) served.kinds_fit up.begun.there)
+  pub gain_is_of : (o : Origin) → from.origin ≡ o → UpTo o → IsGainOf gain from
+  gain_is_of (origins.Hand hand) e up = at gain (holds-at (KindsFit w.shape w.classes w.kinds) w.program t.index (op_of gain to up.of) served.kinds_fit up.begun.there)
     where
       at : (g : Gain) → KindsFit w.shape w.classes w.kinds (op_of g to up.of) → IsGainOf g from
       at gains.Copy fit = tt
       at gains.Unown fit = (is_hand from.origin hand e, kinds up.of (record { hand = hand; kind = from.kind; place = from.place }) up.source ∙ fit.1)
       at gains.Load fit = (is_hand from.origin hand e, kinds up.of (record { hand = hand; kind = from.kind; place = from.place }) up.source ∙ fit.1)
-  gain_is_of kinds (origins.Cell cell) e up = subst (λ g. IsGainOf g from) (sym up.0) tt
+  gain_is_of (origins.Cell cell) e up = subst (λ g. IsGainOf g from) (sym up.0) tt
 
-  -- a variable's reference, or a global's
+  -- a variable's reference, or a cell's
   pub has_source : AreOfClasses w.classes v t.vars → InShape w.shape v.seen → (o : Origin) → from.origin ≡ o → UpTo o → GainsFrom v o from → HasSource v from (class_of w.classes to)
   has_source classed within (origins.Hand hand) e up under =
       let r : LeadsTo v (record { hand = hand; kind = from.kind; place = from.place }) (class_of w.classes up.of) = classed up.of (record { hand = hand; kind = from.kind; place = from.place }) up.source in
@@ -121,13 +114,11 @@ module _ (w : Work) (t : Thread) (v : View) (gain : Gain) (to : ℕ) (from : Sou
       one_class gains.Unown fit = fit
       one_class gains.Load fit = fit
   has_source classed within (origins.Cell cell) e up copying =
-      let k = getting_global (known v w) t.index to (record { name = cell; kind = from.kind }) t.vars notes served_too bare up.1 in
-      let g = k.global in
-      let is : cell ≡ cells.Global g = ap (λ (c : Cell). c.name) k.cell_is in
+      let n = named_by cell up in
+      let q = reached w v.number v.seen t.vars to (record { name = cell; kind = from.kind }) served sized legal_seen within kinds (vars_stand w.classes v t.vars classed) n in
       let r = copying.source in
-      let at : spot (holders.Global g) (heap_of v) ≡ Some (record { place = r.1; kind = from.kind }) = subst (λ o. spot (origin (heap_of v) v.number o) (heap_of v) ≡ Some (record { place = r.1; kind = from.kind })) (e ∙ ap (λ c. origins.Cell c) is) r.3.0 in
-      let named = global_named w.shape v.seen g (record { place = r.1; kind = from.kind }) within at in
-      let fit : class_of w.classes to ≡ (ref_at w.shape.globals g).class = holds-at (ClassesFit w.shape w.classes) w.program t.index (op.Get to (opcell.Global g)) served.classes_fit k.there in
+      let at : spot (cell_holder (heap_of v) cell) (heap_of v) ≡ Some (record { place = r.1; kind = from.kind }) = subst (λ o. spot (origin (heap_of v) v.number o) (heap_of v) ≡ Some (record { place = r.1; kind = from.kind })) e r.3.0 in
+      let fits = cell_fits w.shape v.seen cell legal_seen within (reach_has w.shape (heap_of v) v.number cell q.reaches) in
       record {
         counted = r.0;
         place = r.1;
@@ -135,7 +126,7 @@ module _ (w : Work) (t : Thread) (v : View) (gain : Gain) (to : ℕ) (from : Sou
         source = r.3;
         here = r.4;
         slot = r.5;
-        is_class = class_is w.shape v.seen (record { place = r.1; kind = from.kind }) r.2 (slice_get w.shape.globals g) (ref_at w.shape.globals g) (subst (λ m. FitsCell (heap_of v) m (slice_get w.shape.globals g)) at (within.globals g)) named r.4 ∙ sym fit;
+        is_class = class_is w.shape v.seen (record { place = r.1; kind = from.kind }) r.2 (cell_shape w.shape (heap_of v) cell) (ref_of w.shape w.classes n.of) (subst (λ m. FitsCell (heap_of v) m (cell_shape w.shape (heap_of v) cell)) at fits) q.named r.4 ∙ sym n.class;
       }
 
   -- what others did since has left it there
@@ -153,19 +144,15 @@ module _ (w : Work) (t : Thread) (v : View) (gain : Gain) (to : ℕ) (from : Sou
         is_class = q.class ∙ s.is_class;
       }
   met_source step intent found v' told legal class s (origins.Cell cell) e up copying =
-      let k = getting_global (known v w) t.index to (record { name = cell; kind = from.kind }) t.vars notes served_too bare up.1 in
-      let g = k.global in
-      let is : cell ≡ cells.Global g = ap (λ (c : Cell). c.name) k.cell_is in
-      let to_global : from.origin ≡ origins.Cell (cells.Global g) = e ∙ ap (λ c. origins.Cell c) is in
-      let at : spot (holders.Global g) (heap_of v) ≡ Some (record { place = s.place; kind = from.kind }) = subst (λ o. spot (origin (heap_of v) v.number o) (heap_of v) ≡ Some (record { place = s.place; kind = from.kind })) to_global s.source.0 in
+      let at : spot (cell_holder (heap_of v) cell) (heap_of v) ≡ Some (record { place = s.place; kind = from.kind }) = subst (λ o. spot (origin (heap_of v) v.number o) (heap_of v) ≡ Some (record { place = s.place; kind = from.kind })) e s.source.0 in
       let h = told.between ++ v.seen in
       let begun : Begun = record { cell = cell; value = from.place + 2 } in
-      let stays : CellStays h v.seen (cells.Global g) = subst (CellStays h v.seen) is (told.accessed begun (ap (λ (x : Working). x.access) copying.working)) in
-      let q = cell_holds w.shape g s.place from.kind s.object v.seen told.between legal stays at s.here in
+      let stays : CellStays h v.seen cell = told.accessed begun (ap (λ (x : Working). x.access) copying.working) in
+      let q = cell_holds w.shape cell s.place from.kind s.object v.seen told.between legal stays at s.here in
       record {
         place = s.place;
         object = q.q;
-        at = subst (λ o. spot (origin (heap_after h) v.number o) (heap_after h) ≡ Some (record { place = s.place; kind = from.kind })) (sym to_global) (stays.refers h ([], refl) (told.between, refl) ∙ at);
+        at = subst (λ o. spot (origin (heap_after h) v.number o) (heap_after h) ≡ Some (record { place = s.place; kind = from.kind })) (sym e) (stays.refers h ([], refl) (told.between, refl) ∙ at);
         here = q.here;
         slot = q.slot (not_weak from.kind s.counted) ∙ s.slot;
         is_class = q.class ∙ s.is_class;

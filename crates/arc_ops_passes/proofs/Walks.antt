@@ -118,9 +118,9 @@ IsFresh (doings.Dying c) = ⊥
 IsFresh (doings.Vacating slot plan) = ⊥
 IsFresh doings.Ended = ⊤
 
--- a stepper for this heap, which has taken no reference out of a field
+-- a stepper for this heap
 abbrev pub IsFor : HeapShape → Thread → Type 0
-IsFor shape t = (t.layout ≡ extent_of shape) × (t.shape ≡ shape) × (t.taken ≡ 0)
+IsFor shape t = (t.layout ≡ extent_of shape) × (t.shape ≡ shape)
 
 -- what a variable has fits the variable's class
 abbrev pub AreOf : List ℕ → (Held → ℕ → Type 0) → List (Option Held) → Type 0
@@ -173,9 +173,8 @@ module _ (w : Work) (Q : Held → ℕ → Type 0) where
     pub count : length u.vars ≡ length t.vars
     pub same : (f : Held → ℕ) → references u.vars u.hands u.doing f ≡ most f
     pub classed : AreOf w.classes Q u.vars
-    pub asks : Asks w.shape u u.doing
+    pub asks : Asks w.shape [] u u.doing
     pub fresh : IsFresh u.doing
-    pub untaken : u.taken ≡ 0
 
   abbrev pub Fit : List (Option Held) → List Op → Type 0
   Fit vars ops = All (Fits w (length vars)) ops
@@ -184,8 +183,7 @@ module _ (w : Work) (Q : Held → ℕ → Type 0) where
 
   drop_walks : (held : Held) (t u : Thread) (most : (Held → ℕ) → ℕ) → IsFor w.shape u → u.hands ≡ t.hands → u.event ≡ t.event → length u.vars ≡ length t.vars → ((f : Held → ℕ) → in_vars u.vars f + f held ≡ most f) → AreOf w.classes Q u.vars
       → Walks t (drop_begun held u) most
-  drop_walks held t u most (layout, is, untaken) hands event count same classed = record {
-    untaken = untaken;
+  drop_walks held t u most (layout, is) hands event count same classed = record {
     hands = hands;
     event = event;
     count = count;
@@ -204,8 +202,7 @@ module _ (w : Work) (Q : Held → ℕ → Type 0) where
 
   gain_walks : (gain : Gain) (to : ℕ) (from : Source) (t u : Thread) (most : (Held → ℕ) → ℕ) → IsOfHand from.origin → IsFor w.shape u → u.hands ≡ t.hands → u.event ≡ t.event → length u.vars ≡ length t.vars → ((f : Held → ℕ) → in_vars u.vars f ≡ most f) → AreOf w.classes Q u.vars
       → Walks t (gain_begun gain to from u) most
-  gain_walks gain to from t u most of (layout, is, untaken) hands event count same classed = record {
-    untaken = untaken;
+  gain_walks gain to from t u most of (layout, is) hands event count same classed = record {
     hands = hands;
     event = event;
     count = count;
@@ -220,8 +217,7 @@ module _ (w : Work) (Q : Held → ℕ → Type 0) where
 
   pub make_walks : (to : ℕ) (name : ObjectName) (t u : Thread) (most : (Held → ℕ) → ℕ) → IsFor w.shape u → u.hands ≡ t.hands → u.event ≡ t.event → length u.vars ≡ length t.vars → ((f : Held → ℕ) → in_vars u.vars f ≡ most f) → AreOf w.classes Q u.vars
       → Walks t (make_begun_as to name u) most
-  make_walks to name t u most (layout, is, untaken) hands event count same classed = record {
-    untaken = untaken;
+  make_walks to name t u most (layout, is) hands event count same classed = record {
     hands = hands;
     event = event;
     count = count;
@@ -236,8 +232,7 @@ module _ (w : Work) (Q : Held → ℕ → Type 0) where
 
   pub open_walks : (to : ℕ) (cell : Cell) (t u : Thread) (most : (Held → ℕ) → ℕ) → IsFor w.shape u → u.hands ≡ t.hands → u.event ≡ t.event → length u.vars ≡ length t.vars → ((f : Held → ℕ) → in_vars u.vars f ≡ most f) → AreOf w.classes Q u.vars
       → Walks t (open_begun to cell u) most
-  open_walks to cell t u most (layout, is, untaken) hands event count same classed = record {
-    untaken = untaken;
+  open_walks to cell t u most (layout, is) hands event count same classed = record {
     hands = hands;
     event = event;
     count = count;
@@ -252,8 +247,7 @@ module _ (w : Work) (Q : Held → ℕ → Type 0) where
 
   pub set_walks : (from : ℕ) (cell : Cell) (t u : Thread) (most : (Held → ℕ) → ℕ) → IsFor w.shape u → u.hands ≡ t.hands → u.event ≡ t.event → length u.vars ≡ length t.vars → ((f : Held → ℕ) → in_vars u.vars f ≡ most f) → AreOf w.classes Q u.vars
       → Walks t (set_begun from cell u) most
-  set_walks from cell t u most (layout, is, untaken) hands event count same classed = record {
-    untaken = untaken;
+  set_walks from cell t u most (layout, is) hands event count same classed = record {
     hands = hands;
     event = event;
     count = count;
@@ -268,8 +262,7 @@ module _ (w : Work) (Q : Held → ℕ → Type 0) where
 
   pub clear_walks : (t u : Thread) (most : (Held → ℕ) → ℕ) → IsFor w.shape u → u.hands ≡ t.hands → u.event ≡ t.event → length u.vars ≡ length t.vars → ((f : Held → ℕ) → in_vars u.vars f ≡ most f) → AreOf w.classes Q u.vars
       → Walks t (clear_begun u) most
-  clear_walks t u most (layout, is, untaken) hands event count same classed = record {
-    untaken = untaken;
+  clear_walks t u most (layout, is) hands event count same classed = record {
     hands = hands;
     event = event;
     count = count;
@@ -347,7 +340,7 @@ module _ (w : Work) (Q : Held → ℕ → Type 0) where
     where
       go : (b : Bool) → Walks t (cond b (clear_begun t) (record t { doing = doings.Ended; asked = moves.Ended })) (in_vars t.vars)
       go true = clear_walks t t (in_vars t.vars) own refl refl refl (λ f. refl) classed
-      go false = record { hands = refl; event = refl; count = refl; same = λ f. omega arith; classed = classed; asks = (refl, none); fresh = tt; untaken = own.2 }
+      go false = record { hands = refl; event = refl; count = refl; same = λ f. omega arith; classed = classed; asks = (refl, none); fresh = tt }
 
   scope_walks : (t : Thread) → IsFor w.shape t → AreOf w.classes Q t.vars → Walks t (scope_begun t) (in_vars t.vars)
   scope_walks t own classed = go (position is_held t.vars) refl
@@ -365,7 +358,7 @@ module _ (w : Work) (Q : Held → ℕ → Type 0) where
   over_walks t own classed = go (ltb (t.phase + 1) (length t.phases))
     where
       go : (b : Bool) → Walks t (cond b (record t { doing = doings.Ready; asked = moves.PhaseEnd; phase = t.phase + 1 }) (scope_begun t)) (in_vars t.vars)
-      go true = record { hands = refl; event = refl; count = refl; same = λ f. omega arith; classed = classed; asks = refl; fresh = tt; untaken = own.2 }
+      go true = record { hands = refl; event = refl; count = refl; same = λ f. omega arith; classed = classed; asks = refl; fresh = tt }
       go false = scope_walks t own classed
 
   -- an operation that the thread has gone past is passed over, and else it begins
@@ -377,7 +370,7 @@ module _ (w : Work) (Q : Held → ℕ → Type 0) where
       go true = further t own refl classed
       go false = op_walks o t (λ (u : Thread). begun_at (place + 1) ops u) own fit classed (λ u its hands event count same are.
           let m = further u its count are in
-          record { hands = m.hands ∙ hands; event = m.event ∙ event; count = m.count ∙ count; same = λ f. m.same f ∙ same f; classed = m.classed; asks = m.asks; fresh = m.fresh; untaken = m.untaken })
+          record { hands = m.hands ∙ hands; event = m.event ∙ event; count = m.count ∙ count; same = λ f. m.same f ∙ same f; classed = m.classed; asks = m.asks; fresh = m.fresh })
 
   begins_at : (place : ℕ) (ops : List Op) (t : Thread) → IsFor w.shape t → AllByRecursion (Fits w (length t.vars)) ops → AreOf w.classes Q t.vars → Walks t (begun_at place ops t) (in_vars t.vars)
   begins_at place [] t own fits classed = over_walks t own classed
@@ -391,7 +384,7 @@ module _ (w : Work) (Q : Held → ℕ → Type 0) where
   pub next_walks : (t : Thread) → IsFor w.shape t → Fit t.vars t.program → AreOf w.classes Q t.vars → Walks t (next_op t) (in_vars t.vars)
   next_walks t own fits classed =
       let m = begins_walks (record t { doing = doings.Ended; index = cond (ltb t.index (length t.program)) (t.index + 1) t.index }) own fits classed in
-      record { hands = m.hands; event = m.event; count = m.count; same = m.same; classed = m.classed; asks = m.asks; fresh = m.fresh; untaken = m.untaken }
+      record { hands = m.hands; event = m.event; count = m.count; same = m.same; classed = m.classed; asks = m.asks; fresh = m.fresh }
 
   -- what a variable had is dropped, where there was something
   pub old_walks : (t u : Thread) (old : Option Held) (most : (Held → ℕ) → ℕ) → IsFor w.shape u → Fit u.vars u.program → u.hands ≡ t.hands → u.event ≡ t.event → length u.vars ≡ length t.vars → ((f : Held → ℕ) → in_vars u.vars f + weigh f old ≡ most f) → AreOf w.classes Q u.vars
@@ -399,7 +392,7 @@ module _ (w : Work) (Q : Held → ℕ → Type 0) where
   old_walks t u (Some old) most own fits hands event count same classed = drop_walks old t u most own hands event count same classed
   old_walks t u None most own fits hands event count same classed =
       let m = next_walks u own fits classed in
-      record { hands = m.hands ∙ hands; event = m.event ∙ event; count = m.count ∙ count; same = λ f. let k = m.same f in let s = same f in omega arith; classed = m.classed; asks = m.asks; fresh = m.fresh; untaken = m.untaken }
+      record { hands = m.hands ∙ hands; event = m.event ∙ event; count = m.count ∙ count; same = λ f. let k = m.same f in let s = same f in omega arith; classed = m.classed; asks = m.asks; fresh = m.fresh }
 
   -- a variable gets a new reference or becomes nil, and what it had is dropped
   pub replaced_walks : (t : Thread) (to : ℕ) (new : Option Held) → IsFor w.shape t → Fit t.vars t.program → to < length t.vars → AreOf w.classes Q t.vars → NewIs Q (class_of w.classes to) new → Walks t (replaced to new t) (λ f. in_vars t.vars f + weigh f new)

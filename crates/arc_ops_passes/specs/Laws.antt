@@ -16,14 +16,14 @@ use Rattle.arc_script.specs.declared.script.Script.{Script}
 use Rattle.arc_script.specs.Valid.{IsScript}
 use Rattle.arc_served.specs.Served.{IsServed}
 use Rattle.arc_served.specs.Programs.{VarsFit, phases_of, program_of, ops_in_first, vars_of}
-use Rattle.arc_cells.specs.Cascades.{HasNoFields}
 use Rattle.arc_ops.specs.declared.stepper.Move.TheVariants as moves
 use Rattle.arc_ops.specs.Thread.{Thread, stepper_of, in_access}
 use Rattle.arc_ops.specs.Turns.{turned}
-use Rattle.arc_ops.specs.Takes.{takes, IsInline}
+use Rattle.arc_ops.specs.Takes.{takes, HasHandLeft, IsInline}
 use Rattle.arc_ops.specs.Steppers.{IsStepper}
 use Rattle.arc_spelled.specs.Came.{Extends}
-use Rattle.arc_spelled.specs.StepperStands.{Work, IsServedWork, variables}
+use Rattle.arc_cells.specs.Chains.{Frame}
+use Rattle.arc_spelled.specs.StepperStands.{Work, IsServedWork, variables, chain_after, FitsChain}
 use Rattle.arc_spelled.specs.Spelled.{work_of}
 use Rattle.arc_view.specs.declared.view.Role.TheVariants.{Pass}
 use Rattle.arc_view.specs.declared.view.View.{View}
@@ -36,10 +36,10 @@ use Rattle.arc_view.specs.Passes.{HoldsNothing}
 use Rattle.arc_view.specs.Calls.{Called, Took}
 use Rattle.arc_ops.specs.declared.stepper.Doing.TheVariants.{Ready}
 use Rattle.arc_model.specs.Shapes.{CapNumbers, HeapShape}
-use Rattle.arc_model.specs.Spelling.{Note}
-use Rattle.arc_model.specs.SpellingTies.{Ties}
-use Rattle.arc_model.specs.SpellingTies.Causes.{Judged}
-use Rattle.arc_ops_passes.specs.Drives.{Drives}
+use Rattle.arc_spelling.specs.Spelling.{Note}
+use Rattle.arc_spelling.specs.SpellingTies.{Ties}
+use Rattle.arc_spelling.specs.SpellingTies.Causes.{Judged}
+use Rattle.arc_ops_passes.specs.Drives.{Drives, IsChain}
 
 -- a pass that has made nothing yet
 pub record IsNewPass (p : ℕ) (w : Work) (v : View) : Type 0 where
@@ -62,10 +62,16 @@ NamesVariables w = All (VarsFit w.count) w.program
 abbrev pub ScriptsNameVariables : Type 0
 ScriptsNameVariables = (script : Script) (p : ℕ) (came : Hands) → IsScript script → IsServed script → p ≤ length script.threads → NamesVariables (work_of script p came)
 
--- Where it asks for nothing in a phase, it goes on when the next phase begins.
+-- It goes on where its next phase begins, and no object dies yet.
+pub record PhaseBegun (w : Work) (t : Thread) (v : View) : Type 0 where
+  pub takes_it : takes t None
+  pub drives : Drives w (turned t None) v
+  pub no_chain : (meant : List Frame) → IsChain (turned t None).doing drives.chain meant
+  pub event : (turned t None).event ≡ None
+
+-- Where it asks for nothing in a phase, it goes on when the next phase begins, while there are numbers of hands left.
 abbrev pub PhasesBegin : Type 0
-PhasesBegin = (w : Work) (t : Thread) (v : View) → IsServedWork w → NamesVariables w → Drives w t v → t.asked ≡ moves.PhaseEnd →
-    takes t None × Drives w (turned t None) v × ((turned t None).event ≡ None)
+PhasesBegin = (w : Work) (t : Thread) (v : View) → IsServedWork w → NamesVariables w → HasHandLeft t → Drives w t v → t.asked ≡ moves.PhaseEnd → PhaseBegun w t v
 
 -- What the pass did is what the thread has in the phases before the one that its stepper waits for, no less and no more.
 pub record HasDonePhases (script : Script) (p : ℕ) (t : Thread) (h : History) : Type 0 where
@@ -76,9 +82,9 @@ pub record HasDonePhases (script : Script) (p : ℕ) (t : Thread) (h : History) 
 abbrev pub PhasesAreDone : Type 0
 PhasesAreDone = (script : Script) (p : ℕ) (came : Hands) (t : Thread) (v : View) → Drives (work_of script p came) t v → t.asked ≡ moves.PhaseEnd → HasDonePhases script p t v.seen
 
--- The pass may make the step that its stepper asks for. So far no class has a field, here and where it goes on.
+-- The pass may make the step that its stepper asks for.
 abbrev pub StepsAreAllowed : Type 0
-StepsAreAllowed = (w : Work) (t : Thread) (v : View) (step : Step) (intent : Intent) → IsServedWork w → HasNoFields w.shape → IsStepper t → IsSized w.shape → Drives w t v → t.asked ≡ moves.Step step intent →
+StepsAreAllowed = (w : Work) (t : Thread) (v : View) (step : Step) (intent : Intent) → IsServedWork w → IsStepper t → IsSized w.shape → Drives w t v → t.asked ≡ moves.Step step intent →
     Admits w.shape v step intent
 
 -- counts below both caps, or the word of an immortal object
@@ -96,15 +102,18 @@ IsServedWord shape (Load place) (intents.Drop hand) found = IsInline (unpacked f
 IsServedWord shape (Load place) (intents.Deinit slot) found = place ≡ number (extent_of shape) (Count slot) → IsInline (unpacked found)
 IsServedWord shape step intent found = ⊤
 
--- What the stepper may be given, what it is then, and its event: what the step found, what still drives the pass, and the act that the pass made.
-pub record GoesOn (w : Work) (t : Thread) (v : View) (step : Step) (intent : Intent) (found : ℕ) (v' : View) : Type 0 where
+-- What the stepper may be given, what it is then, and its event: what the step found, which shows the chain of the deinits that wait, what still
+-- drives the pass, under the chain that the stepper makes of it, and the act that the pass made.
+pub record GoesOn (chain : List Frame) (w : Work) (t : Thread) (v : View) (step : Step) (intent : Intent) (found : ℕ) (v' : View) : Type 0 where
   pub takes_it : takes t (Some found)
+  pub fits : FitsChain t chain (Some found)
   pub drives : Drives w (turned t (Some found)) v'
+  pub under : drives.chain ≡ chain_after t (Some found) chain
   pub event : (turned t (Some found)).event ≡ act_of w.shape v step intent found
 
 abbrev pub SteppersDriveOn : Type 0
-SteppersDriveOn = (w : Work) (t : Thread) (v : View) (step : Step) (intent : Intent) (found : ℕ) (v' : View) → IsServedWork w → HasNoFields w.shape → IsStepper t → IsSized w.shape → Drives w t v → t.asked ≡ moves.Step step intent →
-    Told w.shape intent step v found v' → IsServedWord w.shape step intent found → GoesOn w t v step intent found v'
+SteppersDriveOn = (w : Work) (t : Thread) (v : View) (step : Step) (intent : Intent) (found : ℕ) (v' : View) → IsServedWork w → IsStepper t → IsSized w.shape → HasHandLeft t → (d : Drives w t v) → t.asked ≡ moves.Step step intent →
+    Told w.shape intent step v found v' → IsServedWord w.shape step intent found → GoesOn d.chain w t v step intent found v'
 
 -- A pass accesses no cell while its stepper is outside all accesses.
 abbrev pub OutsideIsNoAccess : Type 0

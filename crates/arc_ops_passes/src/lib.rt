@@ -22,13 +22,13 @@ pub fn phases_begin()
     ensures begin { PhasesBegin }
 {}
 
-/// A pass may make each step that the stepper that drives it asks for, so far where no class has a field.
+/// A pass may make each step that the stepper that drives it asks for.
 pub fn steps_are_allowed()
     ensures { StepsAreAllowed }
 {}
 
-/// The stepper may be given what such a step finds, tells the act that the pass made, and drives the pass on, so far where no class has a
-/// field.
+/// The stepper may be given what such a step finds, tells the act that the pass made, and drives the pass on, while there are numbers of
+/// hands left for what deinits take out of fields.
 pub fn steppers_drive_on()
     ensures { SteppersDriveOn }
 {}

@@ -1,4 +1,11 @@
 //! Pairs of calls of the shared heap on real threads: a retain and a release, or a new object and its end.
+//!
+//! A program for measuring, and a test with real threads: each thread makes pairs of calls on an object of its own, on a shared one, or
+//! on new ones. What the calls promise is `arc_table`'s; here each pair's answers are met, and a call that answers `Again` is called
+//! again.
+//!
+//! It gives up for two causes only, a heap that is full and a count at its cap, and says which. It promises nothing of time: what it
+//! measures stands in docs/BENCHMARKS.md.
 #![tactic(auto)]
 
 ghost use Rattle.std.specs.Prelude.{◌≤◌, IfOk};

@@ -1,10 +1,13 @@
 -- A thread makes steps alone, until its phase has ended, or its operation with an access.
-use Rattle.std.proofs.Common.{◌≡◌, ◌≢◌, ℕ, zero, suc, ◌+◌, ◌-◌, ◌/◌, ◌≤◌, ◌<◌, ◌^◌, Bool, true, false, not, ◌&&◌, cond, eqb, ltb, List, [], ◌∷◌, length, map, Option, Some, None, refl, ap, ◌∙◌, sym, subst, arith}
+use Rattle.std.proofs.Common.{◌≡◌, ◌≢◌, ℕ, zero, suc, ◌+◌, ◌-◌, ◌*◌, ◌/◌, ◌≤◌, ◌<◌, ◌^◌, Bool, true, false, not, ◌&&◌, cond, eqb, ltb, List, [], ◌∷◌, length, map, Option, Some, None, refl, ap, ◌∙◌, sym, subst, arith}
 use Rattle.std.specs.List.{AllByRecursion}
 use Rattle.std.specs.Prelude.{All, bit_and, slice_get, slice_index, sum_by}
 use Rattle.std.proofs.lemmas.List.{length-map, length-set, get_or-set_same}
 use Rattle.std.proofs.lemmas.List.Sums.{sum_by-cons}
 use Rattle.std.proofs.lemmas.Bool.{lt-ltb}
+use Rattle.arc_model.specs.Shapes.{HeapShape}
+use Rattle.arc_model.specs.References.{field_count}
+use Rattle.arc_model.specs.declared.event.ObjectName.{ObjectName}
 use Rattle.arc_rule.specs.Bits.{words_of, bit_of}
 use Rattle.arc_rule.specs.Extents.{Extent}
 use Rattle.arc_rule.specs.Places.{number}
@@ -16,6 +19,10 @@ use Rattle.arc_rule.specs.declared.attempt.At.{At as AttemptAt}
 use Rattle.arc_rule.specs.declared.attempt.At.TheVariants as attempt
 use Rattle.arc_plan.specs.declared.slots.Making.{Making as Search}
 use Rattle.arc_plan.specs.declared.slots.Making.TheVariants as search
+use Rattle.arc_cells.specs.Chains.{Frame}
+use Rattle.arc_cells.specs.Cascades.{CascadeState}
+use Rattle.arc_cells.specs.declared.ref_drop.At.{At as DropAt}
+use Rattle.arc_cells.specs.declared.ref_drop.At.TheVariants as drops
 use Rattle.arc_cells.specs.declared.cascade.At.{At}
 use Rattle.arc_cells.specs.declared.cascade.At.TheVariants as at
 use Rattle.arc_script.specs.declared.script.ThreadDecl.{ThreadDecl}
@@ -30,18 +37,20 @@ use Rattle.arc_ops.specs.declared.stepper.Move.{Move}
 use Rattle.arc_ops.specs.declared.stepper.Move.TheVariants as moves
 use Rattle.arc_ops.specs.Thread.{Thread, stepper_of, is_busy, is_accessing, in_access, in_operation}
 use Rattle.arc_ops.specs.Turns.{turned}
+use Rattle.arc_spelled.specs.StepperStands.{chain_after}
 use Rattle.arc_ops.specs.Steppers.{IsStepper, IsInOperation, IsUnderWay as IsAtWork}
-use Rattle.arc_replays.specs.Stages.{Reached, MayStep, is_step, is_phase_end, has_step, awaits_phase, stepped}
+use Rattle.arc_replays.specs.Stages.{Reached, is_step, is_phase_end, has_step, awaits_phase, chains_at}
 use Rattle.arc_replays.specs.Stages.Reached.{inside, ends_it, outside, by_number, last_step}
 use Rattle.arc_plain.specs.Crews.{Progress, IsAtStage, IsUnderWay, IsAlone, MayGoOn, MayEnd, ThreadFinished, AccessEnded, thread_at, has_made}
-use Rattle.arc_plain.specs.Left.{held_unit, count_at, search_left, attempt_left, count_left, finish_left, cascade_left, doing_left, left, FindsFree}
+use Rattle.arc_plain.specs.Left.{held_unit, busy_units, count_at, search_left, attempt_left, count_left, finish_left, drop_left, deinit_left, cascade_left, doing_left, left, FindsFree}
 use Rattle.arc_replays.proofs.Laws.{threads_are_at_work}
 use Rattle.arc_plain.proofs.Lists.{set_apart}
 use Rattle.arc_plain.proofs.Walks.{IsPhase, unit_few}
-use Rattle.arc_plain.proofs.Falls.{IsBehindCells, IsPast, Goes, falls, stops}
+use Rattle.arc_plain.proofs.Goes.{IsBehindCells, IsPast, taken_for, GoesUnder}
+use Rattle.arc_plain.proofs.Falls.{falls, stops}
 use Rattle.arc_plain.proofs.Free.{finds_free}
-use Rattle.arc_plain.proofs.Keeps.{all_keep}
-use Rattle.arc_plain.proofs.Places.{there, may_step}
+use Rattle.arc_plain.proofs.Keeps.{all_keep, chain_here, fields_few}
+use Rattle.arc_plain.proofs.Places.{there, may_make, may_step}
 
 -- ---- how many steps a thread has left at most
 
@@ -70,12 +79,12 @@ counted_few None w (attempt.Exchanging seen new) = go (eqb w seen)
     go false = omega arith
 counted_few None w attempt.Ended = omega arith
 
-search_few : (words : List ℕ) (l : Extent) (a : Search) → search_left words l a ≤ words_of l.slots + 16
+search_few : (words : List ℕ) (l : Extent) (a : Search) → search_left words l a ≤ words_of l.slots + 25
 search_few words l search.Start = omega arith
 search_few words l (search.Looking k) = omega arith
 search_few words l (search.Taking s seen) = go (eqb (bit_and (slice_index words (number l (SlotBits (s / 64)))) (bit_of s)) 0)
   where
-    go : (b : Bool) → cond b 13 (words_of l.slots + 16) ≤ words_of l.slots + 16
+    go : (b : Bool) → cond b 22 (words_of l.slots + 25) ≤ words_of l.slots + 25
     go true = omega arith
     go false = omega arith
 search_few words l (search.Counting s) = omega arith
@@ -86,34 +95,62 @@ finish_few : (entry : Option ℕ) (w : ℕ) (a : AttemptAt) → finish_left entr
 finish_few (Some e) w a = omega arith
 finish_few None w a = attempt_few w a
 
-cascade_few : (words : List ℕ) (a : At) → cascade_left words a ≤ 6
-cascade_few words at.Start = omega arith
-cascade_few words at.Entering = omega arith
-cascade_few words at.Naming = omega arith
-cascade_few words (at.Named name) = omega arith
-cascade_few words (at.Looking name field) = omega arith
-cascade_few words (at.Taking name field place) = omega arith
-cascade_few words (at.Dropping name field drop) = omega arith
-cascade_few words at.Leaving = omega arith
-cascade_few words (at.Finishing parent p) = let h = finish_few p.entry (count_at words p.layout p.slot) p.at in omega arith
-cascade_few words (at.Ending parent end) = omega arith
-cascade_few words (at.Resuming field) = omega arith
-cascade_few words at.Ended = omega arith
+drop_few : (words : List ℕ) (a : DropAt) → drop_left words a ≤ 28
+drop_few words drops.Start = omega arith
+drop_few words (drops.Counting p) = let h = counted_few p.entry (count_at words p.layout p.slot) p.at in omega arith
+drop_few words (drops.InEntry p) = omega arith
+drop_few words (drops.Ending p) = omega arith
+drop_few words drops.Returning = omega arith
+drop_few words drops.Ended = omega arith
 
-doing_few : (words : List ℕ) (t : Thread) (d : Doing) → t.layout.slots ≤ 4096 → t.layout.globals ≤ 64 → length t.program ≤ 100000 → length t.vars ≤ 256 → IsAtWork t.layout t.shape (length t.vars) d → doing_left words t d ≤ 2 ^ 40
-doing_few words t doings.Ready slots globals program vars under = omega arith
-doing_few words t (doings.Making to name plan) slots globals program vars under =
-    let h = held_few t.vars in let k = search_few words plan.layout plan.at in let same : plan.layout.slots ≡ t.layout.slots = ap (λ (l : Extent). l.slots) under.1 in omega arith
-doing_few words t (doings.Gaining gain to from plan) slots globals program vars under = let h = held_few t.vars in let k = counted_few plan.entry (count_at words plan.layout plan.slot) plan.at in omega arith
-doing_few words t (doings.Naming to held plan) slots globals program vars under = let h = held_few t.vars in omega arith
-doing_few words t (doings.Opening to cell plan) slots globals program vars under = let h = held_few t.vars in let k = attempt_few (slice_index words plan.place) plan.at in omega arith
-doing_few words t (doings.Closing to cell held plan) slots globals program vars under = let h = held_few t.vars in omega arith
-doing_few words t (doings.Setting from cell plan) slots globals program vars under = let h = held_few t.vars in let k = attempt_few (slice_index words plan.place) plan.at in omega arith
-doing_few words t (doings.Clearing plan) slots globals program vars under = let h = held_few t.vars in let k = attempt_few (slice_index words plan.place) plan.at in omega arith
-doing_few words t (doings.Dropping held plan) slots globals program vars under = let h = held_few t.vars in let k = counted_few plan.entry (count_at words plan.layout plan.slot) plan.at in omega arith
-doing_few words t (doings.Dying c) slots globals program vars under = let h = held_few t.vars in let k = cascade_few words c.at in omega arith
-doing_few words t (doings.Vacating slot plan) slots globals program vars under = let h = held_few t.vars in omega arith
-doing_few words t doings.Ended slots globals program vars under = omega arith
+deinit_few : (words : List ℕ) (shape : HeapShape) (a : At) → ((name : ObjectName) → field_count shape name ≤ 8) → deinit_left words shape a ≤ 41
+deinit_few words shape at.Start few = omega arith
+deinit_few words shape at.Entering few = omega arith
+deinit_few words shape at.Naming few = omega arith
+deinit_few words shape (at.Named name) few = omega arith
+deinit_few words shape (at.Looking name field) few = let n = few name in omega arith
+deinit_few words shape (at.Taking name field place) few = let n = few name in omega arith
+deinit_few words shape (at.Dropping name field drop) few = let n = few name in let h = drop_few words drop.at in omega arith
+deinit_few words shape at.Leaving few = omega arith
+deinit_few words shape (at.Finishing parent p) few = let h = finish_few p.entry (count_at words p.layout p.slot) p.at in omega arith
+deinit_few words shape (at.Ending parent end) few = omega arith
+deinit_few words shape (at.Resuming field) few = omega arith
+deinit_few words shape at.Ended few = omega arith
+
+-- no more deinits wait than the thread took references out of fields
+dying_few : (words : List ℕ) (chain : List Frame) (t : Thread) (c : CascadeState) → ((name : ObjectName) → field_count c.shape name ≤ 8) → taken_for chain (doings.Dying c) ≤ t.taken → t.taken ≤ 2 ^ 31 → cascade_left words c.shape chain c.at ≤ 2 ^ 36
+dying_few words chain t c few waits taken = let own = deinit_few words c.shape c.at few in omega (arith, own, waits, taken)
+
+-- the size of a thread of a script
+record IsSmall (t : Thread) : Type 0 where
+  slots : t.layout.slots ≤ 4096
+  globals : t.layout.globals ≤ 64
+  program : length t.program ≤ 100000
+  vars : length t.vars ≤ 256
+  taken : t.taken ≤ 2 ^ 31
+  fields : (name : ObjectName) → field_count t.shape name ≤ 8
+
+-- all that is owed for its operations, its variables and the globals
+busy_few : (t : Thread) → IsSmall t → 4200 * busy_units t ≤ 2 ^ 38
+busy_few t small = let slots = small.slots in let globals = small.globals in let program = small.program in let vars = small.vars in let h = held_few t.vars in omega arith
+
+doing_few : (words : List ℕ) (chain : List Frame) (t : Thread) (d : Doing) → IsSmall t → IsAtWork t.layout t.shape (length t.vars) d → taken_for chain d ≤ t.taken → doing_left words chain t d ≤ 2 ^ 39
+doing_few words chain t doings.Ready small under waits = omega arith
+doing_few words chain t (doings.Making to name plan) small under waits =
+    let h = busy_few t small in let k = search_few words plan.layout plan.at in let few = small.slots in let same : plan.layout.slots ≡ t.layout.slots = ap (λ (l : Extent). l.slots) under.1 in omega arith
+doing_few words chain t (doings.Gaining gain to from plan) small under waits = let h = busy_few t small in let k = counted_few plan.entry (count_at words plan.layout plan.slot) plan.at in omega arith
+doing_few words chain t (doings.Naming to held plan) small under waits = let h = busy_few t small in omega arith
+doing_few words chain t (doings.Opening to cell plan) small under waits = let h = busy_few t small in let k = attempt_few (slice_index words plan.place) plan.at in omega arith
+doing_few words chain t (doings.Closing to cell held plan) small under waits = let h = busy_few t small in omega arith
+doing_few words chain t (doings.Setting from cell plan) small under waits = let h = busy_few t small in let k = attempt_few (slice_index words plan.place) plan.at in omega arith
+doing_few words chain t (doings.Clearing plan) small under waits = let h = busy_few t small in let k = attempt_few (slice_index words plan.place) plan.at in omega arith
+doing_few words chain t (doings.Dropping held plan) small under waits = let h = busy_few t small in let k = counted_few plan.entry (count_at words plan.layout plan.slot) plan.at in omega arith
+doing_few words chain t (doings.Dying c) small under waits =
+    let h = busy_few t small in
+    let k = dying_few words chain t c (subst (λ (shape : HeapShape). (name : ObjectName) → field_count shape name ≤ 8) (sym under.1) small.fields) waits small.taken in
+    omega arith
+doing_few words chain t (doings.Vacating slot plan) small under waits = let h = busy_few t small in omega arith
+doing_few words chain t doings.Ended small under waits = omega arith
 
 declared_few : (classes : _) (globals : _) (ts : List ThreadDecl) (i : ℕ) → AllByRecursion (IsThread classes globals) ts → count_of_vars (slice_get ts i) ≤ 256
 declared_few classes globals [] i all = omega arith
@@ -130,13 +167,27 @@ vars_few script p valid = go (eqb p 0)
     go true = omega arith
     go false = declared_few script.classes script.globals script.threads (p - 1) valid.threads
 
-pub left_few : (n : ℕ) (c : Progress) (p : ℕ) → IsAtStage n c → p < length c.stage.threads → left c.stage.words (thread_at p c) ≤ 2 ^ 40
+-- how many steps thread p has left
+abbrev pub left_at : (n p : ℕ) (c : Progress) → IsAtStage n c → ℕ
+left_at n p c u = left c.stage.words (chains_at u.reached p) (thread_at p c)
+
+pub left_few : (n : ℕ) (c : Progress) (p : ℕ) (u : IsAtStage n c) → p < length c.stage.threads → left_at n p c u ≤ 2 ^ 40
 left_few n c p u lt =
     let s = u.steppers p (stepper_of c.script p) lt in
     let k = all_keep c.script u.script u.served n c.stage u.reached p (thread_at p c) (there c p lt) in
+    let work = threads_are_at_work c.script n c.stage p (thread_at p c) u.script u.served u.reached (there c p lt) in
     let vars = vars_few c.script p u.script in
     let count = k.count in
-    doing_few c.stage.words (thread_at p c) (thread_at p c).doing s.slots s.globals s.few (omega arith) s.under_way
+    let small : IsSmall (thread_at p c) = record {
+      slots = s.slots;
+      globals = s.globals;
+      program = s.few;
+      vars = omega arith;
+      taken = s.taken;
+      fields = subst (λ (shape : HeapShape). (name : ObjectName) → field_count shape name ≤ 8) (sym work.shape) (fields_few c.script u.script);
+    } in
+    let few = doing_few c.stage.words (chains_at u.reached p) (thread_at p c) (thread_at p c).doing small s.under_way k.waits in
+    omega arith
 
 -- ---- the steps of a phase
 
@@ -150,7 +201,7 @@ pub record Alone (p : ℕ) (before c : Progress) : Type 0 where
   pub begun : c.stage.begun ≡ before.stage.begun
   pub places : c.stage.places ≡ before.stage.places
   pub others : (q : ℕ) → q ≢ p → slice_get c.stage.threads q ≡ slice_get before.stage.threads q
-  pub bound : c.stage.steps + left c.stage.words (thread_at p c) ≤ before.stage.steps + 2 ^ 40
+  pub bound : c.stage.steps + left_at 0 p c under_way ≤ before.stage.steps + 2 ^ 40
   pub begun_once : (awaits_phase (thread_at p before) ≡ true → 1 ≤ (thread_at p before).phase) → awaits_phase (thread_at p c) ≡ true → 1 ≤ (thread_at p c).phase
 
 pub alone_first : (p : ℕ) (c : Progress) → IsUnderWay c → p < length c.stage.threads → MayGoOn p c → IsAlone p c → Alone p c c
@@ -182,22 +233,50 @@ after p c step = turned (thread_at p c) (Some (found_by step c.stage.words))
 now : (p : ℕ) (c : Progress) (step : Step) → p < length c.stage.threads → thread_at p (has_made p step c) ≡ after p c step
 now p c step lt = get_or-set_same c.stage.threads p (after p c step) (stepper_of c.script p) lt
 
-goes_on : (n : ℕ) (p : ℕ) (c : Progress) (step : Step) (intent : Intent) → IsAtStage n c → p < length c.stage.threads → (thread_at p c).asked ≡ moves.Step step intent →
-    Goes (thread_at p c) c.stage.words (made_by step c.stage.words) (thread_at p c).doing (after p c step)
+-- and its deinits that wait are these then
+abbrev chain_then : (n p : ℕ) (c : Progress) → IsAtStage n c → Step → List Frame
+chain_then n p c u step = chain_after (thread_at p c) (Some (found_by step c.stage.words)) (chains_at u.reached p)
+
+goes_on : (n : ℕ) (p : ℕ) (c : Progress) (step : Step) (intent : Intent) (u : IsAtStage n c) → p < length c.stage.threads → (thread_at p c).asked ≡ moves.Step step intent →
+    GoesUnder (thread_at p c) c.stage.words (chains_at u.reached p) (made_by step c.stage.words) (chain_then n p c u step) (thread_at p c).doing (after p c step)
 goes_on n p c step intent u lt asked =
-    falls c.script.shape (thread_at p c) c.stage.words step intent u.served.without_fields (u.steppers p (stepper_of c.script p) lt) (threads_are_at_work c.script n c.stage p (thread_at p c) u.script u.served u.reached (there c p lt)).asks asked
+    falls c.script.shape (thread_at p c) c.stage.words (chains_at u.reached p) step intent (fields_few c.script u.script) (u.steppers p (stepper_of c.script p) lt) (may_make n c p step intent u lt asked).takes_it.1
+    (threads_are_at_work c.script n c.stage p (thread_at p c) u.script u.served u.reached (there c p lt)).asks asked
+
+-- How many steps it may still make by the bound of a phase. Each step that it makes makes this smaller.
+abbrev pub steps_left : (before c : Progress) → ℕ
+steps_left before c = before.stage.steps + 2 ^ 40 - c.stage.steps
+
+-- the stage that it comes to
+record StepReached (n p : ℕ) (c : Progress) (step : Step) (u : IsAtStage n c) : Type 0 where
+  reached : Reached c.script n (has_made p step c).stage
+  chain_is : chains_at reached p ≡ chain_then n p c u step
+
+alone_reached : (p : ℕ) (before c : Progress) (step : Step) (intent : Intent) (a : Alone p before c) → (thread_at p c).asked ≡ moves.Step step intent → StepReached 0 p c step a.under_way
+alone_reached zero before c step intent a asked = record { reached = last_step step intent a.under_way.reached (may_step 0 c 0 step intent a.under_way a.within asked); chain_is = refl }
+alone_reached (suc n) before c step intent a asked =
+    let m = a.may (is_asked (thread_at (suc n) c).asked step intent asked) (omega arith) in
+    record {
+      reached = by_number step intent a.under_way.reached m.0 (omega arith) m.1 a.alone (may_step 0 c (suc n) step intent a.under_way a.within asked);
+      chain_is = chain_here (suc n) (chain_then 0 (suc n) c a.under_way step) (chains_at a.under_way.reached);
+    }
+
+-- it has fewer steps left there
+less_then : (n p : ℕ) (c : Progress) (step : Step) (intent : Intent) (u : IsAtStage n c) → p < length c.stage.threads → (thread_at p c).asked ≡ moves.Step step intent → FindsFree c.stage.words (thread_at p c).doing → (r : StepReached n p c step u) →
+    left (made_by step c.stage.words) (chains_at r.reached p) (thread_at p (has_made p step c)) < left_at n p c u
+less_then n p c step intent u lt asked free r = rw (now p c step lt, r.chain_is) ((goes_on n p c step intent u lt asked).fewer free)
 
 -- the thread makes a step, and has fewer left
 pub alone_on : (p : ℕ) (before c : Progress) (step : Step) (intent : Intent) → Alone p before c → (thread_at p c).asked ≡ moves.Step step intent → All IsStepper (has_made p step c).stage.threads →
-    Alone p before (has_made p step c) × (left (made_by step c.stage.words) (thread_at p (has_made p step c)) < left c.stage.words (thread_at p c))
+    Alone p before (has_made p step c) × (steps_left before (has_made p step c) < steps_left before c)
 alone_on p before c step intent a asked steppers =
+    let r = alone_reached p before c step intent a asked in
     let goes = goes_on 0 p c step intent a.under_way a.within asked in
-    let fewer = goes.fewer (finds_free 0 c p a.under_way a.within a.alone) in
+    let less = less_then 0 p c step intent a.under_way a.within asked (finds_free 0 c p a.under_way a.within a.alone) r in
     let bound = a.bound in
-    let is = now p c step a.within in
-    let less : left (made_by step c.stage.words) (thread_at p (has_made p step c)) < left c.stage.words (thread_at p c) = rw is fewer in (
+    let is = now p c step a.within in (
       record {
-        under_way = record { script = a.under_way.script; served = a.under_way.served; reached = reached p refl; steppers = steppers };
+        under_way = record { script = a.under_way.script; served = a.under_way.served; reached = r.reached; steppers = steppers };
         within = rw length-set a.within;
         may = λ h p1. let m = a.may (is_asked (thread_at p c).asked step intent asked) p1 in (m.0, λ q x q1 lt at. m.1 q x q1 lt (sym (set_apart c.stage.threads p q (after p c step) (λ e. omega arith)) ∙ at));
         alone = λ q x q1 ne at. a.alone q x q1 ne (sym (set_apart c.stage.threads p q (after p c step) ne) ∙ at);
@@ -208,15 +287,11 @@ alone_on p before c step intent a asked steppers =
         bound = omega arith;
         begun_once = λ h w. rw is (came_to (thread_at p c).phase (after p c step).phase (after p c step).asked (rw is at w) goes.phase);
       },
-      less,
+      omega arith,
     )
-  where
-    reached : (n : ℕ) → p ≡ n → Reached c.script 0 (has_made p step c).stage
-    reached zero e = subst (λ (k : ℕ). MayStep c.stage k (thread_at p c) step intent → Reached c.script 0 (stepped k (thread_at p c) step c.stage)) (sym e) (λ m. last_step step intent a.under_way.reached m) (may_step 0 c p step intent a.under_way a.within asked)
-    reached (suc n) e = let m = a.may (is_asked (thread_at p c).asked step intent asked) (omega arith) in by_number step intent a.under_way.reached m.0 (omega arith) m.1 a.alone (may_step 0 c p step intent a.under_way a.within asked)
 
 pub alone_made : (p : ℕ) (before c c' : Progress) (step : Step) (intent : Intent) → Alone p before c → (thread_at p c).asked ≡ moves.Step step intent → c' ≡ has_made p step c → All IsStepper c'.stage.threads →
-    Alone p before c' × (left c'.stage.words (thread_at p c') < left c.stage.words (thread_at p c))
+    Alone p before c' × (steps_left before c' < steps_left before c)
 alone_made p before c c' step intent a asked is steppers = rw is (alone_on p before c step intent a asked (rw is at steppers))
 
 -- the thread has no step
@@ -236,7 +311,7 @@ alone_last p before c a idle =
 -- a thread without a step is inside no access
 pub idle_outside : (n : ℕ) (c : Progress) (p : ℕ) → IsAtStage n c → p < length c.stage.threads → has_step (thread_at p c) ≡ false → in_access (thread_at p c) ≡ false
 idle_outside n c p u lt idle =
-    go (thread_at p c).doing (stops c.script.shape (thread_at p c) (thread_at p c).doing (threads_are_at_work c.script n c.stage p (thread_at p c) u.script u.served u.reached (there c p lt)).asks idle)
+    go (thread_at p c).doing (stops c.script.shape (chains_at u.reached p) (thread_at p c) (thread_at p c).doing (threads_are_at_work c.script n c.stage p (thread_at p c) u.script u.served u.reached (there c p lt)).asks idle)
   where
     go : (d : Doing) → is_busy d ≡ false → is_accessing d ≡ false
     go doings.Ready e = refl
@@ -264,7 +339,7 @@ pub record Ending (p : ℕ) (before c : Progress) : Type 0 where
   pub begun : c.stage.begun ≡ before.stage.begun
   pub places : c.stage.places ≡ before.stage.places
   pub others : (q : ℕ) → q ≢ p → slice_get c.stage.threads q ≡ slice_get before.stage.threads q
-  pub bound : c.stage.steps + left c.stage.words (thread_at p c) ≤ before.stage.steps + 2 ^ 40
+  pub bound : c.stage.steps + left_at p p c at_stage ≤ before.stage.steps + 2 ^ 40
   pub past : IsBehindCells (thread_at p c) (thread_at p c).doing
 
 pub ending_first : (p : ℕ) (c : Progress) → IsUnderWay c → p < length c.stage.threads → MayEnd p c → Ending p c c
@@ -342,22 +417,23 @@ ending_past p before c a busy = go (thread_at p c).doing a.past
     go (doings.Vacating slot plan) h = tt
     go doings.Ended h = tt
 
+ending_reached : (p : ℕ) (before c : Progress) (step : Step) (intent : Intent) (a : Ending p before c) → in_operation (thread_at p c) ≡ true → (thread_at p c).asked ≡ moves.Step step intent → StepReached p p c step a.at_stage
+ending_reached p before c step intent a busy asked = record {
+  reached = ends_it step intent a.at_stage.reached a.other (may_step p c p step intent a.at_stage a.within asked) busy;
+  chain_is = chain_here p (chain_then p p c a.at_stage step) (chains_at a.at_stage.reached);
+}
+
 pub ending_on : (p : ℕ) (before c : Progress) (step : Step) (intent : Intent) → Ending p before c → in_operation (thread_at p c) ≡ true → (thread_at p c).asked ≡ moves.Step step intent → All IsStepper (has_made p step c).stage.threads →
-    Ending p before (has_made p step c) × (left (made_by step c.stage.words) (thread_at p (has_made p step c)) < left c.stage.words (thread_at p c))
+    Ending p before (has_made p step c) × (steps_left before (has_made p step c) < steps_left before c)
 ending_on p before c step intent a busy asked steppers =
+    let r = ending_reached p before c step intent a busy asked in
     let goes = goes_on p p c step intent a.at_stage a.within asked in
     let past = ending_past p before c a busy in
-    let fewer = goes.fewer (past_free c.stage.words (thread_at p c).doing past) in
+    let less = less_then p p c step intent a.at_stage a.within asked (past_free c.stage.words (thread_at p c).doing past) r in
     let bound = a.bound in
-    let is = now p c step a.within in
-    let less : left (made_by step c.stage.words) (thread_at p (has_made p step c)) < left c.stage.words (thread_at p c) = rw is fewer in (
+    let is = now p c step a.within in (
       record {
-        at_stage = record {
-          script = a.at_stage.script;
-          served = a.at_stage.served;
-          reached = ends_it step intent a.at_stage.reached a.other (may_step p c p step intent a.at_stage a.within asked) busy;
-          steppers = steppers;
-        };
+        at_stage = record { script = a.at_stage.script; served = a.at_stage.served; reached = r.reached; steppers = steppers };
         other = a.other;
         followed = a.followed;
         within = rw length-set a.within;
@@ -368,11 +444,11 @@ ending_on p before c step intent a busy asked steppers =
         bound = omega arith;
         past = rw is (goes.past past);
       },
-      less,
+      omega arith,
     )
 
 pub ending_made : (p : ℕ) (before c c' : Progress) (step : Step) (intent : Intent) → Ending p before c → in_operation (thread_at p c) ≡ true → (thread_at p c).asked ≡ moves.Step step intent → c' ≡ has_made p step c → All IsStepper c'.stage.threads →
-    Ending p before c' × (left c'.stage.words (thread_at p c') < left c.stage.words (thread_at p c))
+    Ending p before c' × (steps_left before c' < steps_left before c)
 ending_made p before c c' step intent a busy asked is steppers = rw is (ending_on p before c step intent a busy asked (rw is at steppers))
 
 -- its operation is over, and with it the access
@@ -418,7 +494,7 @@ ending_last p before c a over =
 pub ending_steps : (p : ℕ) (before c : Progress) → Ending p before c → in_operation (thread_at p c) ≡ true → is_step (thread_at p c).asked ≡ false → ⊥
 ending_steps p before c a busy idle =
     let at = (op_busy (is_busy (thread_at p c).doing) (thread_at p c).first (ltb (thread_at p c).index (length (thread_at p c).program)) busy).0 in
-    let none = stops c.script.shape (thread_at p c) (thread_at p c).doing (threads_are_at_work c.script p c.stage p (thread_at p c) a.at_stage.script a.at_stage.served a.at_stage.reached (there c p a.within)).asks idle in
+    let none = stops c.script.shape (chains_at a.at_stage.reached p) (thread_at p c) (thread_at p c).doing (threads_are_at_work c.script p c.stage p (thread_at p c) a.at_stage.script a.at_stage.served a.at_stage.reached (there c p a.within)).asks idle in
     cc
 
 -- a thread that is inside none has none to end

@@ -1,8 +1,8 @@
 -- Where no thread is inside an access, no cell is accessed, so that a thread that waits for one goes on.
-use Rattle.std.proofs.Common.{◌≡◌, ◌≢◌, ℕ, zero, suc, ◌+◌, ◌≤◌, ◌<◌, Bool, true, false, length, List, [], ◌∷◌, Option, Some, None, refl, sym, ap, ◌∙◌, subst, arith}
+use Rattle.std.proofs.Common.{◌≡◌, ◌≢◌, ℕ, zero, suc, ◌<◌, false, length, List, Some, None, refl, sym, ap, ◌∙◌, subst, arith}
 use native.Mathlib.Decide.{ℕ_discrete}
 use mathlib.Core.Logic.{dite}
-use Rattle.std.specs.Prelude.{All, slice_get, slice_index}
+use Rattle.std.specs.Prelude.{slice_get, slice_index}
 use Rattle.std.proofs.lemmas.Option.{slice_get_within}
 use Rattle.arc_model.specs.declared.event.CellName.{CellName}
 use Rattle.arc_model.specs.declared.event.CellName.TheVariants as cells
@@ -19,7 +19,7 @@ use Rattle.arc_ops.specs.Steppers.{IsStepper, IsUnderWay as IsAtWork, IsInOperat
 use Rattle.arc_ops.specs.declared.stepper.Doing.{Doing}
 use Rattle.arc_ops.specs.declared.stepper.Doing.TheVariants as doings
 use Rattle.arc_ops_passes.specs.Drives.{Asks}
-use Rattle.arc_replays.specs.Stages.{Stage, Reached, IsNoneBut}
+use Rattle.arc_replays.specs.Stages.{Stage, Reached, chains_at}
 use Rattle.arc_replays.specs.Laws.{IsAtWork as IsWorking}
 use Rattle.arc_replays.proofs.Laws.{threads_are_at_work}
 use Rattle.arc_replays.proofs.Holds.{reached_holds}
@@ -30,7 +30,7 @@ use Rattle.arc_plain.proofs.Cells.{cells_are_shown}
 
 cells_are_free : (script : Script) (n : ℕ) (s : Stage) → IsScript script → IsServed script → Reached script n s → ((p : ℕ) (t : Thread) → slice_get s.threads p ≡ Some t → in_access t ≡ false) →
     (c : CellName) → IsPlace (extent_of script.shape) (place_in c) → slice_index s.words (cell_number (extent_of script.shape) c) ≢ 1
-cells_are_free script n s valid served r out c is = cells_are_shown script.shape _ s.threads s.words _ (reached_holds script (λ k. None) valid served n s r).replaying out c is
+cells_are_free script n s valid served r out c is = cells_are_shown script.shape _ _ s.threads s.words _ (reached_holds script (λ k. None) valid served n s r).replaying out c is
 
 -- thread 0 has no operation, and so no access
 first_outside : (n : ℕ) (c : Progress) → IsAtStage n c → (t : Thread) → slice_get c.stage.threads 0 ≡ Some t → in_access t ≡ false
@@ -73,13 +73,13 @@ finds_free n c p u lt alone = go (thread_at p c).doing refl work.asks s.under_wa
     s : IsStepper (thread_at p c)
     s = u.steppers p (stepper_of c.script p) lt
 
-    work : IsWorking c.script p (thread_at p c)
+    work : IsWorking c.script p (thread_at p c) (chains_at u.reached p)
     work = threads_are_at_work c.script n c.stage p (thread_at p c) u.script u.served u.reached (there c p lt)
 
     free : is_accessing (thread_at p c).doing ≡ false → (x : CellName) → IsPlace (thread_at p c).layout (place_in x) → slice_index c.stage.words (cell_number (extent_of c.script.shape) x) ≢ 1
     free out x is = cells_are_free c.script n c.stage u.script u.served u.reached (all_outside n c p u alone lt out) x (subst (λ l. IsPlace l (place_in x)) work.layout is)
 
-    go : (d : Doing) → (thread_at p c).doing ≡ d → Asks c.script.shape (thread_at p c) d → IsAtWork (thread_at p c).layout (thread_at p c).shape (length (thread_at p c).vars) d → IsInOperation (thread_at p c) d → FindsFree c.stage.words d
+    go : (d : Doing) → (thread_at p c).doing ≡ d → Asks c.script.shape (chains_at u.reached p) (thread_at p c) d → IsAtWork (thread_at p c).layout (thread_at p c).shape (length (thread_at p c).vars) d → IsInOperation (thread_at p c) d → FindsFree c.stage.words d
     go doings.Ready e a w o = tt
     go (doings.Making to name plan) e a w o = tt
     go (doings.Gaining gain to from plan) e a w o = tt

@@ -1,5 +1,7 @@
 mod Alone
 mod Cells
+mod Goes
+mod Dies
 mod Falls
 mod Free
 mod Keeps

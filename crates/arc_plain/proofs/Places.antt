@@ -12,7 +12,7 @@ use Rattle.arc_ops.specs.Thread.{Thread, stepper_of}
 use Rattle.arc_ops.specs.Turns.{turned}
 use Rattle.arc_ops.specs.Steppers.{IsStepper}
 use Rattle.arc_replays.specs.Laws.{MayBeMade}
-use Rattle.arc_replays.specs.Stages.{MayStep, IsSome, has_step, is_step, is_phase_end, awaits_phase}
+use Rattle.arc_replays.specs.Stages.{MayStep, IsSome, has_step, is_step, is_phase_end, awaits_phase, chains_at}
 use Rattle.arc_replays.specs.Stages.Reached.{makes, passes}
 use Rattle.arc_plain.specs.Crews.{Progress, IsAtStage, IsUnderWay, IsInPhases, AreFollowed, PlaceFollowed, thread_at, has_made, place_used, steps_asked, step_count}
 use Rattle.arc_replays.proofs.Laws.{stages_are_whole, steps_may_be_made}
@@ -26,7 +26,7 @@ pub is_at : (c : Progress) (p : ℕ) (t : Thread) → slice_get c.stage.threads 
 is_at c p t at = get_or_from_slice_get c.stage.threads p t (stepper_of c.script p) at
 
 -- a step that a thread asks for may be made
-pub may_make : (n : ℕ) (c : Progress) (p : ℕ) (step : Step) (intent : Intent) → IsAtStage n c → p < length c.stage.threads → (thread_at p c).asked ≡ moves.Step step intent → MayBeMade c.stage (thread_at p c) step
+pub may_make : (n : ℕ) (c : Progress) (p : ℕ) (step : Step) (intent : Intent) (u : IsAtStage n c) → p < length c.stage.threads → (thread_at p c).asked ≡ moves.Step step intent → MayBeMade c.stage (thread_at p c) (chains_at u.reached p) step
 may_make n c p step intent u lt asked = steps_may_be_made c.script n c.stage p (thread_at p c) step intent u.script u.served u.reached (there c p lt) (u.steppers p (stepper_of c.script p) lt) asked
 
 pub may_step : (n : ℕ) (c : Progress) (p : ℕ) (step : Step) (intent : Intent) → IsAtStage n c → p < length c.stage.threads → (thread_at p c).asked ≡ moves.Step step intent → MayStep c.stage p (thread_at p c) step intent

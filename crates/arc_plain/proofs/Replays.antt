@@ -63,7 +63,8 @@ replay_of before c r d threads end events words steps =
       words = words;
       steps = steps;
       history = rw (threads, end, events, words) w.history;
-      left = rw words w.left;
+      no_entries = rw words w.no_entries;
+      left = λ none lead. rw words (w.left none lead);
       bound = let few = d.few in omega arith;
       lines_fit = rw threads w.lines_fit;
       end_fits = rw end w.end_fits;

@@ -4,7 +4,7 @@ use Rattle.arc_script.specs.declared.script.Script.{Script}
 use Rattle.arc_script.specs.Valid.{IsScript}
 use Rattle.arc_rule.specs.declared.step.Step.{Step}
 use Rattle.arc_served.specs.Served.{IsServed}
-use Rattle.arc_ops.specs.Thread.{Thread, stepper_of, in_access, in_operation}
+use Rattle.arc_ops.specs.Thread.{Thread, stepper_of, in_access}
 use Rattle.arc_ops.specs.Turns.{turned}
 use Rattle.arc_ops.specs.Steppers.{IsStepper}
 use Rattle.arc_ops.specs.declared.stepper.Move.{Move}

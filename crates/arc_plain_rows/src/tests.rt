@@ -1,7 +1,8 @@
 //! Tests: replays that were worked out by hand, step by step.
 
 use crate::blocks::BLOCKS;
-use crate::globals::GLOBALS;
+use crate::fields::{FIELDS, SHARED_FIELDS};
+use crate::globals::{GLOBALS, GlobalRow};
 use crate::lives::LIVES;
 use crate::rows::Row;
 use crate::schedules::SCHEDULES;
@@ -144,19 +145,29 @@ fn check_end_lines(
     Ok(())
 }
 
-#[test]
-fn replays_with_globals_are_as_worked_out(rt: HostRuntime) -> Result<(), Fail> {
-    let alloc = rt.alloc();
-    for global in GLOBALS {
+fn check_global_rows(rt: &impl Abort, alloc: Global, rows: &[GlobalRow]) -> Result<(), Fail> {
+    for global in rows {
         let row = &global.row;
-        let replay = replay_of(&rt, alloc, row.text)?;
-        check_events(&rt, alloc, &replay.events, row)?;
-        check_threads(&rt, alloc, &replay.threads, row)?;
-        check_end_lines(&rt, alloc, &replay, global.end)?;
-        check_bits(&rt, &replay, &[row.taken]);
+        let replay = replay_of(rt, alloc, row.text)?;
+        check_events(rt, alloc, &replay.events, row)?;
+        check_threads(rt, alloc, &replay.threads, row)?;
+        check_end_lines(rt, alloc, &replay, global.end)?;
+        check_bits(rt, &replay, &[row.taken]);
         assert_eq!(rt; replay.steps, row.steps, "the steps of {:?}", row.text);
     }
     Ok(())
+}
+
+#[test]
+fn replays_with_globals_are_as_worked_out(rt: HostRuntime) -> Result<(), Fail> {
+    check_global_rows(&rt, rt.alloc(), GLOBALS)
+}
+
+#[test]
+fn replays_with_fields_are_as_worked_out(rt: HostRuntime) -> Result<(), Fail> {
+    let alloc = rt.alloc();
+    check_rows(&rt, alloc, FIELDS)?;
+    check_global_rows(&rt, alloc, SHARED_FIELDS)
 }
 
 /// A script of 64 slots and 64 threads, each of which makes an object and ends; turn about as often as is said.

@@ -7,12 +7,12 @@ use Rattle.arc_model.specs.declared.event.CellName.TheVariants as cells
 use Rattle.arc_model.specs.declared.event.ObjectName.{ObjectName}
 use Rattle.arc_model.specs.declared.shape.Kind.{Kind}
 use Rattle.arc_model.specs.Shapes.{HeapShape}
-use Rattle.arc_model.specs.Spelling.{Note, is_fact, FieldsDone, IsEnd, IsDrop, IsCascade}
-use Rattle.arc_model.specs.Spelling.Note.{Did, Line, Operation, Name, Entry, NeedsEntry, Nil, Refers}
-use Rattle.arc_model.specs.Spelling.IsEnd.{inline, gone_more, gone_last}
-use Rattle.arc_model.specs.Spelling.FieldsDone.{named, noted, nil, taken}
-use Rattle.arc_model.specs.Spelling.IsDrop.{more, last_strong, last_unowned, last_weak}
-use Rattle.arc_model.specs.Spelling.IsCascade.{finish_more, finish_last}
+use Rattle.arc_spelling.specs.Spelling.{Note, is_fact, FieldsDone, IsEnd, IsDrop, IsCascade}
+use Rattle.arc_spelling.specs.Spelling.Note.{Did, Line, Operation, Name, Entry, NeedsEntry, Nil, Refers}
+use Rattle.arc_spelling.specs.Spelling.IsEnd.{inline, gone_more, gone_last}
+use Rattle.arc_spelling.specs.Spelling.FieldsDone.{named, noted, nil, taken}
+use Rattle.arc_spelling.specs.Spelling.IsDrop.{more, last_strong, last_unowned, last_weak}
+use Rattle.arc_spelling.specs.Spelling.IsCascade.{finish_more, finish_last}
 use Rattle.arc_script.specs.declared.script.Op.{Op}
 use Rattle.arc_programs.specs.Variables.{Held, Variables, value, put}
 use Rattle.arc_programs.specs.Programs.{Hands, Replaces, IsAnswered, OpsDone, ScopeEnds}

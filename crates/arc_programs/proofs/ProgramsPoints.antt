@@ -15,12 +15,13 @@ use Rattle.arc_model.specs.WellFormed.{more, total}
 use Rattle.arc_model.specs.Effects.{made, owing_none, effect, ended_if, given_up, entry_to, finished, vacated, left_slot, gone, becomes, put_in, taken_out, claimed_if, entry_left}
 use Rattle.arc_model.specs.History.{History, heap_after, share, is_of, sight}
 use Rattle.arc_model.specs.Needs.{needs}
-use Rattle.arc_model.specs.Spelling.{Note, one_more_if}
-use Rattle.arc_model.specs.Spelling.Note.{Did, Line, Operation, Name, Entry, NeedsEntry, Nil, Refers}
-use Rattle.arc_model.specs.SpellingTies.{Causes, Holds, Ties, name_of}
-use Rattle.arc_model.specs.SpellingTies.Ties.{start, own, other, noted}
+use Rattle.arc_spelling.specs.Spelling.{Note, one_more_if}
+use Rattle.arc_spelling.specs.Spelling.Note.{Did, Line, Operation, Name, Entry, NeedsEntry, Nil, Refers}
+use Rattle.arc_spelling.specs.SpellingTies.{Causes, Holds, Ties}
+use Rattle.arc_model.specs.References.{name_of}
+use Rattle.arc_spelling.specs.SpellingTies.Ties.{start, own, other, noted}
 use Rattle.arc_model.proofs.Basics.{met, opposite}
-use Rattle.arc_model.proofs.SpellTies.{ties_others, causes_left_aside}
+use Rattle.arc_spelling.proofs.SpellTies.{ties_others, causes_left_aside}
 use Rattle.arc_model.proofs.Keeps.{by_times, made-total}
 use Rattle.arc_model.proofs.Turns.{total-append}
 use Rattle.arc_programs.specs.Programs.{makes, made_of}

@@ -8,13 +8,13 @@ use Rattle.arc_model.specs.declared.event.ObjectName.{ObjectName}
 use Rattle.arc_model.specs.declared.shape.Kind.{Kind}
 use Rattle.arc_model.specs.declared.shape.Kind.TheVariants.{Weak}
 use Rattle.arc_model.specs.Shapes.{HeapShape}
-use Rattle.arc_model.specs.Spelling.{Note, hands_of, IsEnd, IsDrop, IsCascade}
-use Rattle.arc_model.specs.Spelling.Note.{Did, Line as Says, Operation}
-use Rattle.arc_model.specs.Spelling.IsEnd.{inline, gone_more, gone_last}
-use Rattle.arc_model.specs.Spelling.IsDrop.{more, last_strong, last_unowned, last_weak}
-use Rattle.arc_model.specs.Spelling.IsCascade.{finish_more, finish_last}
-use Rattle.arc_model.specs.SpellingGains.{IsRefused, may_claim}
-use Rattle.arc_model.specs.SpellingGains.IsRefused.{no_entry as entry_refused}
+use Rattle.arc_spelling.specs.Spelling.{Note, hands_of, IsEnd, IsDrop, IsCascade}
+use Rattle.arc_spelling.specs.Spelling.Note.{Did, Line as Says, Operation}
+use Rattle.arc_spelling.specs.Spelling.IsEnd.{inline, gone_more, gone_last}
+use Rattle.arc_spelling.specs.Spelling.IsDrop.{more, last_strong, last_unowned, last_weak}
+use Rattle.arc_spelling.specs.Spelling.IsCascade.{finish_more, finish_last}
+use Rattle.arc_spelling.specs.SpellingGains.{IsRefused, may_claim}
+use Rattle.arc_spelling.specs.SpellingGains.IsRefused.{no_entry as entry_refused}
 use Rattle.arc_script.specs.declared.answer.Line.{Line}
 use Rattle.arc_script.specs.declared.script.Op.{Op}
 use Rattle.arc_script.specs.declared.script.Op.TheVariants as op

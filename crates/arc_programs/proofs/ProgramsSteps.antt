@@ -9,11 +9,11 @@ use Rattle.arc_model.specs.declared.event.Origin.TheVariants as origins
 use Rattle.arc_model.specs.declared.event.Act.TheVariants as acts
 use Rattle.arc_model.specs.declared.shape.Kind.TheVariants.{Strong}
 use Rattle.arc_model.specs.Shapes.{HeapShape}
-use Rattle.arc_model.specs.Spelling.{Note, hands_of, IsDrop}
-use Rattle.arc_model.specs.Spelling.Note.{Did, Line, Operation}
-use Rattle.arc_model.specs.SpellingGains.Spare.{Unclaimed}
-use Rattle.arc_model.specs.SpellingGains.IsReady.{start as ready}
-use Rattle.arc_model.specs.SpellingGains.IsSettled.{unclaimed}
+use Rattle.arc_spelling.specs.Spelling.{Note, hands_of, IsDrop}
+use Rattle.arc_spelling.specs.Spelling.Note.{Did, Line, Operation}
+use Rattle.arc_spelling.specs.SpellingGains.Spare.{Unclaimed}
+use Rattle.arc_spelling.specs.SpellingGains.IsReady.{start as ready}
+use Rattle.arc_spelling.specs.SpellingGains.IsSettled.{unclaimed}
 use Rattle.arc_script.specs.declared.script.Op.{Op}
 use Rattle.arc_script.specs.declared.script.Op.TheVariants as op
 use Rattle.arc_script.specs.Valid.{begins_block}

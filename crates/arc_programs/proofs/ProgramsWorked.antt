@@ -10,20 +10,20 @@ use Rattle.arc_model.specs.declared.shape.Kind.{Kind}
 use Rattle.arc_model.specs.declared.shape.Kind.TheVariants.{Strong}
 use Rattle.arc_model.specs.Shapes.{HeapShape}
 use Rattle.arc_model.specs.History.{History, IsLegal}
-use Rattle.arc_model.specs.Spelling.{Note}
-use Rattle.arc_model.specs.Spelling.Note.{Did, Line, Operation, Name, Entry, NeedsEntry}
-use Rattle.arc_model.specs.Spelling.IsEnd.{inline, gone_last}
-use Rattle.arc_model.specs.Spelling.FieldsDone.{named}
-use Rattle.arc_model.specs.Spelling.IsDrop.{more, last_strong}
-use Rattle.arc_model.specs.Spelling.IsCascade.{finish_last}
-use Rattle.arc_model.specs.SpellingGains.Spare.{Unclaimed, Published}
-use Rattle.arc_model.specs.SpellingGains.IsReady.{start as ready, claimed, published}
-use Rattle.arc_model.specs.SpellingGains.IsSettled.{unclaimed, published as stays_published}
-use Rattle.arc_model.specs.SpellingTies.{Ties}
-use Rattle.arc_model.specs.SpellingTies.Causes.{Judged}
-use Rattle.arc_model.specs.SpellingTies.Ties.{start}
-use Rattle.arc_model.proofs.SpellSteps.{Step, history_by, notes_by, tied_by}
-use Rattle.arc_model.proofs.SpellSteps.Step.{Mine, Note as Noted}
+use Rattle.arc_spelling.specs.Spelling.{Note}
+use Rattle.arc_spelling.specs.Spelling.Note.{Did, Line, Operation, Name, Entry, NeedsEntry}
+use Rattle.arc_spelling.specs.Spelling.IsEnd.{inline, gone_last}
+use Rattle.arc_spelling.specs.Spelling.FieldsDone.{named}
+use Rattle.arc_spelling.specs.Spelling.IsDrop.{more, last_strong}
+use Rattle.arc_spelling.specs.Spelling.IsCascade.{finish_last}
+use Rattle.arc_spelling.specs.SpellingGains.Spare.{Unclaimed, Published}
+use Rattle.arc_spelling.specs.SpellingGains.IsReady.{start as ready, claimed, published}
+use Rattle.arc_spelling.specs.SpellingGains.IsSettled.{unclaimed, published as stays_published}
+use Rattle.arc_spelling.specs.SpellingTies.{Ties}
+use Rattle.arc_spelling.specs.SpellingTies.Causes.{Judged}
+use Rattle.arc_spelling.specs.SpellingTies.Ties.{start}
+use Rattle.arc_spelling.proofs.SpellSteps.{Step, history_by, notes_by, tied_by}
+use Rattle.arc_spelling.proofs.SpellSteps.Step.{Mine, Note as Noted}
 use Rattle.arc_script.specs.declared.script.ClassDecl.{ClassDecl}
 use Rattle.arc_script.specs.declared.script.VarDecl.{VarDecl}
 use Rattle.arc_script.specs.declared.script.Op.{Op}

@@ -14,10 +14,10 @@ use Rattle.arc_model.specs.declared.event.Act.TheVariants as acts
 use Rattle.arc_model.specs.declared.shape.Kind.{Kind}
 use Rattle.arc_model.specs.declared.shape.Kind.TheVariants.{Strong, Unowned, Weak}
 use Rattle.arc_model.specs.Shapes.{HeapShape}
-use Rattle.arc_model.specs.Spelling.{Note, one_more_if, hands_of, IsDrop}
-use Rattle.arc_model.specs.Spelling.Note.{Did, Line, Operation, Name, Entry, Refers}
-use Rattle.arc_model.specs.SpellingGains.{IsGain, IsRefused}
-use Rattle.arc_model.specs.SpellingTies.{Reference}
+use Rattle.arc_spelling.specs.Spelling.{Note, one_more_if, hands_of, IsDrop}
+use Rattle.arc_spelling.specs.Spelling.Note.{Did, Line, Operation, Name, Entry, Refers}
+use Rattle.arc_spelling.specs.SpellingGains.{IsGain, IsRefused}
+use Rattle.arc_model.specs.References.{Reference}
 use Rattle.arc_script.specs.declared.script.Op.{Op}
 use Rattle.arc_script.specs.declared.script.Op.TheVariants as op
 use Rattle.arc_script.specs.declared.script.OpCell.{OpCell}

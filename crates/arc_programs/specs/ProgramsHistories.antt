@@ -7,9 +7,10 @@ use Rattle.arc_model.specs.declared.event.Act.TheVariants as acts
 use Rattle.arc_model.specs.Shapes.{HeapShape}
 use Rattle.arc_model.specs.Holders.{at_slot}
 use Rattle.arc_model.specs.History.{History, heap_after, share, IsLegal}
-use Rattle.arc_model.specs.Spelling.{Note}
-use Rattle.arc_model.specs.Spelling.Note.{Did}
-use Rattle.arc_model.specs.SpellingTies.{Causes, Ties, name_of}
+use Rattle.arc_spelling.specs.Spelling.{Note}
+use Rattle.arc_spelling.specs.Spelling.Note.{Did}
+use Rattle.arc_spelling.specs.SpellingTies.{Causes, Ties}
+use Rattle.arc_model.specs.References.{name_of}
 use Rattle.arc_script.specs.declared.answer.Line.{Line}
 use Rattle.arc_script.specs.declared.script.Op.{Op}
 use Rattle.arc_script.specs.declared.script.Script.{Script}

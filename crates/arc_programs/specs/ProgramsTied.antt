@@ -5,9 +5,10 @@ use Rattle.arc_model.specs.Heaps.{Hand}
 use Rattle.arc_model.specs.Holders.{is_number}
 use Rattle.arc_model.specs.History.{History, heap_after, is_of}
 use Rattle.arc_model.specs.Own.{brings_hand}
-use Rattle.arc_model.specs.Spelling.{Note}
-use Rattle.arc_model.specs.SpellingTies.{reference_of, Causes, Ties}
-use Rattle.arc_model.specs.SpellingTies.Causes.{Judged, LeftAside}
+use Rattle.arc_spelling.specs.Spelling.{Note}
+use Rattle.arc_spelling.specs.SpellingTies.{Causes, Ties}
+use Rattle.arc_model.specs.References.{reference_of}
+use Rattle.arc_spelling.specs.SpellingTies.Causes.{Judged, LeftAside}
 use Rattle.arc_script.specs.declared.answer.Line.{Line}
 use Rattle.arc_script.specs.declared.script.Op.{Op}
 use Rattle.arc_script.specs.declared.script.ThreadDecl.{ThreadDecl}

@@ -1,4 +1,11 @@
 //! Laws of how a thread's events and lines spell its program.
+//!
+//! No function does anything: the contracts are laws. `IsProgram` says which notes (events, lines, what the heap showed) are those of a
+//! thread that does its operations in order, drops its variables at the end of its scope, and skips the blocks that it skips;
+//! `GlobalsCleared` says it of the end section.
+//!
+//! It promises that the lines of a program are numbered as they should be, that each global is cleared once, and that other threads'
+//! events leave a program as it is. Nothing is said of steps and words, nor of which histories come about.
 #![tactic(auto)]
 
 ghost use Rattle.arc_programs.specs.ProgramsHistories.{ScopesEmpty, EachGlobalIsCleared, NamesAreObjects, ProgramsStay, ProgramsWithoutCauses};

@@ -9,16 +9,16 @@ use Rattle.arc_model.specs.declared.event.Act.{Act}
 use Rattle.arc_model.specs.declared.event.Act.TheVariants as acts
 use Rattle.arc_model.specs.declared.shape.Kind.{Kind}
 use Rattle.arc_model.specs.Shapes.{HeapShape}
-use Rattle.arc_model.specs.Spelling.{Note, is_fact, one_more_if, acts_of, deinits_of, FieldsDone, IsEnd, IsDrop, IsCascade}
-use Rattle.arc_model.specs.Spelling.Note.{Did, Line as Says, Operation, Name, Entry, NeedsEntry, Nil, Refers}
-use Rattle.arc_model.specs.Spelling.IsEnd.{inline, gone_more, gone_last}
-use Rattle.arc_model.specs.Spelling.FieldsDone.{named, noted, nil, taken}
-use Rattle.arc_model.specs.Spelling.IsDrop.{more, last_strong, last_unowned, last_weak}
-use Rattle.arc_model.specs.Spelling.IsCascade.{finish_more, finish_last}
-use Rattle.arc_model.specs.SpellingGains.{Spare, IsReady, IsSettled, IsGain, IsRefused}
-use Rattle.arc_model.specs.SpellingGains.IsReady.{start, noted as ready_noted, claimed, published}
-use Rattle.arc_model.specs.SpellingGains.IsSettled.{unclaimed, published as stays_published, given_back}
-use Rattle.arc_model.specs.SpellingGains.IsRefused.{no_entry}
+use Rattle.arc_spelling.specs.Spelling.{Note, is_fact, one_more_if, acts_of, deinits_of, FieldsDone, IsEnd, IsDrop, IsCascade}
+use Rattle.arc_spelling.specs.Spelling.Note.{Did, Line as Says, Operation, Name, Entry, NeedsEntry, Nil, Refers}
+use Rattle.arc_spelling.specs.Spelling.IsEnd.{inline, gone_more, gone_last}
+use Rattle.arc_spelling.specs.Spelling.FieldsDone.{named, noted, nil, taken}
+use Rattle.arc_spelling.specs.Spelling.IsDrop.{more, last_strong, last_unowned, last_weak}
+use Rattle.arc_spelling.specs.Spelling.IsCascade.{finish_more, finish_last}
+use Rattle.arc_spelling.specs.SpellingGains.{Spare, IsReady, IsSettled, IsGain, IsRefused}
+use Rattle.arc_spelling.specs.SpellingGains.IsReady.{start, noted as ready_noted, claimed, published}
+use Rattle.arc_spelling.specs.SpellingGains.IsSettled.{unclaimed, published as stays_published, given_back}
+use Rattle.arc_spelling.specs.SpellingGains.IsRefused.{no_entry}
 use Rattle.arc_model.proofs.Tally.{no}
 use Rattle.arc_programs.specs.Variables.{Held}
 use Rattle.arc_programs.specs.Programs.{makes, made_of, IsDropped}

@@ -19,13 +19,14 @@ use Rattle.arc_model.specs.Effects.{effect, made, ended_if, loaded, given_up, be
 use Rattle.arc_model.specs.Heaps.{Holder, Hand, Strongs, Unowneds, Object, Heap}
 use Rattle.arc_model.specs.Holders.{gains, without, renamed, with_last, lists, with_list, holds, kind_in, in_slot, has_entry, held_by, at_slot, at_first}
 use Rattle.arc_model.specs.History.{History, heap_after, share}
-use Rattle.arc_model.specs.Spelling.{Note, acts_of}
-use Rattle.arc_model.specs.Spelling.Note.{Did, Line as Says, Operation, Name, Entry, NeedsEntry, Nil, Refers}
-use Rattle.arc_model.specs.SpellingTies.{Causes, Ties, Holds, name_of}
-use Rattle.arc_model.specs.SpellingTies.Ties.{start, own, other, noted}
+use Rattle.arc_spelling.specs.Spelling.{Note, acts_of}
+use Rattle.arc_spelling.specs.Spelling.Note.{Did, Line as Says, Operation, Name, Entry, NeedsEntry, Nil, Refers}
+use Rattle.arc_spelling.specs.SpellingTies.{Causes, Ties, Holds}
+use Rattle.arc_model.specs.References.{name_of}
+use Rattle.arc_spelling.specs.SpellingTies.Ties.{start, own, other, noted}
 use Rattle.arc_model.proofs.Basics.{None≢Some, Some-inj}
 use Rattle.arc_model.proofs.Builds.{entry_to-objects}
-use Rattle.arc_model.proofs.SpellTies.{share_is}
+use Rattle.arc_spelling.proofs.SpellTies.{share_is}
 use Rattle.arc_programs.specs.ProgramsLines.{lines_of}
 use Rattle.arc_programs.specs.ProgramsTied.{hands_in}
 use Rattle.arc_programs_laws.specs.Names.{LineFits, ClassFits, EventsNameClasses, LinesNameClasses}

@@ -18,7 +18,7 @@ use Rattle.arc_model.specs.History.{History, heap_after, next_hand, sight, IsLeg
 use Rattle.arc_model.specs.Lookup.{duty_in, owed_by}
 use Rattle.arc_model.specs.Needs.{needs, passes, same_bool}
 use Rattle.arc_model.specs.Others.{IsQuiet}
-use Rattle.arc_model.specs.Spelling.{one_more_if}
+use Rattle.arc_spelling.specs.Spelling.{one_more_if}
 use Rattle.arc_model.specs.WellFormed.{more, total, IsWhole}
 use Rattle.arc_model.proofs.Basics.{met, at_found, None≢Some, in-strong}
 use Rattle.arc_model.proofs.Builds.{some-is, whole-of, find-passes}

@@ -17,7 +17,7 @@ use Rattle.arc_model.specs.Heaps.{Holder, Hand, Strongs, Unowneds, Deinit, Objec
 use Rattle.arc_model.specs.Holders.{same_holder, is_in, gains, without, renamed, with_last, lists, with_list, holds, kind_in, in_slot, has_entry, held_by, at_first, owes_to, is_by, is_duty}
 use Rattle.arc_model.specs.History.{History, heap_after, next_hand, sight, IsLegal}
 use Rattle.arc_model.specs.Needs.{needs}
-use Rattle.arc_model.specs.Spelling.{Note, one_more_if}
+use Rattle.arc_spelling.specs.Spelling.{Note, one_more_if}
 use Rattle.arc_model.specs.WellFormed.{more, tally, held, total}
 use Rattle.arc_model.proofs.Basics.{met, at_found}
 use Rattle.arc_model.proofs.Tally.{tally-push, tally-without}

@@ -11,16 +11,16 @@ use Rattle.arc_model.specs.declared.event.Event.{Event}
 use Rattle.arc_model.specs.declared.shape.Kind.{Kind}
 use Rattle.arc_model.specs.Shapes.{HeapShape}
 use Rattle.arc_model.specs.History.{History, share}
-use Rattle.arc_model.specs.Spelling.{Note, acts_of}
-use Rattle.arc_model.specs.Spelling.Note.{Did, Line, Operation}
-use Rattle.arc_model.specs.SpellingGains.{Spare, IsSettled, IsGain, IsRefused}
-use Rattle.arc_model.specs.SpellingGains.IsSettled.{unclaimed, published, given_back}
-use Rattle.arc_model.specs.SpellingGains.IsRefused.{no_entry as entry_refused}
-use Rattle.arc_model.specs.SpellingTies.{Ties}
-use Rattle.arc_model.specs.SpellingTies.Causes.{Judged}
-use Rattle.arc_model.specs.SpellingTies.Ties.{start, own, other, noted}
+use Rattle.arc_spelling.specs.Spelling.{Note, acts_of}
+use Rattle.arc_spelling.specs.Spelling.Note.{Did, Line, Operation}
+use Rattle.arc_spelling.specs.SpellingGains.{Spare, IsSettled, IsGain, IsRefused}
+use Rattle.arc_spelling.specs.SpellingGains.IsSettled.{unclaimed, published, given_back}
+use Rattle.arc_spelling.specs.SpellingGains.IsRefused.{no_entry as entry_refused}
+use Rattle.arc_spelling.specs.SpellingTies.{Ties}
+use Rattle.arc_spelling.specs.SpellingTies.Causes.{Judged}
+use Rattle.arc_spelling.specs.SpellingTies.Ties.{start, own, other, noted}
 use Rattle.arc_model.proofs.Basics.{None≢Some, Some-inj, true≢false}
-use Rattle.arc_model.proofs.SpellTies.{share_is}
+use Rattle.arc_spelling.proofs.SpellTies.{share_is}
 use Rattle.arc_script.specs.declared.script.Op.{Op}
 use Rattle.arc_script.specs.declared.script.Op.TheVariants as op
 use Rattle.arc_script.specs.declared.script.OpCell.TheVariants as opcell

@@ -8,10 +8,10 @@ use Rattle.arc_model.specs.declared.event.Act.{Act}
 use Rattle.arc_model.specs.declared.event.Event.{Event}
 use Rattle.arc_model.specs.Shapes.{HeapShape}
 use Rattle.arc_model.specs.History.{History, share, is_of}
-use Rattle.arc_model.specs.Spelling.{Note, acts_of, one_more_if}
-use Rattle.arc_model.specs.Spelling.Note.{Did, Line, Operation, Name, Entry, NeedsEntry, Nil, Refers}
-use Rattle.arc_model.specs.SpellingTies.{Causes, Ties}
-use Rattle.arc_model.proofs.SpellTies.{share_is}
+use Rattle.arc_spelling.specs.Spelling.{Note, acts_of, one_more_if}
+use Rattle.arc_spelling.specs.Spelling.Note.{Did, Line, Operation, Name, Entry, NeedsEntry, Nil, Refers}
+use Rattle.arc_spelling.specs.SpellingTies.{Causes, Ties}
+use Rattle.arc_spelling.proofs.SpellTies.{share_is}
 
 -- how many events of the history pass
 abbrev pub events_with : (Act → Bool) → History → ℕ

@@ -10,8 +10,8 @@ use Rattle.arc_model.specs.declared.answer.Answer.{Answer}
 use Rattle.arc_model.specs.declared.answer.Answer.TheVariants as answers
 use Rattle.arc_model.specs.declared.event.ObjectName.{ObjectName}
 use Rattle.arc_model.specs.Shapes.{HeapShape}
-use Rattle.arc_model.specs.Spelling.{Note, one_more_if, deinits_of}
-use Rattle.arc_model.specs.Spelling.Note.{Did, Line as Says, Operation, Name, Entry, NeedsEntry, Nil, Refers}
+use Rattle.arc_spelling.specs.Spelling.{Note, one_more_if, deinits_of}
+use Rattle.arc_spelling.specs.Spelling.Note.{Did, Line as Says, Operation, Name, Entry, NeedsEntry, Nil, Refers}
 use Rattle.arc_script.specs.Valid as valid
 use Rattle.arc_script.specs.Valid.{begins_block}
 use Rattle.arc_script.specs.OneList.{moved_behind, in_one_list, numbered}

@@ -3,7 +3,7 @@ use Rattle.std.specs.Prelude.{ℕ, false, ◌≡◌}
 use Rattle.arc_model.specs.Heaps.{Heap}
 use Rattle.arc_model.specs.Holders.{is_claimed_by}
 use Rattle.arc_model.specs.History.{History, heap_after, IsLegal}
-use Rattle.arc_model.specs.SpellingTies.{Causes}
+use Rattle.arc_spelling.specs.SpellingTies.{Causes}
 use Rattle.arc_script.specs.declared.script.Script.{Script}
 use Rattle.arc_script.specs.Valid.{IsScript}
 use Rattle.arc_quiet.specs.Whole.{AllFinish, NoOtherThread}

@@ -9,8 +9,8 @@ use Rattle.arc_model.specs.Holders.{is_in, held_by}
 use Rattle.arc_model.specs.Needs.{passes}
 use Rattle.arc_model.specs.History.{History, heap_after, IsLegal}
 use Rattle.arc_model.specs.Laws.{Empties}
-use Rattle.arc_model.specs.Spelling.{one_more_if}
-use Rattle.arc_model.specs.SpellingTies.{Causes}
+use Rattle.arc_spelling.specs.Spelling.{one_more_if}
+use Rattle.arc_spelling.specs.SpellingTies.{Causes}
 use Rattle.arc_script.specs.declared.answer.Line.{Line}
 use Rattle.arc_script.specs.declared.script.Script.{Script}
 use Rattle.arc_script.specs.Valid.{IsScript}

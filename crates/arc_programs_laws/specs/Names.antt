@@ -7,7 +7,7 @@ use Rattle.arc_model.specs.declared.event.Act.{Act}
 use Rattle.arc_model.specs.declared.event.Act.TheVariants as acts
 use Rattle.arc_model.specs.declared.event.Event.{Event}
 use Rattle.arc_model.specs.History.{History}
-use Rattle.arc_model.specs.SpellingTies.{Causes}
+use Rattle.arc_spelling.specs.SpellingTies.{Causes}
 use Rattle.arc_script.specs.declared.answer.Line.{Line}
 use Rattle.arc_script.specs.declared.script.Script.{Script}
 use Rattle.arc_script.specs.Valid.{IsScript}

@@ -1,9 +1,9 @@
 -- The order of the phases in a history: each event of a phase stands before each event of a later one.
 use Rattle.std.specs.Prelude.{ℕ, ◌≡◌, ◌≤◌, ◌<◌, ◌-◌, List, [], ◌++◌, length, take, flat_map, slice_get, Some}
 use Rattle.arc_model.specs.History.{History, share, IsLegal}
-use Rattle.arc_model.specs.Spelling.{Note}
-use Rattle.arc_model.specs.SpellingTies.{Ties}
-use Rattle.arc_model.specs.SpellingTies.Causes.{Judged}
+use Rattle.arc_spelling.specs.Spelling.{Note}
+use Rattle.arc_spelling.specs.SpellingTies.{Ties}
+use Rattle.arc_spelling.specs.SpellingTies.Causes.{Judged}
 use Rattle.arc_script.specs.declared.script.Op.{Op}
 use Rattle.arc_script.specs.declared.script.ThreadDecl.{ThreadDecl}
 use Rattle.arc_script.specs.declared.script.Script.{Script}

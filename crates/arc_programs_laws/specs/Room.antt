@@ -1,7 +1,7 @@
 -- How many lines a thread can have.
 use Rattle.std.specs.Prelude.{ℕ, Bool, true, false, ◌==◌, ◌+◌, ◌-◌, ◌≤◌, if◌then◌else◌, List, [], length, flat_map, sum_by, count_by, slice_get, Option, Some, None}
 use Rattle.arc_model.specs.History.{History, IsLegal}
-use Rattle.arc_model.specs.SpellingTies.{Causes}
+use Rattle.arc_spelling.specs.SpellingTies.{Causes}
 use Rattle.arc_script.specs.declared.answer.Line.{Line}
 use Rattle.arc_script.specs.declared.script.Op.{Op}
 use Rattle.arc_script.specs.declared.script.Op.TheVariants as op

@@ -1,5 +1,9 @@
 //! Laws of a history that has the whole of a script, for all operations of the language: how many deinit lines there are, how many
 //! lines a thread can have, which classes lines name, and that no entry is claimed in the end.
+//!
+//! No function does anything. Each law is of a legal history in which every thread has its program: one deinit line for each strong
+//! list that was emptied, room for every line, phases that follow one another. It says nothing of how the history came about, nor of
+//! objects that stay: those are in `arc_quiet`.
 #![tactic(auto)]
 
 ghost use Rattle.arc_programs_laws.specs.Claims.{ClaimsEnd};

@@ -16,15 +16,15 @@ use Rattle.arc_model.specs.Effects.{becomes, claimed_if, effect, ended_if, entry
 use Rattle.arc_model.specs.Needs.{Sight, first_failing, is_at_cap, needs}
 use Rattle.arc_model.specs.WellFormed.{more, total, IsWhole}
 use Rattle.arc_model.specs.History.{History, heap_after, sight, share, IsLegal}
-use Rattle.arc_model.specs.Spelling.{Note}
-use Rattle.arc_model.specs.Spelling.Note.{Entry}
-use Rattle.arc_model.specs.SpellingTies.{Causes, Ties}
+use Rattle.arc_spelling.specs.Spelling.{Note}
+use Rattle.arc_spelling.specs.Spelling.Note.{Entry}
+use Rattle.arc_spelling.specs.SpellingTies.{Causes, Ties}
 use Rattle.arc_model.proofs.Basics.{met, at_found, None≢Some, Some-inj, empty-is}
 use Rattle.arc_model.proofs.Builds.{entry_to-objects, find-passes}
 use Rattle.arc_model.proofs.Courses.{well_formed}
 use Rattle.arc_model.proofs.Others.{not-among, false-if}
 use Rattle.arc_model.proofs.Stages.{vacating-facts}
-use Rattle.arc_model.proofs.SpellTies.{facts_recent}
+use Rattle.arc_spelling.proofs.SpellTies.{facts_recent}
 use Rattle.arc_model.proofs.Turns.{put-found, place-put}
 use Rattle.arc_model.proofs.Tally.{no, clash}
 

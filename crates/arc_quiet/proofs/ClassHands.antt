@@ -22,9 +22,10 @@ use Rattle.arc_model.specs.WellFormed.{is_own}
 use Rattle.arc_model.specs.History.{History, heap_after, next_hand, sight, brings, is_of, IsLegal}
 use Rattle.arc_model.specs.Lookup.{Spot, further, spot_in, spot}
 use Rattle.arc_model.specs.Own.{brings_hand, brought, ends_hand, in_list}
-use Rattle.arc_model.specs.Spelling.{Note}
-use Rattle.arc_model.specs.Spelling.Note.{Did, Name, Entry}
-use Rattle.arc_model.specs.SpellingTies.{Ties, Reference, place_of, reference_in, reference_of, reference_to}
+use Rattle.arc_spelling.specs.Spelling.{Note}
+use Rattle.arc_spelling.specs.Spelling.Note.{Did, Name, Entry}
+use Rattle.arc_spelling.specs.SpellingTies.{Ties}
+use Rattle.arc_model.specs.References.{Reference, place_of, reference_in, reference_of, reference_to}
 use Rattle.arc_model.proofs.Basics.{None≢Some, Some-inj}
 use Rattle.arc_model.proofs.Builds.{advance-grows, find-passes}
 use Rattle.arc_model.proofs.CellKinds.{cell_kinds_after}

@@ -20,11 +20,12 @@ use Rattle.arc_model.specs.Cells.{cell_shape}
 use Rattle.arc_model.specs.History.{History, heap_after, brings, is_of, IsLegal}
 use Rattle.arc_model.specs.Lookup.{Spot, spot}
 use Rattle.arc_model.specs.Own.{ends_hand, in_list}
-use Rattle.arc_model.specs.Spelling.{Note, is_fact, hands_of, one_more_if}
-use Rattle.arc_model.specs.Spelling.Note.{Did, Name, Entry}
-use Rattle.arc_model.specs.SpellingGains.{IsGain}
-use Rattle.arc_model.specs.SpellingTies.{Causes, Ties, place_of}
-use Rattle.arc_model.specs.SpellingTies.Ties.{start as no_event, other as other_event}
+use Rattle.arc_spelling.specs.Spelling.{Note, is_fact, hands_of, one_more_if}
+use Rattle.arc_spelling.specs.Spelling.Note.{Did, Name, Entry}
+use Rattle.arc_spelling.specs.SpellingGains.{IsGain}
+use Rattle.arc_spelling.specs.SpellingTies.{Causes, Ties}
+use Rattle.arc_model.specs.References.{place_of}
+use Rattle.arc_spelling.specs.SpellingTies.Ties.{start as no_event, other as other_event}
 use Rattle.arc_model.proofs.Basics.{None≢Some, Some-inj}
 use Rattle.arc_model.proofs.Others.{false-if}
 use Rattle.arc_model.proofs.Tally.{no, clash}

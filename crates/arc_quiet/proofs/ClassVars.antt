@@ -13,8 +13,9 @@ use Rattle.arc_model.specs.Heaps.{Object}
 use Rattle.arc_model.specs.Holders.{at_slot, in_slot, is_number}
 use Rattle.arc_model.specs.Cells.{cell_shape, field_shape}
 use Rattle.arc_model.specs.History.{History, heap_after, IsLegal}
-use Rattle.arc_model.specs.Spelling.{Note, hands_of}
-use Rattle.arc_model.specs.SpellingTies.{Causes, Ties, place_of}
+use Rattle.arc_spelling.specs.Spelling.{Note, hands_of}
+use Rattle.arc_spelling.specs.SpellingTies.{Causes, Ties}
+use Rattle.arc_model.specs.References.{place_of}
 use Rattle.arc_model.proofs.Basics.{None≢Some, Some-inj, true≢false}
 use Rattle.arc_model.proofs.Courses.{well_formed}
 use Rattle.arc_model.proofs.Others.{false-if}

@@ -3,8 +3,8 @@
 use Rattle.std.specs.Prelude.{ℕ, Bool, true, false, ◌==◌, not, List, [], ◌∷◌, Some, None}
 use Rattle.arc_model.specs.declared.event.Act.{Act}
 use Rattle.arc_model.specs.declared.event.Act.TheVariants.{Drop, Claim, Side, Back, Swap, Finish, Vacate, Gone}
-use Rattle.arc_model.specs.Spelling.{Note, one_more_if}
-use Rattle.arc_model.specs.Spelling.Note.{Did, Entry}
+use Rattle.arc_spelling.specs.Spelling.{Note, one_more_if}
+use Rattle.arc_spelling.specs.Spelling.Note.{Did, Entry}
 
 abbrev pub one_if : Bool → ℕ
 one_if true = 1

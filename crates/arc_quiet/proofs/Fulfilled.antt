@@ -5,16 +5,16 @@ use Rattle.arc_model.specs.declared.event.CellName.TheVariants as cells
 use Rattle.arc_model.specs.declared.event.Act.TheVariants as acts
 use Rattle.arc_model.specs.declared.shape.Kind.TheVariants.{Strong}
 use Rattle.arc_model.specs.History.{History}
-use Rattle.arc_model.specs.Spelling.{Note}
-use Rattle.arc_model.specs.Spelling.Note.{Did, Line, Operation, Name, Entry, Refers}
-use Rattle.arc_model.specs.Spelling.IsEnd.{inline}
-use Rattle.arc_model.specs.Spelling.FieldsDone.{named, taken}
-use Rattle.arc_model.specs.Spelling.IsDrop.{last_strong}
-use Rattle.arc_model.specs.Spelling.IsCascade.{finish_last}
-use Rattle.arc_model.specs.SpellingTies.Causes.{Judged}
-use Rattle.arc_model.specs.SpellingTies.Ties.{start}
-use Rattle.arc_model.proofs.SpellSteps.{Step, notes_by, tied_by}
-use Rattle.arc_model.proofs.SpellSteps.Step.{Mine, Other, Note as Noted}
+use Rattle.arc_spelling.specs.Spelling.{Note}
+use Rattle.arc_spelling.specs.Spelling.Note.{Did, Line, Operation, Name, Entry, Refers}
+use Rattle.arc_spelling.specs.Spelling.IsEnd.{inline}
+use Rattle.arc_spelling.specs.Spelling.FieldsDone.{named, taken}
+use Rattle.arc_spelling.specs.Spelling.IsDrop.{last_strong}
+use Rattle.arc_spelling.specs.Spelling.IsCascade.{finish_last}
+use Rattle.arc_spelling.specs.SpellingTies.Causes.{Judged}
+use Rattle.arc_spelling.specs.SpellingTies.Ties.{start}
+use Rattle.arc_spelling.proofs.SpellSteps.{Step, notes_by, tied_by}
+use Rattle.arc_spelling.proofs.SpellSteps.Step.{Mine, Other, Note as Noted}
 use Rattle.arc_script.specs.declared.answer.Line.{Line as ThreadLine}
 use Rattle.arc_script.specs.declared.script.Op.TheVariants as op
 use Rattle.arc_script.specs.declared.script.OpCell.TheVariants as opcell

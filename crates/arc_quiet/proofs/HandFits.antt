@@ -13,7 +13,7 @@ use Rattle.arc_model.specs.Effects.{made}
 use Rattle.arc_model.specs.History.{History, heap_after, next_hand, brings, is_of, IsLegal}
 use Rattle.arc_model.specs.Lookup.{spot}
 use Rattle.arc_model.specs.Own.{ends_hand}
-use Rattle.arc_model.specs.SpellingTies.{place_of}
+use Rattle.arc_model.specs.References.{place_of}
 use Rattle.arc_model.specs.Cells.{strong_holders}
 use Rattle.arc_model.proofs.Basics.{Some-inj, in-not_empty, in-strong}
 use Rattle.arc_model.proofs.Builds.{advance}

@@ -20,7 +20,7 @@ use Rattle.arc_model.proofs.Others.{spot-find, spot-held}
 use Rattle.arc_model.proofs.Own.{own_ends, swap_given}
 use Rattle.arc_model.proofs.Tally.{no}
 use Rattle.arc_quiet.proofs.Counts.{one_if, is_ending}
-use Rattle.arc_quiet.proofs.HandSpots.{hand_same}
+use Rattle.arc_model.proofs.HandSpots.{hand_same}
 
 -- how many numbers below n pass
 abbrev pub count_below : ℕ → (ℕ → Bool) → ℕ

@@ -17,14 +17,14 @@ use Rattle.arc_model.specs.History.{History, heap_after, is_of, IsLegal}
 use Rattle.arc_model.specs.Lookup.{Spot, spot}
 use Rattle.arc_model.specs.Others.{IsQuiet}
 use Rattle.arc_model.specs.CellLaws.{cell_next}
-use Rattle.arc_model.specs.Spelling.{Note, acts_of}
-use Rattle.arc_model.specs.Spelling.Note.{Did, Line, Operation, Name, Entry, NeedsEntry, Nil, Refers}
-use Rattle.arc_model.specs.SpellingTies.{Causes, Ties}
-use Rattle.arc_model.specs.SpellingTies.Ties.{start as no_event, other as other_event}
+use Rattle.arc_spelling.specs.Spelling.{Note, acts_of}
+use Rattle.arc_spelling.specs.Spelling.Note.{Did, Line, Operation, Name, Entry, NeedsEntry, Nil, Refers}
+use Rattle.arc_spelling.specs.SpellingTies.{Causes, Ties}
+use Rattle.arc_spelling.specs.SpellingTies.Ties.{start as no_event, other as other_event}
 use Rattle.arc_model.proofs.CellKinds.{cell_kinds_after}
 use Rattle.arc_model.proofs.CellSpots.{cells_after}
 use Rattle.arc_model.proofs.Others.{spot-find}
-use Rattle.arc_model.proofs.SpellTies.{share_is}
+use Rattle.arc_spelling.proofs.SpellTies.{share_is}
 use Rattle.arc_model.proofs.Tally.{no, both}
 use Rattle.arc_script.specs.declared.script.Script.{Script}
 use Rattle.arc_script.specs.Valid.{IsScript}

@@ -1,5 +1,4 @@
 pub mod Chains
-pub mod HandSpots
 pub mod Counts
 pub mod NotesCounted
 pub mod Debts

@@ -5,16 +5,16 @@ use Rattle.arc_model.specs.declared.event.Origin.TheVariants as origins
 use Rattle.arc_model.specs.declared.event.CellName.TheVariants as cells
 use Rattle.arc_model.specs.declared.event.Act.TheVariants as acts
 use Rattle.arc_model.specs.History.{History}
-use Rattle.arc_model.specs.Spelling.{Note}
-use Rattle.arc_model.specs.Spelling.Note.{Did, Line, Operation}
-use Rattle.arc_model.specs.Spelling.IsDrop.{more as drop_more}
-use Rattle.arc_model.specs.SpellingGains.Spare.{Unclaimed}
-use Rattle.arc_model.specs.SpellingGains.IsReady.{start as ready}
-use Rattle.arc_model.specs.SpellingGains.IsSettled.{unclaimed}
-use Rattle.arc_model.specs.SpellingTies.Causes.{Judged}
-use Rattle.arc_model.specs.SpellingTies.Ties.{start}
-use Rattle.arc_model.proofs.SpellSteps.{Step, notes_by, tied_by}
-use Rattle.arc_model.proofs.SpellSteps.Step.{Mine, Other, Note as Noted}
+use Rattle.arc_spelling.specs.Spelling.{Note}
+use Rattle.arc_spelling.specs.Spelling.Note.{Did, Line, Operation}
+use Rattle.arc_spelling.specs.Spelling.IsDrop.{more as drop_more}
+use Rattle.arc_spelling.specs.SpellingGains.Spare.{Unclaimed}
+use Rattle.arc_spelling.specs.SpellingGains.IsReady.{start as ready}
+use Rattle.arc_spelling.specs.SpellingGains.IsSettled.{unclaimed}
+use Rattle.arc_spelling.specs.SpellingTies.Causes.{Judged}
+use Rattle.arc_spelling.specs.SpellingTies.Ties.{start}
+use Rattle.arc_spelling.proofs.SpellSteps.{Step, notes_by, tied_by}
+use Rattle.arc_spelling.proofs.SpellSteps.Step.{Mine, Other, Note as Noted}
 use Rattle.arc_script.specs.declared.answer.Line.{Line as ThreadLine}
 use Rattle.arc_script.specs.declared.script.Op.TheVariants as op
 use Rattle.arc_script.specs.declared.script.OpCell.TheVariants as opcell

@@ -5,10 +5,10 @@ use Rattle.arc_model.specs.declared.event.Act.{Act}
 use Rattle.arc_model.specs.declared.event.Event.{Event}
 use Rattle.arc_model.specs.Shapes.{HeapShape}
 use Rattle.arc_model.specs.History.{History, heap_after, is_of, IsLegal}
-use Rattle.arc_model.specs.Spelling.{Note, is_fact}
-use Rattle.arc_model.specs.Spelling.Note.{Did, Line, Operation, Name, Entry, NeedsEntry, Nil, Refers}
-use Rattle.arc_model.specs.SpellingTies.{Causes, Ties, Holds}
-use Rattle.arc_model.specs.SpellingTies.Ties.{own, other, noted}
+use Rattle.arc_spelling.specs.Spelling.{Note, is_fact}
+use Rattle.arc_spelling.specs.Spelling.Note.{Did, Line, Operation, Name, Entry, NeedsEntry, Nil, Refers}
+use Rattle.arc_spelling.specs.SpellingTies.{Causes, Ties, Holds}
+use Rattle.arc_spelling.specs.SpellingTies.Ties.{own, other, noted}
 use Rattle.arc_model.proofs.Basics.{true≢false}
 
 -- g is h or what h was at an earlier point

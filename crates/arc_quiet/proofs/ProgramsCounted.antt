@@ -12,8 +12,8 @@ use Rattle.arc_model.specs.declared.event.Got.TheVariants as gots
 use Rattle.arc_model.specs.declared.event.Act.TheVariants as acts
 use Rattle.arc_model.specs.declared.shape.Kind.{Kind}
 use Rattle.arc_model.specs.Shapes.{HeapShape}
-use Rattle.arc_model.specs.Spelling.{Note, hands_of, one_more_if}
-use Rattle.arc_model.specs.Spelling.Note.{Name, Entry}
+use Rattle.arc_spelling.specs.Spelling.{Note, hands_of, one_more_if}
+use Rattle.arc_spelling.specs.Spelling.Note.{Name, Entry}
 use Rattle.arc_script.specs.Valid as valid
 use Rattle.arc_script.specs.OneList.{moved_behind}
 use Rattle.arc_script.proofs.OneList.{all_in_one}

@@ -9,16 +9,16 @@ use Rattle.arc_model.specs.declared.shape.Kind.{Kind}
 use Rattle.arc_model.specs.Shapes.{HeapShape}
 use Rattle.arc_model.specs.Own.{ends_hand}
 use Rattle.arc_model.specs.History.{brings}
-use Rattle.arc_model.specs.Spelling.{Note, is_fact, hands_of, one_more_if, FieldsDone, IsEnd, IsDrop, IsCascade}
-use Rattle.arc_model.specs.Spelling.Note.{Did, Line, Operation, Name, Entry, NeedsEntry, Nil, Refers}
-use Rattle.arc_model.specs.Spelling.IsEnd.{inline, gone_more, gone_last}
-use Rattle.arc_model.specs.Spelling.FieldsDone.{named, noted, nil, taken}
-use Rattle.arc_model.specs.Spelling.IsDrop.{more as drop_more, last_strong, last_unowned, last_weak}
-use Rattle.arc_model.specs.Spelling.IsCascade.{finish_more, finish_last}
-use Rattle.arc_model.specs.SpellingGains.{Spare, IsReady, IsSettled, IsRefused}
-use Rattle.arc_model.specs.SpellingGains.IsReady.{start, noted as ready_noted, claimed, published}
-use Rattle.arc_model.specs.SpellingGains.IsSettled.{unclaimed, published as stays_published, given_back}
-use Rattle.arc_model.specs.SpellingGains.IsRefused.{no_entry}
+use Rattle.arc_spelling.specs.Spelling.{Note, is_fact, hands_of, one_more_if, FieldsDone, IsEnd, IsDrop, IsCascade}
+use Rattle.arc_spelling.specs.Spelling.Note.{Did, Line, Operation, Name, Entry, NeedsEntry, Nil, Refers}
+use Rattle.arc_spelling.specs.Spelling.IsEnd.{inline, gone_more, gone_last}
+use Rattle.arc_spelling.specs.Spelling.FieldsDone.{named, noted, nil, taken}
+use Rattle.arc_spelling.specs.Spelling.IsDrop.{more as drop_more, last_strong, last_unowned, last_weak}
+use Rattle.arc_spelling.specs.Spelling.IsCascade.{finish_more, finish_last}
+use Rattle.arc_spelling.specs.SpellingGains.{Spare, IsReady, IsSettled, IsRefused}
+use Rattle.arc_spelling.specs.SpellingGains.IsReady.{start, noted as ready_noted, claimed, published}
+use Rattle.arc_spelling.specs.SpellingGains.IsSettled.{unclaimed, published as stays_published, given_back}
+use Rattle.arc_spelling.specs.SpellingGains.IsRefused.{no_entry}
 use Rattle.arc_model.proofs.Tally.{clash}
 use Rattle.arc_model.proofs.Others.{false-if}
 use Rattle.arc_quiet.proofs.Pasts.{Passing, Spares, spares-both}

@@ -15,10 +15,10 @@ use Rattle.arc_model.specs.WellFormed.{more, total}
 use Rattle.arc_model.specs.History.{History, heap_after, next_hand, sight, brings, share, is_of, IsLegal}
 use Rattle.arc_model.specs.Lookup.{spot, duty_in, owed_by}
 use Rattle.arc_model.specs.Others.{IsQuiet}
-use Rattle.arc_model.specs.Spelling.{Note, hands_of, one_more_if}
-use Rattle.arc_model.specs.Spelling.Note.{Did, Line, Operation, Name, Entry, NeedsEntry, Nil, Refers}
-use Rattle.arc_model.specs.SpellingTies.{Causes, Holds, Ties}
-use Rattle.arc_model.specs.SpellingTies.Ties.{start, own, other, noted}
+use Rattle.arc_spelling.specs.Spelling.{Note, hands_of, one_more_if}
+use Rattle.arc_spelling.specs.Spelling.Note.{Did, Line, Operation, Name, Entry, NeedsEntry, Nil, Refers}
+use Rattle.arc_spelling.specs.SpellingTies.{Causes, Holds, Ties}
+use Rattle.arc_spelling.specs.SpellingTies.Ties.{start, own, other, noted}
 use Rattle.arc_model.proofs.Basics.{met, at_found}
 use Rattle.arc_model.proofs.Builds.{some-is}
 use Rattle.arc_model.proofs.Others.{others_leave, none-is}

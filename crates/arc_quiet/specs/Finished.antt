@@ -5,8 +5,8 @@ use Rattle.arc_model.specs.Holders.{is_claimed_by}
 use Rattle.arc_model.specs.History.{History, heap_after, IsLegal}
 use Rattle.arc_model.specs.Lookup.{duty_of}
 use Rattle.arc_model.specs.Others.{IsQuiet}
-use Rattle.arc_model.specs.Spelling.{Note}
-use Rattle.arc_model.specs.SpellingTies.{Causes, Ties}
+use Rattle.arc_spelling.specs.Spelling.{Note}
+use Rattle.arc_spelling.specs.SpellingTies.{Causes, Ties}
 use Rattle.arc_script.specs.declared.answer.Line.{Line}
 use Rattle.arc_script.specs.declared.script.Script.{Script}
 use Rattle.arc_script.specs.declared.script.ThreadDecl.{ThreadDecl}

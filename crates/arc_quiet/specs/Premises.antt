@@ -6,7 +6,7 @@ use Rattle.arc_model.specs.Heaps.{Object}
 use Rattle.arc_model.specs.Cells.{field_shape, is_kind}
 use Rattle.arc_model.specs.Life.{life_of}
 use Rattle.arc_model.specs.History.{History, heap_after, IsLegal}
-use Rattle.arc_model.specs.SpellingTies.Causes.{Judged}
+use Rattle.arc_spelling.specs.SpellingTies.Causes.{Judged}
 use Rattle.arc_script.specs.declared.answer.Line.{Line}
 use Rattle.arc_script.specs.declared.script.Script.{Script}
 use Rattle.arc_script.specs.Valid.{IsScript}

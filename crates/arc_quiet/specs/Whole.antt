@@ -3,7 +3,7 @@ use Rattle.std.specs.Prelude.{ℕ, ◌≤◌, ◌≡◌, List, ◌++◌, length,
 use Rattle.std.specs.List.{AllByRecursion}
 use Rattle.arc_model.specs.declared.event.Event.{Event}
 use Rattle.arc_model.specs.History.{History, heap_after, is_of, share, IsLegal}
-use Rattle.arc_model.specs.SpellingTies.{Causes}
+use Rattle.arc_spelling.specs.SpellingTies.{Causes}
 use Rattle.arc_script.specs.declared.answer.Line.{Line}
 use Rattle.arc_script.specs.declared.script.Script.{Script}
 use Rattle.arc_script.specs.Valid.{IsScript}

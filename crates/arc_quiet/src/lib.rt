@@ -1,5 +1,12 @@
 //! What a run leaves: a thread whose program came to its end has nothing, and where strong fields lead one way along the
 //! classes every object is dead.
+//!
+//! No function does anything: the contracts are laws. Between two operations a thread owes nothing and has claimed nothing; behind its
+//! scope it has no hand; and behind the end section no object but an immortal one is left, where strong fields lead one way along the
+//! classes.
+//!
+//! Where they lead in a circle objects may be left, and nothing is said of which. The history is a premise here, and so is that each
+//! thread's program is in it.
 #![tactic(auto)]
 
 ghost use Rattle.arc_quiet.specs.Finished.{FinishedIsQuiet, SettledBetweenOperations};

@@ -2,6 +2,7 @@
 use Rattle.std.proofs.Common.{◌≡◌, ℕ, zero, suc, ◌≤◌, Bool, true, false, cond, List, [], ◌∷◌, ◌++◌, length, Option, Some, None, refl, sym, ap, subst, arith}
 use Rattle.std.specs.Prelude.{find, slice_get, ⊤}
 use Rattle.std.proofs.lemmas.List.{length-append}
+use Rattle.arc_model.specs.declared.event.CellName.TheVariants as cells
 use Rattle.arc_model.specs.declared.event.Got.TheVariants as gots
 use Rattle.arc_model.specs.declared.event.Act.{Act}
 use Rattle.arc_model.specs.declared.event.Act.TheVariants as acts
@@ -192,7 +193,8 @@ bare_effect shape n p (acts.Swap c put None) heap fits b = put_bare n p (cell he
 bare_effect shape n p (acts.Swap c put (Some k)) heap fits b =
     bare_more n (suc n) (put_in (cell heap c) p put (taken_out (cell heap c) p (Some k) heap)) (omega arith) (put_bare n p (cell heap c) put (taken_out (cell heap c) p (Some k) heap) (becomes_bare n (cell heap c) (Hand p k) heap b))
 bare_effect shape n p (acts.Look c) heap fits b = b
-bare_effect shape n p (acts.Take s f k) heap fits b = absurd fits
+bare_effect shape n p (acts.Take s f k) heap fits b =
+    bare_more n (suc n) (becomes (cell heap (cells.Field s f)) (Hand p k) heap) (omega arith) (becomes_bare n (cell heap (cells.Field s f)) (Hand p k) heap b)
 bare_effect shape n p (acts.Finish s last) heap fits b = record { objects = first_bare n n (in_slot s) (finished p last) heap.objects (omega arith) (λ o bare. finished_bare n p last o bare) b.objects; claims = b.claims }
 bare_effect shape n p (acts.Vacate s) heap fits b = record { objects = first_bare n n (in_slot s) (vacated p) heap.objects (omega arith) (λ o bare. vacated_bare n p o bare) b.objects; claims = b.claims }
 bare_effect shape n p (acts.Gone e last) heap fits b = absurd fits

@@ -16,9 +16,9 @@ use Rattle.arc_view.specs.Views.{first_view, idle}
 use Rattle.arc_view.specs.Rule.{InShape, IsKept}
 use Rattle.arc_view.specs.Passes.{parted, newcomer}
 use Rattle.arc_view.proofs.Seats.{begins, splits_pass}
-use Rattle.arc_ops_passes.specs.Drives.{Drives}
+use Rattle.arc_ops_passes.specs.Drives.{Drives, IsChain}
 use Rattle.arc_replays.specs.Replaying.{table, ReplaysBegin}
-use Rattle.arc_ops_passes.proofs.Laws.{new_steppers_drive}
+use Rattle.arc_ops_passes.proofs.Phases.{new_steppers_drive}
 use Rattle.arc_replays.proofs.GoesOn.{elem_here, elem_else}
 
 -- the first pass, once it has split off so many
@@ -127,16 +127,17 @@ replays_begin script came threads words sized new zeros =
       drives = λ i t at.
           let lt = slice_get_within threads i t at in
           let d = there n i (omega arith) in
-          let f = d.2 in (
-            d.0,
-            d.1,
-            subst (λ (x : Thread). Drives (work_of script i came) x d.0) (sym (new.new i t at)) (new_steppers_drive script i came d.0 (record {
+          let f = d.2 in
+          let begun = subst (λ (x : Thread). (e : Drives (work_of script i came) x d.0) × IsChain x.doing e.chain []) (sym (new.new i t at)) (
+            new_steppers_drive script i came d.0 (record {
               pass = f.pass;
               number = f.number;
               legal = subst (IsLegal script.shape) (sym f.seen) tt;
               in_shape = subst (InShape script.shape) (empty ∙ sym f.seen) k.in_shape;
               unused = ap (λ h. share h i) f.seen;
               working = f.working;
-            })),
-          );
+            }),
+            tt,
+          ) in
+          (d.0, d.1, begun.0, begun.1);
     }

@@ -53,9 +53,9 @@ below_few zero m h few = omega arith
 below_few (suc p) m h few = let a = few p in let ih = below_few p m h few in omega arith
 
 -- 65 threads to each of which so many came
-pub came_few : (h : History) → ((p : ℕ) → 64 < p → share h p ≡ []) → ((p : ℕ) → next_hand p h ≤ 100068) → came_in h < 1073741823
+pub came_few : (h : History) → ((p : ℕ) → 64 < p → share h p ≡ []) → ((p : ℕ) → next_hand p h ≤ 200067) → came_in h < 1073741823
 came_few h none few =
     let a = all_below 65 h (λ p ge. none p (omega arith)) in
-    let b = below_few 65 100067 h few in
-    let c : times 65 100067 ≡ 6504355 = refl in
+    let b = below_few 65 200066 h few in
+    let c : times 65 200066 ≡ 13004290 = refl in
     omega arith

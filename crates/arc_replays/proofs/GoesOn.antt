@@ -1,5 +1,5 @@
 -- A replay of many threads goes on, and its history is one.
-use Rattle.std.proofs.Common.{◌≡◌, ◌≢◌, ◌⊎◌, inl, inr, ⊎_elim, ℕ, zero, suc, ◌<◌, false, List, [], ◌∷◌, ◌++◌, length, set, get_or, Option, Some, None, refl, sym, ap, ◌∙◌, subst, arith, get_or-set_same, get_or-set_other}
+use Rattle.std.proofs.Common.{◌≡◌, ◌≢◌, ◌⊎◌, inl, inr, ⊎_elim, ℕ, zero, suc, ◌<◌, false, List, [], ◌∷◌, ◌++◌, length, set, get_or, Option, Some, None, refl, sym, ap, ◌∙◌, subst, arith, cond, eq-eqb, ne_eqb, get_or-set_same, get_or-set_other}
 use Rattle.std.specs.Prelude.{slice_get, slice_set}
 use Rattle.std.proofs.lemmas.List.{length-set}
 use Rattle.std.proofs.lemmas.Option.{slice_get_within, get_or_from_slice_get, slice_get_read}
@@ -9,10 +9,10 @@ use native.Mathlib.Decide.{ℕ_discrete}
 use lib.ListN.{get_elem?}
 use Rattle.arc_model.specs.Shapes.{HeapShape}
 use Rattle.arc_model.specs.History.{History, heap_after, share, IsLegal}
-use Rattle.arc_model.specs.SpellingTies.{Ties}
-use Rattle.arc_model.specs.SpellingTies.Causes.{Judged}
+use Rattle.arc_spelling.specs.SpellingTies.{Ties}
+use Rattle.arc_spelling.specs.SpellingTies.Causes.{Judged}
 use Rattle.arc_model.proofs.Basics.{None≢Some}
-use Rattle.arc_model.proofs.SpellTies.{ties_others, share_is as notes_share}
+use Rattle.arc_spelling.proofs.SpellTies.{ties_others, share_is as notes_share}
 use Rattle.arc_rule.specs.Shown.{ShowsBut}
 use Rattle.arc_rule.specs.Steps.{found_by, made_by}
 use Rattle.arc_rule.specs.declared.step.Step.{Step}
@@ -22,9 +22,10 @@ use Rattle.arc_rule.specs.declared.layout.Place.TheVariants as places
 use Rattle.arc_ops.specs.declared.stepper.Move.TheVariants as moves
 use Rattle.arc_ops.specs.Thread.{Thread}
 use Rattle.arc_ops.specs.Turns.{turned}
-use Rattle.arc_ops.specs.Takes.{takes}
+use Rattle.arc_ops.specs.Takes.{HasHandLeft}
 use Rattle.arc_programs.specs.ProgramsTied.{hands_in}
-use Rattle.arc_spelled.specs.StepperStands.{Work, IsServedWork, StandsFor}
+use Rattle.arc_cells.specs.Chains.{Frame}
+use Rattle.arc_spelled.specs.StepperStands.{Work, IsServedWork, StandsFor, chain_after}
 use Rattle.arc_spelled.specs.Came.{Extends, knowing}
 use Rattle.arc_spelled.proofs.MoreKnown.{more_is_known}
 use Rattle.arc_ops_passes.proofs.Hands.{others_bring_none}
@@ -36,14 +37,17 @@ use Rattle.arc_view.specs.Rule.{IsSized, Excepted}
 use Rattle.arc_view.specs.Kinds.{act_of, event_list}
 use Rattle.arc_view.specs.Steps.{Told}
 use Rattle.arc_view.proofs.Lists.{others_came}
-use Rattle.arc_ops_passes.specs.Drives.{Drives}
+use Rattle.arc_ops_passes.specs.Drives.{Drives, IsChain}
 use Rattle.arc_ops_passes.specs.Laws.{GoesOn, NamesVariables}
 use Rattle.arc_view.specs.Admission.{Admits}
-use Rattle.arc_replays.specs.Replaying.{StepMade, Replaying, MayTurn, ReplaysBeginPhases, ReplaysGoOn, ReplaysAreOneHistory, EndedThreadsSpell}
+use Rattle.arc_replays.specs.Stages.{with_chain}
+use Rattle.arc_replays.specs.Replaying.{StepMade, Replaying, MayTurn, ReplayGoesOn, ReplaysBeginPhases, ReplaysGoOn, ReplaysAreOneHistory, EndedThreadsSpell}
 use Rattle.arc_spelled.proofs.SteppersSpell.{ended_steppers_spell}
 use Rattle.arc_ops_passes.proofs.Goes.{event_is}
-use Rattle.arc_ops_passes.proofs.Laws.{phases_begin, steps_are_allowed, steppers_drive_on, ended_steppers_hold_nothing}
+use Rattle.arc_ops_passes.proofs.Laws.{steps_are_allowed, steppers_drive_on}
+use Rattle.arc_ops_passes.proofs.Phases.{phases_begin, ended_steppers_hold_nothing}
 use Rattle.arc_replays.proofs.Plain.{plain_steps_keep}
+use Rattle.arc_replays.proofs.Chains.{same_chain, stands_chain, fits_chain, after_chain}
 
 -- ---- lists
 
@@ -55,6 +59,11 @@ get_set xs i j x y e =
     dite (ℕ_discrete j i)
     (λ is. inl (is, sym (ap (λ n. get_or (set xs i x) n y) is ∙ get_or-set_same xs i x y (omega arith)) ∙ at))
     (λ ne. inr (ne, slice_get_read xs (length xs) j y refl (omega arith) (sym at ∙ get_or-set_other xs i j x y ne)))
+
+pub there_is : {X : Type 0} (xs : List X) (i : ℕ) → i < length xs → (x : X) × (slice_get xs i ≡ Some x)
+there_is [] i lt = absurd (omega arith)
+there_is (x ∷ xs) zero lt = (x, refl)
+there_is (x ∷ xs) (suc i) lt = there_is xs i (omega arith)
 
 pub elem_below : {X : Type 0} (xs : List X) (i : ℕ) (x : X) → get_elem? xs i ≡ some x → i < length xs
 elem_below [] i x e = absurd (cc)
@@ -75,8 +84,8 @@ elem_else (y ∷ xs) (suc i) (suc j) x ne = elem_else xs i j x (λ e. ne (ap suc
 
 -- ---- one step
 
-module _ (shape : HeapShape) (work : ℕ → Work) (threads : List Thread) (words : List ℕ) (log : History) (i : ℕ) (t : Thread) (step : Step) (intent : Intent) (r : Replaying shape work threads words log) (m : MayTurn shape work threads words i t step intent) where
-  abbrev its : (v : View) × (get_elem? r.views i ≡ some v) × Drives (work i) t v
+module _ (shape : HeapShape) (work : ℕ → Work) (chains : ℕ → List Frame) (threads : List Thread) (words : List ℕ) (log : History) (i : ℕ) (t : Thread) (step : Step) (intent : Intent) (r : Replaying shape work chains threads words log) (m : MayTurn shape work threads words i t step intent) where
+  abbrev its : (v : View) × (get_elem? r.views i ≡ some v) × (d : Drives (work i) t v) × IsChain t.doing d.chain (chains i)
   its = r.drives i t m.there
 
   abbrev found : ℕ
@@ -85,46 +94,52 @@ module _ (shape : HeapShape) (work : ℕ → Work) (threads : List Thread) (word
   -- the step that the pass makes, and what the stepper makes of it
   pub record Turn : Type 0 where
     pub made : StepMade shape step intent words r.views i (r.drives i t m.there).0 r.kept.log
-    pub on : GoesOn (work i) t (r.drives i t m.there).0 step intent (found_by step words) made.view
+    pub on : GoesOn (r.drives i t m.there).2.chain (work i) t (r.drives i t m.there).0 step intent (found_by step words) made.view
     pub event : act_of shape (r.drives i t m.there).0 step intent (found_by step words) ≡ (turned t (Some (found_by step words))).event
 
   pub turn : Turn
   turn =
       let sized : IsSized (work i).shape = subst IsSized (sym m.same_shape) r.kept.sized in
-      let may : Admits shape its.0 step intent = subst (λ (s : HeapShape). Admits s its.0 step intent) m.same_shape (steps_are_allowed (work i) t its.0 step intent m.served m.no_fields m.stepper sized its.2 m.asked) in
+      let may : Admits shape its.0 step intent = subst (λ (s : HeapShape). Admits s its.0 step intent) m.same_shape (steps_are_allowed (work i) t its.0 step intent m.served m.stepper sized its.2 m.asked) in
       let made = plain_steps_keep shape words r.views i its.0 step intent r.kept its.1 its.2.pass may in
       let told : Told (work i).shape intent step its.0 found made.view = subst (λ (s : HeapShape). Told s intent step its.0 found made.view) (sym m.same_shape) made.told in
-      let g = steppers_drive_on (work i) t its.0 step intent found made.view m.served m.no_fields m.stepper sized its.2 m.asked told m.word in
+      let g = steppers_drive_on (work i) t its.0 step intent found made.view m.served m.stepper sized m.hand_left its.2 m.asked told m.word in
       record { made = made; on = g; event = ap (λ (s : HeapShape). act_of s its.0 step intent found) (sym m.same_shape) ∙ sym g.event }
 
-  replaying_on : Turn → Replaying shape work (slice_set threads i (turned t (Some found))) (made_by step words) (with_event_of (work i).thread (turned t (Some found)).event log)
+  -- the thread's chain after the step
+  abbrev own : List Frame
+  own = chain_after t (Some found) (chains i)
+
+  replaying_on : Turn → Replaying shape work (with_chain i own chains) (slice_set threads i (turned t (Some found))) (made_by step words) (with_event_of (work i).thread (turned t (Some found)).event log)
   replaying_on x =
       let u : Thread = turned t (Some found) in
-      let view : View = x.made.view in record {
+      let view : View = x.made.view in
+      let chain_is : x.on.drives.chain ≡ with_chain i own chains i = x.on.under ∙ (after_chain t.doing its.2.chain (chains i) (Some found) its.3 ∙ sym (ap (λ b. cond b own (chains i)) (eq-eqb i i refl))) in record {
         views = slice_set r.views i view;
         kept = x.made.kept;
         log_is = x.made.log_is ∙ ((λ j. event_list (its.2.number j) (x.event j) ++ r.log_is j) ∙ sym (event_is (work i).thread u.event log));
         as_many = length-set r.views i view ∙ (r.as_many ∙ sym (length-set threads i u));
         drives = λ j y at. ⊎_elim
-            (λ (same : (j ≡ i) × (u ≡ y)). (
-              view,
-              ap (get_elem? (set r.views i view)) same.0 ∙ elem_here r.views i view (elem_below r.views i its.0 its.1),
-              subst (λ (z : ℕ × Thread). Drives (work z.0) z.1 view) (λ k. (sym same.0 k, same.1 k)) x.on.drives,
-            ))
-            (λ (other : (j ≢ i) × (slice_get threads j ≡ Some y)). let o = r.drives j y other.1 in (o.0, elem_else r.views i j view other.0 ∙ o.1, o.2))
+            (λ (same : (j ≡ i) × (u ≡ y)).
+            let on = subst (λ (z : ℕ × Thread). (d : Drives (work z.0) z.1 view) × IsChain z.1.doing d.chain (with_chain i own chains z.0)) (λ k. (sym same.0 k, same.1 k)) (x.on.drives, same_chain u.doing x.on.drives.chain (with_chain i own chains i) chain_is) in
+            (view, ap (get_elem? (set r.views i view)) same.0 ∙ elem_here r.views i view (elem_below r.views i its.0 its.1), on.0, on.1))
+            (λ (other : (j ≢ i) × (slice_get threads j ≡ Some y)).
+            let o = r.drives j y other.1 in
+            let kept : chains j ≡ with_chain i own chains j = sym (ap (λ b. cond b own (chains j)) (ne_eqb j i other.0)) in
+            (o.0, elem_else r.views i j view other.0 ∙ o.1, o.2, subst (IsChain y.doing o.2.chain) kept o.3))
             (get_set threads i j u y at);
       }
 
-  pub goes : takes t (Some (found_by step words)) × Replaying shape work (slice_set threads i (turned t (Some (found_by step words)))) (made_by step words) (with_event_of (work i).thread (turned t (Some (found_by step words))).event log)
-  goes = (turn.on.takes_it, replaying_on turn)
+  pub goes : ReplayGoesOn shape work chains threads words log i t step
+  goes = record { takes_it = turn.on.takes_it; fits = fits_chain t.doing its.2.chain (chains i) (Some found) its.3 turn.on.fits; replaying = replaying_on turn }
 
 pub replays_go_on : ReplaysGoOn
-replays_go_on shape work threads words log i t step intent r m = goes shape work threads words log i t step intent r m
+replays_go_on shape work chains threads words log i t step intent r m = goes shape work chains threads words log i t step intent r m
 
 -- ---- phases begin
 
 pub replays_begin_phases : ReplaysBeginPhases
-replays_begin_phases shape work threads after words log r known b = record {
+replays_begin_phases shape work chains threads after words log r known b = record {
   views = r.views;
   kept = r.kept;
   log_is = r.log_is;
@@ -132,12 +147,16 @@ replays_begin_phases shape work threads after words log r known b = record {
   drives = λ i u at.
       let x = b.each i u at in
       let d = r.drives i x.before x.there in
-      (d.0, d.1, go i u x.before d.0 (known i x.before x.there) d.2 x.begun);
+      let on = go i u x.before d.0 (known i x.before x.there) d.2 d.3 x.begun in
+      (d.0, d.1, on.0, on.1);
 }
   where
-    go : (i : ℕ) (u t : Thread) (v : View) → IsServedWork (work i) × NamesVariables (work i) → Drives (work i) t v → (u ≡ t) ⊎ ((t.asked ≡ moves.PhaseEnd) × (u ≡ turned t None)) → Drives (work i) u v
-    go i u t v known d (inl same) = subst (λ (x : Thread). Drives (work i) x v) (sym same) d
-    go i u t v known d (inr begins) = subst (λ (x : Thread). Drives (work i) x v) (sym begins.1) (phases_begin (work i) t v known.0 known.1 d begins.0).1
+    go : (i : ℕ) (u t : Thread) (v : View) → IsServedWork (work i) × NamesVariables (work i) × HasHandLeft t → (d : Drives (work i) t v) → IsChain t.doing d.chain (chains i) → (u ≡ t) ⊎ ((t.asked ≡ moves.PhaseEnd) × (u ≡ turned t None))
+        → (e : Drives (work i) u v) × IsChain u.doing e.chain (chains i)
+    go i u t v known d chain (inl same) = subst (λ (x : Thread). (e : Drives (work i) x v) × IsChain x.doing e.chain (chains i)) (sym same) (d, chain)
+    go i u t v known d chain (inr begins) =
+        let begun = phases_begin (work i) t v known.0 known.1 known.2 d begins.0 in
+        subst (λ (x : Thread). (e : Drives (work i) x v) × IsChain x.doing e.chain (chains i)) (sym begins.1) (begun.drives, begun.no_chain (chains i))
 
 -- ---- one history
 
@@ -162,7 +181,7 @@ no_thread (t ∷ ts) zero lt e = None≢Some t (sym e)
 no_thread (t ∷ ts) (suc i) lt e = no_thread ts i (omega arith) e
 
 pub replays_are_one_history : ReplaysAreOneHistory
-replays_are_one_history shape work threads words log r = record {
+replays_are_one_history shape work chains threads words log r = record {
   legal = subst (IsLegal shape) r.log_is r.kept.legal;
   notes = λ i t at.
       let d = r.drives i t at in
@@ -174,7 +193,8 @@ replays_are_one_history shape work threads words log r = record {
       let extends : Extends (hands_in v.number v.seen) (hands_in (work i).thread log) = λ x ref known.
       subst (λ (q : ℕ × History). hands_in q.0 q.1 x ≡ Some ref) (λ j. (drives.number j, (sym f.begins.1 ∙ r.log_is) j))
       (others_bring_none v.number rest v.seen x (others_came v.number r.kept.log v.seen rest f.begins.1 (f.own drives.pass)) ∙ known) in
-      let stands : StandsFor (knowing (hands_in (work i).thread log) (work i)) t [] drives.notes = more_is_known (knowing (hands_in v.number v.seen) (work i)) (hands_in (work i).thread log) t [] drives.notes drives.stands extends in
+      let known : StandsFor (knowing (hands_in (work i).thread log) (work i)) t drives.chain drives.notes = more_is_known (knowing (hands_in v.number v.seen) (work i)) (hands_in (work i).thread log) t drives.chain drives.notes drives.stands extends in
+      let stands : StandsFor (knowing (hands_in (work i).thread log) (work i)) t (chains i) drives.notes = stands_chain (knowing (hands_in (work i).thread log) (work i)) t drives.chain (chains i) drives.notes d.3 known in
       (drives.notes, stands, subst (Ties Judged (work i).shape (work i).thread drives.notes) (sym f.begins.1 ∙ r.log_is) (ties_others Judged (work i).shape (work i).thread drives.notes v.seen rest others drives.tied));
   shows = λ ended.
       let none : (pl : Place) → Excepted r.views pl → ⊥ = λ pl x.
@@ -195,10 +215,10 @@ replays_are_one_history shape work threads words log r = record {
         go None e = no_thread threads i lt e
 
 pub ended_threads_spell : EndedThreadsSpell
-ended_threads_spell script came threads words log i t valid served within r at ended =
-    let n = (replays_are_one_history script.shape (λ p. work_of script p came) threads words log r).notes i t at in record {
+ended_threads_spell script came chains threads words log i t valid served within r at ended =
+    let n = (replays_are_one_history script.shape (λ p. work_of script p came) chains threads words log r).notes i t at in record {
       notes = n.0;
       tied = n.2;
-      spelled = ended_steppers_spell script i (hands_in i log) t [] n.0 within n.1 ended;
+      spelled = ended_steppers_spell script i (hands_in i log) t (chains i) n.0 within n.1 ended;
       share_is = notes_share Judged script.shape i n.0 log n.2;
     }

@@ -3,7 +3,7 @@ use Rattle.std.proofs.Common.{◌≡◌, ◌≢◌, ◌⊎◌, inl, inr, ⊎_eli
 use Rattle.std.specs.Prelude.{slice_get, slice_set}
 use Rattle.std.specs.List.{AllByRecursion}
 use Rattle.std.proofs.lemmas.List.{length-map, length-set}
-use Rattle.std.proofs.lemmas.List.Elements.{All-from_recursion, recursion_from_All}
+use Rattle.std.proofs.lemmas.List.Elements.{All-from_recursion}
 use Rattle.std.proofs.lemmas.Option.{slice_get_within}
 use mathlib.Core.Logic.{dite}
 use mathlib.Core.Option.{some}
@@ -12,16 +12,17 @@ use lib.ListN.{get_elem?}
 use Rattle.arc_model.specs.declared.event.Act.{Act}
 use Rattle.arc_model.specs.Shapes.{HeapShape, ObjectClass}
 use Rattle.arc_model.specs.History.{History, heap_after, share, next_hand, brings}
-use Rattle.arc_model.specs.SpellingTies.Causes.{Judged}
+use Rattle.arc_spelling.specs.SpellingTies.Causes.{Judged}
 use Rattle.arc_model.proofs.Basics.{None≢Some, Some-inj}
-use Rattle.arc_model.proofs.SpellTies.{hands_are}
+use Rattle.arc_spelling.proofs.SpellTies.{hands_are}
 use Rattle.arc_rule.specs.Steps.{found_by, made_by}
 use Rattle.arc_rule.specs.declared.step.Step.{Step}
 use Rattle.arc_rule.specs.declared.step.Intent.{Intent}
 use Rattle.arc_script.specs.declared.script.ClassDecl.{ClassDecl}
 use Rattle.arc_script.specs.declared.script.VarDecl.{VarDecl}
 use Rattle.arc_script.specs.declared.script.Script.{Script}
-use Rattle.arc_script.specs.Valid.{IsScript, field_refs}
+use Rattle.arc_script.specs.declared.script.FieldDecl.{FieldDecl}
+use Rattle.arc_script.specs.Valid.{IsScript, AreFields, field_names, field_refs, class_refs}
 use Rattle.arc_quiet.specs.Whole.{NoOtherThread}
 use Rattle.arc_served.specs.Served.{IsServed}
 use Rattle.arc_ops.specs.declared.told.Stamped.{Stamped}
@@ -29,36 +30,44 @@ use Rattle.arc_ops.specs.declared.stepper.Move.{Move}
 use Rattle.arc_ops.specs.declared.stepper.Move.TheVariants as moves
 use Rattle.arc_ops.specs.Thread.{Thread, stepper_of}
 use Rattle.arc_ops.specs.Turns.{turned}
-use Rattle.arc_ops.specs.Takes.{takes}
+use Rattle.arc_ops.specs.Takes.{takes, HasHandLeft}
 use Rattle.arc_ops.specs.Steppers.{IsStepper}
 use Rattle.arc_programs.specs.Programs.{Hands}
-use Rattle.arc_spelled.specs.StepperStands.{Work}
+use Rattle.arc_programs.specs.ProgramsTied.{hands_in}
+use Rattle.arc_cells.specs.Chains.{Frame}
+use Rattle.arc_spelled.specs.StepperStands.{Work, chain_after, FitsChain}
+use Rattle.arc_spelled.specs.Puts.{IsStoodFor, AreStoodFor}
+use Rattle.arc_spelled.proofs.HandsLeft.{few_are_taken, hands_are_left}
 use Rattle.arc_spelled.specs.Spelled.{work_of, with_event_of}
 use Rattle.arc_spelled.proofs.SteppersSpell.{served-work}
 use Rattle.arc_view.specs.declared.view.View.{View}
 use Rattle.arc_view.specs.Rule.{IsSized}
-use Rattle.arc_ops_passes.specs.Drives.{Drives}
-use Rattle.arc_ops_passes.proofs.Laws.{scripts_name_variables}
+use Rattle.arc_ops_passes.specs.Drives.{Drives, IsChain}
+use Rattle.arc_ops_passes.proofs.Phases.{scripts_name_variables}
 use Rattle.arc_replays.specs.Histories.{history_of}
 use Rattle.arc_replays.specs.Named.{EventFits, EventsFit}
-use Rattle.arc_replays.specs.Replaying.{Replaying, MayTurn, IsBegun, AreBegun}
-use Rattle.arc_replays.specs.Stages.{Stage, Reached, first_stage, new_threads, begun_thread, begun_threads, awaits_phase, is_phase_end, stamped, stepped}
+use Rattle.arc_replays.specs.Replaying.{Replaying, MayTurn, IsBegun, AreBegun, IsOneHistory}
+use Rattle.arc_replays.specs.Stages.{Stage, Reached, first_stage, new_threads, begun_thread, begun_threads, awaits_phase, is_phase_end, stamped, stepped, with_chain, chains_at}
 use Rattle.arc_replays.specs.Stages.Reached.{new, begins, makes, passes, inside as goes_inside, ends_it, outside as goes_outside, by_number, last, last_step}
 use Rattle.arc_replays.proofs.Bare.{came_in, IsBareHeap, bare_after}
 use Rattle.arc_view_laws.proofs.Counted.{counted, counted_cons}
 use Rattle.arc_replays.proofs.Came.{came_few}
 use Rattle.arc_replays.proofs.Beginning.{replays_begin}
-use Rattle.arc_replays.proofs.GoesOn.{get_set, Turn, turn, goes, replays_are_one_history, replays_begin_phases}
+use Rattle.arc_replays.proofs.GoesOn.{get_set, there_is, Turn, turn, goes, replays_are_one_history, replays_begin_phases}
 use Rattle.arc_replays.proofs.Serves.{Serves, serves}
 
 -- ---- the script's shape
 
-no_fields_few : (classes : List ObjectClass) → AllByRecursion (λ (c : ObjectClass). c.fields ≡ []) classes → AllByRecursion (λ (c : ObjectClass). length c.fields ≤ 8) classes
-no_fields_few [] none = tt
-no_fields_few (c ∷ classes) none = (let e : length c.fields ≡ 0 = ap length none.0 in omega arith, no_fields_few classes none.1)
+fields_few : (n : ℕ) (classes : List ClassDecl) → AllByRecursion (λ (c : ClassDecl). AreFields n c.fields) classes → AllByRecursion (λ (c : ObjectClass). length c.fields ≤ 8) (class_refs classes)
+fields_few n [] are = tt
+fields_few n (c ∷ classes) are =
+    let few = are.0.names.few in
+    let names : length (field_names c.fields) ≡ length c.fields = length-map c.fields (λ (f : FieldDecl). f.name) in
+    let refs : length (field_refs c.fields) ≡ length c.fields = length-map c.fields (λ (f : FieldDecl). record { kind = f.kind; class = f.class }) in
+    (omega (arith, few, names, refs), fields_few n classes are.1)
 
-pub is_sized : (script : Script) → IsScript script → IsServed script → IsSized script.shape
-is_sized script valid served =
+pub is_sized : (script : Script) → IsScript script → IsSized script.shape
+is_sized script valid =
     let classes : length script.shape.classes ≡ length script.classes = ap length valid.heading.of_classes ∙ length-map script.classes (λ (c : ClassDecl). record { fields = field_refs c.fields; immortal = c.immortal }) in
     let names : length (map (λ (c : ClassDecl). c.name) script.classes) ≡ length script.classes = length-map script.classes (λ (c : ClassDecl). c.name) in
     let few = valid.heading.classes_named.names.few in
@@ -69,7 +78,7 @@ is_sized script valid served =
         slots_fit = valid.heading.slots;
         entries_fit = valid.heading.entries;
         classes_fit = omega arith;
-        fields_fit = All-from_recursion (λ (c : ObjectClass). length c.fields ≤ 8) script.shape.classes (no_fields_few script.shape.classes (recursion_from_All (λ (c : ObjectClass). c.fields ≡ []) script.shape.classes served.without_fields));
+        fields_fit = All-from_recursion (λ (c : ObjectClass). length c.fields ≤ 8) script.shape.classes (subst (AllByRecursion (λ (c : ObjectClass). length c.fields ≤ 8)) (sym valid.heading.of_classes) (fields_few (length script.classes) script.classes valid.heading.classes_named.fields));
         globals_fit = omega arith;
       };
       caps_fit = valid.heading.caps;
@@ -109,83 +118,110 @@ came_on p q (Some a) log m few own = dite (ℕ_discrete q p) same other
 
 -- ---- at a stage
 
-pub record Holds (script : Script) (came : Hands) (s : Stage) : Type 0 where
-  pub replaying : Replaying script.shape (λ p. work_of script p came) s.threads s.words (history_of s.events)
+pub record Holds (script : Script) (came : Hands) (chains : ℕ → List Frame) (s : Stage) : Type 0 where
+  pub replaying : Replaying script.shape (λ p. work_of script p came) chains s.threads s.words (history_of s.events)
   pub as_many : length s.threads ≡ length script.threads + 1
   pub events_fit : EventsFit script.shape (history_of s.events)
-  -- how many references came to each thread: one for each operation and each global at most, and a few more
-  pub few : (p : ℕ) → next_hand p (history_of s.events) ≤ 100068
+  -- how many references came to each thread: one for each operation and each global at most, as many out of fields as all operations
+  -- put into cells, and a few more
+  pub few : (p : ℕ) → next_hand p (history_of s.events) ≤ 200067
   pub no_other : NoOtherThread script (history_of s.events)
 
-pub record GoesTo (script : Script) (came : Hands) (s : Stage) (p : ℕ) (t : Thread) (step : Step) : Type 0 where
+pub record GoesTo (script : Script) (came : Hands) (chains : ℕ → List Frame) (s : Stage) (p : ℕ) (t : Thread) (step : Step) : Type 0 where
   pub takes_it : takes t (Some (found_by step s.words))
-  pub holds : Holds script came (stepped p t step s)
+  pub fits : FitsChain t (chains p) (Some (found_by step s.words))
+  pub holds : Holds script came (with_chain p (chain_after t (Some (found_by step s.words)) (chains p)) chains) (stepped p t step s)
 
 module _ (script : Script) (came : Hands) (valid : IsScript script) (served : IsServed script) where
   abbrev work : ℕ → Work
   work p = work_of script p came
 
-  module _ (s : Stage) (h : Holds script came s) where
+  module _ (chains : ℕ → List Frame) (s : Stage) (h : Holds script came chains s) where
     abbrev log : History
     log = history_of s.events
 
     bare : IsBareHeap (came_in log) (heap_after h.replaying.kept.log)
     bare = subst (λ (l : History). IsBareHeap (came_in log) (heap_after l)) (sym h.replaying.log_is) (bare_after script.shape log h.events_fit)
 
-    few_came : came_in log < script.shape.caps.strong
+    pub few_came : came_in log < script.shape.caps.strong
     few_came =
         let few = came_few log (λ p lt. ap (λ (l : History). share l p) (sym h.replaying.log_is) ∙ h.replaying.kept.strange p (let most = h.replaying.kept.few in omega arith)) h.few in
         let cap = served.strong_cap in
         omega arith
 
-    few_unowned_came : suc (came_in log) < script.shape.caps.unowned
+    pub few_unowned_came : suc (came_in log) < script.shape.caps.unowned
     few_unowned_came = let few = few_came in let cap = served.strong_cap in let other = served.unowned_cap in omega arith
 
+    -- ---- each thread's hands
+
+    one : IsOneHistory script.shape work chains s.threads s.words log
+    one = replays_are_one_history script.shape work chains s.threads s.words log h.replaying
+
+    abbrev stood : (p : ℕ) (t : Thread) → slice_get s.threads p ≡ Some t → IsStoodFor Judged script p log
+    stood p t there = let n = one.notes p t there in record { came = hands_in p log; stepper = t; chain = chains p; notes = n.0; stands = n.1; tied = n.2 }
+
+    all_stood : AreStoodFor Judged script log
+    all_stood = record {
+      valid = valid;
+      legal = one.legal;
+      no_other = h.no_other;
+      each = λ q le. let t = there_is s.threads q (let long = h.as_many in omega arith) in stood q t.0 t.1;
+    }
+
+    pub hand_left : (p : ℕ) (t : Thread) → slice_get s.threads p ≡ Some t → HasHandLeft t
+    hand_left p t there = (hands_are_left Judged script log p (stood p t there) all_stood).1
+
+    few_taken : (p : ℕ) (t : Thread) → slice_get s.threads p ≡ Some t → t.taken ≤ 100000
+    few_taken p t there = let counted = (hands_are_left Judged script log p (stood p t there) all_stood).0 in let few = few_are_taken Judged script log p all_stood in omega (arith, counted, few)
+
     module _ (p : ℕ) (t : Thread) (step : Step) (intent : Intent) (there : slice_get s.threads p ≡ Some t) (stepper : IsStepper t) (asked : t.asked ≡ moves.Step step intent) where
-      abbrev its : (v : View) × (get_elem? h.replaying.views p ≡ some v) × Drives (work_of script p came) t v
+      abbrev its : (v : View) × (get_elem? h.replaying.views p ≡ some v) × (d : Drives (work_of script p came) t v) × IsChain t.doing d.chain (chains p)
       its = h.replaying.drives p t there
 
       serves_it : Serves (work_of script p came) s.words h.replaying.views h.replaying.kept p its.0 its.1 its.2.pass (came_in log) bare few_came few_unowned_came t step intent asked step intent
-      serves_it = serves (work_of script p came) s.words h.replaying.views h.replaying.kept p its.0 its.1 its.2.pass (came_in log) bare few_came few_unowned_came t step intent asked (served-work script p came valid served) served.without_fields stepper its.2
+      serves_it = serves (work_of script p came) s.words h.replaying.views h.replaying.kept p its.0 its.1 its.2.pass (came_in log) bare few_came few_unowned_came t step intent asked (served-work script p came valid served) stepper its.2
 
       abbrev may_turn : MayTurn script.shape (λ q. work_of script q came) s.threads s.words p t step intent
-      may_turn = record { there = there; asked = asked; stepper = stepper; served = served-work script p came valid served; no_fields = served.without_fields; same_shape = refl; word = serves_it.word }
+      may_turn = record { there = there; asked = asked; stepper = stepper; served = served-work script p came valid served; hand_left = hand_left p t there; same_shape = refl; word = serves_it.word }
 
       -- so many references came to the thread
-      few_hands : next_hand p log ≤ 100067
+      few_hands : next_hand p log ≤ 200066
       few_hands =
-          let n = (replays_are_one_history script.shape (λ q. work_of script q came) s.threads s.words log h.replaying).notes p t there in
+          let n = one.notes p t there in
           let is : next_hand p log ≡ t.hands + 1 = hands_are Judged script.shape p n.0 log n.2 ∙ ap (λ k. k + 1) (sym n.1.counts.hands_are) in
-          let hands = stepper.hands in let untaken = its.2.untaken in let index = stepper.index in let few = stepper.few in let cleared = stepper.cleared in let globals = stepper.globals in
+          let hands = stepper.hands in let taken = few_taken p t there in let index = stepper.index in let few = stepper.few in let cleared = stepper.cleared in let globals = stepper.globals in
           omega arith
 
-      pub goes_to : GoesTo script came s p t step
+      pub goes_to : GoesTo script came chains s p t step
       goes_to =
           let m = may_turn in
           let u : Thread = turned t (Some (found_by step s.words)) in
-          let x : Turn script.shape work s.threads s.words log p t step intent h.replaying m = turn script.shape work s.threads s.words log p t step intent h.replaying m in
-          let g = goes script.shape work s.threads s.words log p t step intent h.replaying m in
+          let own : List Frame = chain_after t (Some (found_by step s.words)) (chains p) in
+          let x : Turn script.shape work chains s.threads s.words log p t step intent h.replaying m = turn script.shape work chains s.threads s.words log p t step intent h.replaying m in
+          let g = goes script.shape work chains s.threads s.words log p t step intent h.replaying m in
           let same : with_event_of p u.event log ≡ history_of (stamped (s.steps + 1) p u.event s.events) = sym (history_stamped (s.steps + 1) p u.event s.events) in record {
-            takes_it = g.0;
+            takes_it = g.takes_it;
+            fits = g.fits;
             holds = record {
-              replaying = subst (λ (l : History). Replaying script.shape work (slice_set s.threads p u) (made_by step s.words) l) same g.1;
+              replaying = subst (λ (l : History). Replaying script.shape work (with_chain p own chains) (slice_set s.threads p u) (made_by step s.words) l) same g.replaying;
               as_many = length-set s.threads p u ∙ h.as_many;
               events_fit = subst (EventsFit script.shape) same (fits_on script.shape p u.event log (subst (EventFits script.shape) x.event serves_it.event) h.events_fit);
               no_other = subst (NoOtherThread script) same (within_on script p u.event log (let lt = slice_get_within s.threads p t there in let long = h.as_many in omega arith) h.no_other);
-              few = λ q. subst (λ (l : History). next_hand q l ≤ 100068) same (came_on p q u.event log 100068 (h.few q) (λ own. let f = few_hands in let e : next_hand q log ≡ next_hand p log = ap (λ (k : ℕ). next_hand k log) own in omega arith));
+              few = λ q. subst (λ (l : History). next_hand q l ≤ 200067) same (came_on p q u.event log 200067 (h.few q) (λ own. let f = few_hands in let e : next_hand q log ≡ next_hand p log = ap (λ (k : ℕ). next_hand k log) own in omega arith));
             };
           }
 
-    pub holds_begun : (after : List Thread) (n : ℕ) → AreBegun s.threads after → Holds script came (record s { begun = n; threads = after })
+    pub holds_begun : (after : List Thread) (n : ℕ) → AreBegun s.threads after → Holds script came chains (record s { begun = n; threads = after })
     holds_begun after n b = record {
-      replaying = replays_begin_phases script.shape work s.threads after s.words log h.replaying (λ i t at. (served-work script i came valid served, scripts_name_variables script i came valid served (let lt = slice_get_within s.threads i t at in let long = h.as_many in omega arith))) b;
+      replaying = replays_begin_phases script.shape work chains s.threads after s.words log h.replaying
+          (λ i t at. (served-work script i came valid served, scripts_name_variables script i came valid served (let lt = slice_get_within s.threads i t at in let long = h.as_many in omega arith), hand_left i t at)) b;
       as_many = b.as_many ∙ h.as_many;
       events_fit = h.events_fit;
       few = h.few;
       no_other = h.no_other;
     }
 
-    pub holds_on_places : (places : List ℕ) → Holds script came (record s { places = places })
+    pub holds_on_places : (places : List ℕ) → Holds script came chains (record s { places = places })
     holds_on_places places = record { replaying = h.replaying; as_many = h.as_many; events_fit = h.events_fit; few = h.few; no_other = h.no_other }
 
   -- ---- the first stage
@@ -199,9 +235,9 @@ module _ (script : Script) (came : Hands) (valid : IsScript script) (served : Is
   new_are (suc n) p zero t at = sym (Some-inj at) ∙ ap (stepper_of script) (omega arith)
   new_are (suc n) p (suc i) t at = new_are n (p + 1) i t at ∙ ap (stepper_of script) (omega arith)
 
-  holds_first : Holds script came (first_stage script)
+  holds_first : Holds script came (λ p. []) (first_stage script)
   holds_first = record {
-    replaying = replays_begin script came (new_threads script (length script.threads + 1) 0) (first_stage script).words (is_sized script valid served) (record {
+    replaying = replays_begin script came (new_threads script (length script.threads + 1) 0) (first_stage script).words (is_sized script valid) (record {
       few = (let l = new_length (length script.threads + 1) 0 in let few = valid.few_threads in omega arith);
       some = (let l = new_length (length script.threads + 1) 0 in omega arith);
       new = λ i t at. new_are (length script.threads + 1) 0 i t at ∙ ap (stepper_of script) (omega arith);
@@ -250,18 +286,20 @@ one_begun ts p t there awaits = record {
 
 -- ---- all stages
 
-pub reached_holds : (script : Script) (came : Hands) → IsScript script → IsServed script → (ending : ℕ) (s : Stage) → Reached script ending s → Holds script came s
+pub reached_holds : (script : Script) (came : Hands) → IsScript script → IsServed script → (ending : ℕ) (s : Stage) (r : Reached script ending s) → Holds script came (chains_at r) s
 reached_holds script came valid served _ _ new = holds_first script came valid served
-reached_holds script came valid served _ _ (begins {s = s} r none waits may) = holds_begun script came valid served s (reached_holds script came valid served 0 s r) (begun_threads s.threads) (s.begun + 1) (all_begun s.threads)
+reached_holds script came valid served _ _ (begins {s = s} r none waits may) =
+    holds_begun script came valid served (chains_at r) s (reached_holds script came valid served 0 s r) (begun_threads s.threads) (s.begun + 1) (all_begun s.threads)
 reached_holds script came valid served _ _ (makes {s = s} {p = p} {places = places} {t = t} step intent r next other m) =
-    (goes_to script came valid served (record s { places = places }) (holds_on_places script came valid served s (reached_holds script came valid served 0 s r) places) p t step intent m.there m.stepper m.asked).holds
-reached_holds script came valid served _ _ (passes {s = s} {places = places} r next other there none busy) = holds_on_places script came valid served s (reached_holds script came valid served 0 s r) places
+    (goes_to script came valid served (chains_at r) (record s { places = places }) (holds_on_places script came valid served (chains_at r) s (reached_holds script came valid served 0 s r) places) p t step intent m.there m.stepper m.asked).holds
+reached_holds script came valid served _ _ (passes {s = s} {places = places} r next other there none busy) = holds_on_places script came valid served (chains_at r) s (reached_holds script came valid served 0 s r) places
 reached_holds script came valid served _ _ (goes_inside {s = s} r next other first there is) = reached_holds script came valid served 0 s r
 reached_holds script came valid served _ _ (ends_it {s = s} {p = p} {t = t} step intent r other m is) =
-    (goes_to script came valid served s (reached_holds script came valid served p s r) p t step intent m.there m.stepper m.asked).holds
+    (goes_to script came valid served (chains_at r) s (reached_holds script came valid served p s r) p t step intent m.there m.stepper m.asked).holds
 reached_holds script came valid served _ _ (goes_outside {s = s} {p = p} r other there is) = reached_holds script came valid served p s r
 reached_holds script came valid served _ _ (by_number {s = s} {p = p} {t = t} step intent r next other first alone m) =
-    (goes_to script came valid served s (reached_holds script came valid served 0 s r) p t step intent m.there m.stepper m.asked).holds
+    (goes_to script came valid served (chains_at r) s (reached_holds script came valid served 0 s r) p t step intent m.there m.stepper m.asked).holds
 reached_holds script came valid served _ _ (last {s = s} {t = t} r none ends there awaits may) =
-    holds_begun script came valid served s (reached_holds script came valid served 0 s r) (slice_set s.threads 0 (turned t None)) s.begun (one_begun s.threads 0 t there awaits)
-reached_holds script came valid served _ _ (last_step {s = s} {t = t} step intent r m) = (goes_to script came valid served s (reached_holds script came valid served 0 s r) 0 t step intent m.there m.stepper m.asked).holds
+    holds_begun script came valid served (chains_at r) s (reached_holds script came valid served 0 s r) (slice_set s.threads 0 (turned t None)) s.begun (one_begun s.threads 0 t there awaits)
+reached_holds script came valid served _ _ (last_step {s = s} {t = t} step intent r m) =
+    (goes_to script came valid served (chains_at r) s (reached_holds script came valid served 0 s r) 0 t step intent m.there m.stepper m.asked).holds

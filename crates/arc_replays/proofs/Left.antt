@@ -1,14 +1,13 @@
--- What is left in a quiet heap of a shape without fields: of the objects that have a slot, immortal ones alone.
-use Rattle.std.proofs.Common.{◌≡◌, ℕ, zero, suc, Bool, true, false, cond, List, [], ◌∷◌, get_or, Some, None, refl, sym, ap, ◌∙◌, arith}
+-- What is left in a quiet heap where strong fields lead one way and immortal objects have none: of the objects that have a slot, immortal ones alone.
+use Rattle.std.proofs.Common.{◌≡◌, ℕ, zero, suc, ◌<◌, Bool, true, false, cond, List, [], ◌∷◌, Some, None, refl, sym, ap, ◌∙◌, arith}
 use Rattle.std.specs.Prelude.{slice_get, find}
-use Rattle.std.specs.List.{AllByRecursion}
 use Rattle.arc_model.specs.declared.shape.Kind.{Kind}
 use Rattle.arc_model.specs.declared.shape.Kind.TheVariants.{Strong, Unowned}
 use Rattle.arc_model.specs.declared.shape.RefShape.{RefShape}
-use Rattle.arc_model.specs.Shapes.{HeapShape, ObjectClass}
-use Rattle.arc_model.specs.Heaps.{Duty, Deinit, Vacating, Gone, Strongs, Unowneds, Forever, Object}
+use Rattle.arc_model.specs.Shapes.{HeapShape}
+use Rattle.arc_model.specs.Heaps.{Field, Duty, Deinit, Vacating, Gone, Strongs, Unowneds, Forever, Object}
 use Rattle.arc_model.specs.Holders.{is_empty, in_slot, is_duty, list_of}
-use Rattle.arc_model.specs.Cells.{is_immortal, is_kind}
+use Rattle.arc_model.specs.Cells.{is_immortal, is_live, is_kind, field_shape}
 use Rattle.arc_model.specs.History.{History, heap_after, IsLegal}
 use Rattle.arc_model.specs.Lookup.{spot}
 use Rattle.arc_model.specs.WellFormed.{IsWhole, stray, tally}
@@ -17,25 +16,45 @@ use Rattle.arc_model.proofs.Basics.{None≢Some, Some-inj, true≢false}
 use Rattle.arc_model.proofs.CellKinds.{cell_kinds_after}
 use Rattle.arc_model.proofs.Courses.{well_formed}
 use Rattle.arc_model.proofs.Others.{lookup_after}
+use Rattle.arc_quiet.specs.OneWay.{StrongFieldsLeadOneWay, CellsKeepClasses}
 use Rattle.arc_quiet.specs.Quiet.{IsQuietHeap}
-use Rattle.arc_quiet.proofs.Chains.{no-duty, owner-of, first, own-unless, mortal-strong}
+use Rattle.arc_quiet.proofs.Chains.{no-duty, owner-of, first, own-unless, mortal-strong, live_is_held}
+use Rattle.arc_view.proofs.Swapping.{named_kind}
+use Rattle.arc_replays.specs.Left.{ImmortalsHaveNoFields}
 
--- classes without fields have none at any place
-no_field : (classes : List ObjectClass) (i f : ℕ) → AllByRecursion (λ (c : ObjectClass). c.fields ≡ []) classes → slice_get (get_or classes i (record { fields = []; immortal = false })).fields f ≡ None
-no_field [] i f none = refl
-no_field (c ∷ classes) zero f none = ap (λ (fields : List RefShape). slice_get fields f) none.0
-no_field (c ∷ classes) (suc i) f none = no_field classes i f none.1
+module _ (shape : HeapShape) (h : History) (legal : IsLegal shape h) (bare : ImmortalsHaveNoFields shape) (ways : StrongFieldsLeadOneWay shape) (classes : CellsKeepClasses shape (heap_after h)) (quiet : IsQuietHeap (heap_after h)) where
+  -- an immortal object has no field of any kind
+  no_field : {A : Type 0} (o : Object) (f : ℕ) (k : Kind) → is_immortal shape o ≡ true → is_kind k (field_shape shape f (Some o)) ≡ true → A
+  no_field o f k immortal is = absurd (true≢false (sym is ∙ ap (λ (fields : List RefShape). is_kind k (slice_get fields f)) (bare o.class immortal)))
 
-module _ (shape : HeapShape) (h : History) (legal : IsLegal shape h) (bare : AllByRecursion (λ (c : ObjectClass). c.fields ≡ []) shape.classes) (quiet : IsQuietHeap (heap_after h)) where
+  -- no mortal object of a class below n is live: it would be held by a strong field of a live object of an earlier class
+  none_live : {A : Type 0} (n i : ℕ) (o : Object) → slice_get (heap_after h).objects i ≡ Some o → o.class < n → is_live shape o ≡ true → is_immortal shape o ≡ false → A
+  none_live zero i o here below alive mortal = absurd (omega (arith, below))
+  none_live (suc n) i o here below alive mortal =
+      let w = live_is_held shape h i o legal quiet here alive mortal in
+      let r = named_kind Strong (field_shape shape w.field (Some w.owner)) w.strong in
+      let at = (lookup_after shape h (Field w.owner.id w.field) legal refl).only i o Strong here w.holds in
+      let same = classes.fields w.place w.owner w.field r.0 (record { place = i; kind = Strong }) o w.here r.1 at here in
+      let less = ways w.owner.class w.field r.0 r.1 r.2 in
+      by w.owner w.field (is_immortal shape w.owner) refl w.strong (none_live n w.place w.owner w.here (omega (arith, below, same, less)) w.live)
+    where
+      by : {A : Type 0} (owner : Object) (field : ℕ) (b : Bool) → is_immortal shape owner ≡ b → is_kind Strong (field_shape shape field (Some owner)) ≡ true → (is_immortal shape owner ≡ false → A) → A
+      by owner field true is strong rest = no_field owner field Strong is strong
+      by owner field false is strong rest = rest is
+
   -- no list of an object has a holder but the extra ones
   unheld : {A : Type 0} (i : ℕ) (o : Object) (k : Kind) → slice_get (heap_after h).objects i ≡ Some o → is_empty (list_of k o) ≡ false → tally Strongs (list_of k o) ≡ 0 → tally Unowneds (list_of k o) ≡ 0 → tally Forever (list_of k o) ≡ 0 → A
-  unheld i o k here some a b c =
+  unheld {A = A} i o k here some a b c =
       let f = first (list_of k o) some in
       let own = own-unless f.holder (list_of k o) f.inside a b c in
       let at = (lookup_after shape h f.holder legal own).only i o k here f.inside in
       let w = owner-of shape h legal quiet f.holder (record { place = i; kind = k }) own at in
       let kind = (cell_kinds_after shape h legal).fields w.place w.owner w.field (record { place = i; kind = k }) w.here (ap (λ x. spot x (heap_after h)) (sym w.is) ∙ at) in
-      absurd (true≢false (sym kind ∙ ap (is_kind k) (no_field shape.classes w.owner.class w.field bare)))
+      by w.owner w.field (is_immortal shape w.owner) refl kind (none_live (suc w.owner.class) w.place w.owner w.here (omega arith) w.live)
+    where
+      by : (owner : Object) (field : ℕ) (b : Bool) → is_immortal shape owner ≡ b → is_kind k (field_shape shape field (Some owner)) ≡ true → (is_immortal shape owner ≡ false → A) → A
+      by owner field true is kind rest = no_field owner field k is kind
+      by owner field false is kind rest = rest is
 
   -- an object that has a slot is immortal
   pub slotted_immortal : (i s : ℕ) (o : Object) → slice_get (heap_after h).objects i ≡ Some o → o.slot ≡ Some s → is_immortal shape o ≡ true

@@ -1,4 +1,5 @@
 pub mod Plain
+pub mod Chains
 pub mod GoesOn
 pub mod Beginning
 pub mod Bare

@@ -13,7 +13,7 @@ use Rattle.arc_model.proofs.Basics.{None≢Some, Some-inj}
 use Rattle.arc_rule.specs.Steps.{found_by}
 use Rattle.arc_rule.specs.declared.step.Step.{Step}
 use Rattle.arc_rule.specs.declared.step.Intent.{Intent}
-use Rattle.arc_model.specs.Spelling.{Note}
+use Rattle.arc_spelling.specs.Spelling.{Note}
 use Rattle.arc_script.specs.declared.script.ClassDecl.{ClassDecl}
 use Rattle.arc_script.specs.declared.script.VarDecl.{VarDecl}
 use Rattle.arc_script.specs.declared.script.ThreadDecl.{ThreadDecl}
@@ -21,6 +21,7 @@ use Rattle.arc_script.specs.declared.script.Script.{Script}
 use Rattle.arc_script.specs.declared.script.Op.{Op}
 use Rattle.arc_script.specs.OneList.{in_one_list}
 use Rattle.arc_script.specs.Valid.{IsScript, IsThread}
+use Rattle.arc_cells.specs.Chains.{Frame}
 use Rattle.arc_programs.specs.Programs.{Hands, OpsDone, IsProgram}
 use Rattle.arc_programs.specs.ProgramsTied.{hands_in, operations, Spells}
 use Rattle.arc_programs.specs.ProgramsTied.Spells.{thread as spells_thread, end as spells_end}
@@ -38,9 +39,9 @@ use Rattle.arc_spelled.specs.StepperStands.{Asks, variables}
 use Rattle.arc_spelled.specs.Spelled.{work_of, with_event_of}
 use Rattle.arc_spelled.proofs.SteppersSpell.{ready_steppers_have_done}
 use Rattle.arc_replays.specs.Histories.{history_of}
-use Rattle.arc_replays.specs.Stages.{Stage, Reached, IsSome, IsNone, awaits_phase, first_stage, new_threads, begun_thread, begun_threads, has_step, is_step, is_phase_end, stepped}
+use Rattle.arc_replays.specs.Stages.{Stage, Reached, IsSome, IsNone, awaits_phase, first_stage, new_threads, begun_thread, begun_threads, has_step, is_step, is_phase_end, stepped, chains_at}
 use Rattle.arc_replays.specs.Stages.Reached.{new, begins, makes, passes, inside as goes_inside, ends_it, outside as goes_outside, by_number, last, last_step}
-use Rattle.arc_replays.proofs.GoesOn.{get_set, replays_are_one_history, ended_threads_spell}
+use Rattle.arc_replays.proofs.GoesOn.{get_set, there_is, replays_are_one_history, ended_threads_spell}
 use Rattle.arc_replays.proofs.Holds.{Holds, history_stamped, new_are, reached_holds}
 use Rattle.arc_replays.proofs.Turns.{IsBehind, IsAfter, turned_after}
 
@@ -73,11 +74,6 @@ pub record IsPhased (script : Script) (s : Stage) : Type 0 where
   pub last : StandsLast 0 (history_of s.events)
 
 -- ---- lists
-
-pub there_is : {X : Type 0} (xs : List X) (i : ℕ) → i < length xs → (x : X) × (slice_get xs i ≡ Some x)
-there_is [] i lt = absurd (omega arith)
-there_is (x ∷ xs) zero lt = (x, refl)
-there_is (x ∷ xs) (suc i) lt = there_is xs i (omega arith)
 
 -- a thread that may have begun its phase
 begun_there : (ts : List Thread) (i : ℕ) (u : Thread) → 1 ≤ i → slice_get (begun_threads ts) i ≡ Some u → (t : Thread) × (slice_get ts i ≡ Some t) × (begun_thread t ≡ u)
@@ -116,8 +112,8 @@ in_turn phases n begun u asks behind next = go u.asked asks behind
     go moves.Ended a b = omega arith
 
 -- the thread is one of the script, and stands for its notes
-stands_at : (script : Script) (came : Hands) (s : Stage) (h : Holds script came s) (p : ℕ) (t : Thread) → slice_get s.threads p ≡ Some t → (t.phases ≡ phases_of script p) × Asks t.doing t.asked
-stands_at script came s h p t there = let d = (h.replaying.drives p t there).2 in (d.stands.works.phases_is, d.stands.asks)
+stands_at : (script : Script) (came : Hands) (chains : ℕ → List Frame) (s : Stage) (h : Holds script came chains s) (p : ℕ) (t : Thread) → slice_get s.threads p ≡ Some t → (t.phases ≡ phases_of script p) × Asks t.doing t.asked
+stands_at script came chains s h p t there = let d = (h.replaying.drives p t there).2 in (d.stands.works.phases_is, d.stands.asks)
 
 turn_in : (script : Script) (p begun : ℕ) (t u : Thread) → t.phases ≡ phases_of script p → IsAfter t.phases t.phase u → Asks u.doing u.asked → t.phase + 1 ≡ begun → IsInPhase (length (phases_of script p)) begun u.asked u.phase
 turn_in script p begun t u phases after asks next = in_turn (length (phases_of script p)) t.phase begun u asks (subst (λ (ps : List (List Op)). IsBehind (length ps) t.phase u.asked u.doing u.phase) phases after.1) next
@@ -161,7 +157,7 @@ program_in : (script : Script) (any : Hands) (p : ℕ) (decl : ThreadDecl) (note
 program_in script any p decl notes other there (spells_thread {decl = d} positive at x) = subst (λ (e : ThreadDecl). IsProgram script.shape p any (operations e) (length e.vars) notes) (Some-inj (sym at ∙ there)) x
 program_in script any p decl notes other there (spells_end x n) = absurd (omega arith)
 
-module _ (script : Script) (came : Hands) (valid : IsScript script) (served : IsServed script) (s : Stage) (h : Holds script came s) (b : IsPhased script s) where
+module _ (script : Script) (came : Hands) (valid : IsScript script) (served : IsServed script) (chains : ℕ → List Frame) (s : Stage) (h : Holds script came chains s) (b : IsPhased script s) where
   abbrev log : History
   log = history_of s.events
 
@@ -182,15 +178,15 @@ module _ (script : Script) (came : Hands) (valid : IsScript script) (served : Is
 
       by : (t : Thread) → slice_get s.threads p ≡ Some t → (t.asked ≡ moves.PhaseEnd × (t.phase ≡ k) × (t.phase < length (phases_of script p))) ⊎ (t.asked ≡ moves.Ended × (length (phases_of script p) ≤ k)) → HasDonePhases script k p decl log
       by t at (inl (asked, phase, below)) =
-          let n = (replays_are_one_history script.shape (λ q. work_of script q came) s.threads s.words log h.replaying).notes p t at in
-          let ops : OpsDone script.shape p (hands_in p log) (program_of script p) (vars_of script p) (ops_in_first t.phase (phases_of script p)) (variables t.vars) n.0 = ready_steppers_have_done script p (hands_in p log) t [] n.0 n.1 asked in
+          let n = (replays_are_one_history script.shape (λ q. work_of script q came) chains s.threads s.words log h.replaying).notes p t at in
+          let ops : OpsDone script.shape p (hands_in p log) (program_of script p) (vars_of script p) (ops_in_first t.phase (phases_of script p)) (variables t.vars) n.0 = ready_steppers_have_done script p (hands_in p log) t (chains p) n.0 n.1 asked in
           done_some
           (subst (λ (x : ℕ × List (List Op)). x.0 < length x.1) (λ j. (phase j, phases_are j)) below)
           n.2
           (subst (λ (x : Option ThreadDecl × ℕ). OpsDone script.shape p (hands_in p log) (in_one_list 0 (phases_in x.0)) (count_of_vars x.0) (ops_in_first x.1 (phases_in x.0)) (variables t.vars) n.0) (λ j. (declared j, phase j)) ops)
       by t at (inr (asked, few)) =
           let le : p ≤ length script.threads = let lt = slice_get_within s.threads p t at in let long = h.as_many in omega arith in
-          let x = ended_threads_spell script came s.threads s.words log p t valid served le h.replaying at asked in
+          let x = ended_threads_spell script came chains s.threads s.words log p t valid served le h.replaying at asked in
           done_all (subst (λ (ps : List (List Op)). length ps ≤ k) phases_are few) x.tied (program_in script (hands_in p log) p decl x.notes other there x.spelled.spelled)
 
   -- the threads have done the phases that have begun
@@ -223,14 +219,14 @@ module _ (script : Script) (came : Hands) (valid : IsScript script) (served : Is
 
   -- ---- the next stage
 
-  each_on : (p : ℕ) (t : Thread) (step : Step) (intent : Intent) → slice_get s.threads p ≡ Some t → t.asked ≡ moves.Step step intent → Holds script came (stepped p t step s) →
+  each_on : (p : ℕ) (t : Thread) (step : Step) (intent : Intent) → slice_get s.threads p ≡ Some t → t.asked ≡ moves.Step step intent → (after : ℕ → List Frame) → Holds script came after (stepped p t step s) →
       (q : ℕ) (u : Thread) → 1 ≤ q → slice_get (stepped p t step s).threads q ≡ Some u → IsInPhase (length (phases_of script q)) s.begun u.asked u.phase
-  each_on p t step intent there asked on q u other at = ⊎_elim
+  each_on p t step intent there asked after_it on q u other at = ⊎_elim
       (λ (same : (q ≡ p) × (turned t (Some (found_by step s.words)) ≡ u)).
       let its : t.phase + 1 ≡ s.begun = subst (λ (m : Move). IsInPhase (length (phases_of script p)) s.begun m t.phase) asked (b.each p t (let e = same.0 in omega arith) there) in
       let after = turned_after t (Some (found_by step s.words)) (inl (step, intent, asked)) in
       subst (λ (n : ℕ). IsInPhase (length (phases_of script n)) s.begun u.asked u.phase) (sym same.0)
-      (turn_in script p s.begun t u (stands_at script came s h p t there).0 (subst (IsAfter t.phases t.phase) same.1 after) (stands_at script came (stepped p t step s) on q u at).1 its))
+      (turn_in script p s.begun t u (stands_at script came chains s h p t there).0 (subst (IsAfter t.phases t.phase) same.1 after) (stands_at script came after_it (stepped p t step s) on q u at).1 its))
       (λ (apart : (q ≢ p) × (slice_get s.threads q ≡ Some u)). b.each q u other apart.1)
       (get_set s.threads p q (turned t (Some (found_by step s.words))) u at)
 
@@ -238,9 +234,9 @@ module _ (script : Script) (came : Hands) (valid : IsScript script) (served : Is
   points_on p t step k x = subst (IsPoint script k) (sym (history_stamped (s.steps + 1) p (turned t (Some (found_by step s.words))).event s.events)) (point_on script k p (turned t (Some (found_by step s.words))).event log x)
 
   -- a thread of the script makes a step: thread 0 hasn't begun
-  phased_on : (p : ℕ) (t : Thread) (step : Step) (intent : Intent) → 1 ≤ p → slice_get s.threads p ≡ Some t → t.asked ≡ moves.Step step intent → Holds script came (stepped p t step s) → IsPhased script (stepped p t step s)
-  phased_on p t step intent positive there asked on = record {
-    each = each_on p t step intent there asked on;
+  phased_on : (p : ℕ) (t : Thread) (step : Step) (intent : Intent) → 1 ≤ p → slice_get s.threads p ≡ Some t → t.asked ≡ moves.Step step intent → (after : ℕ → List Frame) → Holds script came after (stepped p t step s) → IsPhased script (stepped p t step s)
+  phased_on p t step intent positive there asked after_it on = record {
+    each = each_on p t step intent there asked after_it on;
     points = λ k lt. points_on p t step k (b.points k lt);
     waits = λ u at awaits. after_none u at;
     begun_last = λ u at away. absurd (never u (zero_there u at) away);
@@ -270,9 +266,9 @@ module _ (script : Script) (came : Hands) (valid : IsScript script) (served : Is
       after_none u at = with_first (u, zero_there u at)
 
   -- thread 0 makes one
-  phased_last : (t : Thread) (step : Step) (intent : Intent) → slice_get s.threads 0 ≡ Some t → t.asked ≡ moves.Step step intent → Holds script came (stepped 0 t step s) → IsPhased script (stepped 0 t step s)
-  phased_last t step intent there asked on = record {
-    each = each_on 0 t step intent there asked on;
+  phased_last : (t : Thread) (step : Step) (intent : Intent) → slice_get s.threads 0 ≡ Some t → t.asked ≡ moves.Step step intent → (after : ℕ → List Frame) → Holds script came after (stepped 0 t step s) → IsPhased script (stepped 0 t step s)
+  phased_last t step intent there asked after_it on = record {
+    each = each_on 0 t step intent there asked after_it on;
     points = λ k lt. points_on 0 t step k (b.points k lt);
     waits = λ u at awaits. absurd (away u at awaits);
     begun_last = λ u at is. record { points = λ k le. points_on 0 t step k (its.points k le); no_step = λ q v other got. its.no_step q v other (others q v other got); no_phase = λ q v other got. its.no_phase q v other (others q v other got) };
@@ -291,14 +287,14 @@ module _ (script : Script) (came : Hands) (valid : IsScript script) (served : Is
       -- it has no phase
       away : (u : Thread) → slice_get (stepped 0 t step s).threads 0 ≡ Some u → awaits_phase u ≡ true → ⊥
       away u at awaits =
-          let stands = stands_at script came s h 0 t there in
+          let stands = stands_at script came chains s h 0 t there in
           let after = turned_after t (Some (found_by step s.words)) (inl (step, intent, asked)) in
           let same : turned t (Some (found_by step s.words)) ≡ u = ⊎_elim
           (λ (is : (0 ≡ 0) × (turned t (Some (found_by step s.words)) ≡ u)). is.1)
           (λ (apart : (0 ≢ 0) × (slice_get s.threads 0 ≡ Some u)). absurd (apart.0 refl))
           (get_set s.threads 0 0 (turned t (Some (found_by step s.words))) u at) in
           let after_u : IsBehind (length t.phases) t.phase u.asked u.doing u.phase = (subst (IsAfter t.phases t.phase) same after).1 in
-          go u.asked refl awaits (stands_at script came (stepped 0 t step s) on 0 u at).1 (subst (λ (ps : List (List Op)). IsBehind (length ps) t.phase u.asked u.doing u.phase) stands.0 after_u)
+          go u.asked refl awaits (stands_at script came after_it (stepped 0 t step s) on 0 u at).1 (subst (λ (ps : List (List Op)). IsBehind (length ps) t.phase u.asked u.doing u.phase) stands.0 after_u)
         where
           go : (m : Move) → u.asked ≡ m → is_phase_end u.asked ≡ true → Asks u.doing u.asked → IsBehind 0 t.phase u.asked u.doing u.phase → ⊥
           go (moves.Step st it) is e a behind = let f = ap is_phase_end is in absurd (cc)
@@ -308,7 +304,7 @@ module _ (script : Script) (came : Hands) (valid : IsScript script) (served : Is
               absurd (let lt = x.1 in omega arith)
           go moves.Ended is e a behind = let f = ap is_phase_end is in absurd (cc)
 
-  phased_begun : IsNone has_step s.threads → IsSome awaits_phase s.threads → Holds script came (record s { begun = s.begun + 1; threads = begun_threads s.threads }) → IsPhased script (record s { begun = s.begun + 1; threads = begun_threads s.threads })
+  phased_begun : IsNone has_step s.threads → IsSome awaits_phase s.threads → Holds script came chains (record s { begun = s.begun + 1; threads = begun_threads s.threads }) → IsPhased script (record s { begun = s.begun + 1; threads = begun_threads s.threads })
   phased_begun none some on = record { each = each; points = points; waits = λ t at awaits. main; begun_last = λ t at away. absurd (never t (first_there s.threads t at) away); last = none_last log main }
     where
       first_there : (ts : List Thread) (t : Thread) → slice_get (begun_threads ts) 0 ≡ Some t → slice_get ts 0 ≡ Some t
@@ -345,9 +341,9 @@ module _ (script : Script) (came : Hands) (valid : IsScript script) (served : Is
               go (moves.Step step intent) asked x still = absurd (let e = ap is_step asked in cc)
               go moves.PhaseEnd asked x still =
                   let turns : turned t None ≡ u = sym (ap (λ (m : Move). cond (is_phase_end m) (turned t None) t) asked) ∙ is in
-                  let stands = stands_at script came s h q t there in
+                  let stands = stands_at script came chains s h q t there in
                   let ready : t.doing ≡ Ready = ready_at_end t.doing (subst (Asks t.doing) asked stands.1) in
-                  turn_in script q (s.begun + 1) t u stands.0 (subst (IsAfter t.phases t.phase) turns (turned_after t None (inr ready))) (stands_at script came (record s { begun = s.begun + 1; threads = begun_threads s.threads }) on q u at).1 (let e = x.0 in omega arith)
+                  turn_in script q (s.begun + 1) t u stands.0 (subst (IsAfter t.phases t.phase) turns (turned_after t None (inr ready))) (stands_at script came chains (record s { begun = s.begun + 1; threads = begun_threads s.threads }) on q u at).1 (let e = x.0 in omega arith)
               go moves.Ended asked x still =
                   let same : t ≡ u = sym (ap (λ (m : Move). cond (is_phase_end m) (turned t None) t) asked) ∙ is in
                   let le : length (phases_of script q) ≤ s.begun + 1 = omega arith in
@@ -360,8 +356,8 @@ some_phase classes globals [] i decl all at = absurd (None≢Some decl at)
 some_phase classes globals (t ∷ ts) zero decl all at = subst (λ (d : ThreadDecl). 1 ≤ length d.phases) (Some-inj at) all.0.some_phase
 some_phase classes globals (t ∷ ts) (suc i) decl all at = some_phase classes globals ts i decl all.1 at
 
-phased_first : (script : Script) (came : Hands) → IsScript script → IsServed script → Holds script came (first_stage script) → IsPhased script (first_stage script)
-phased_first script came valid served h = record { each = each; points = λ k lt. absurd (omega arith); waits = λ t at awaits. refl; begun_last = λ t at away. absurd (first_waits t at away); last = refl }
+phased_first : (script : Script) (came : Hands) (chains : ℕ → List Frame) → IsScript script → IsServed script → Holds script came chains (first_stage script) → IsPhased script (first_stage script)
+phased_first script came chains valid served h = record { each = each; points = λ k lt. absurd (omega arith); waits = λ t at awaits. refl; begun_last = λ t at away. absurd (first_waits t at away); last = refl }
   where
     first_waits : (t : Thread) → slice_get (new_threads script (length script.threads + 1) 0) 0 ≡ Some t → awaits_phase t ≡ false → ⊥
     first_waits t at away =
@@ -382,26 +378,27 @@ phased_first script came valid served h = record { each = each; points = λ k lt
 -- ---- all stages
 
 pub reached_phased : (script : Script) (came : Hands) → IsScript script → IsServed script → (ending : ℕ) (s : Stage) → Reached script ending s → IsPhased script s
-reached_phased script came valid served _ _ new = phased_first script came valid served (reached_holds script came valid served 0 (first_stage script) new)
+reached_phased script came valid served _ _ new = phased_first script came (λ p. []) valid served (reached_holds script came valid served 0 (first_stage script) new)
 reached_phased script came valid served _ _ (begins {s = s} r none waits may) =
-    phased_begun script came valid served s (reached_holds script came valid served 0 s r) (reached_phased script came valid served 0 s r) none waits
+    phased_begun script came valid served (chains_at r) s (reached_holds script came valid served 0 s r) (reached_phased script came valid served 0 s r) none waits
     (reached_holds script came valid served 0 (record s { begun = s.begun + 1; threads = begun_threads s.threads }) (begins r none waits may))
 reached_phased script came valid served _ _ (makes {s = s} {p = p} {places = places} {t = t} step intent r next other m) =
     let h = reached_holds script came valid served 0 s r in
     let b = reached_phased script came valid served 0 s r in
-    phased_on script came valid served (record s { places = places }) (record { replaying = h.replaying; as_many = h.as_many; events_fit = h.events_fit; few = h.few; no_other = h.no_other })
+    phased_on script came valid served (chains_at r) (record s { places = places }) (record { replaying = h.replaying; as_many = h.as_many; events_fit = h.events_fit; few = h.few; no_other = h.no_other })
     (record { each = b.each; points = b.points; waits = b.waits; begun_last = λ u at away. (let x = b.begun_last u at away in record { points = x.points; no_step = x.no_step; no_phase = x.no_phase }); last = b.last }) p t step intent other m.there m.asked
-    (reached_holds script came valid served 0 (stepped p t step (record s { places = places })) (makes step intent r next other m))
+    (chains_at (makes step intent r next other m)) (reached_holds script came valid served 0 (stepped p t step (record s { places = places })) (makes step intent r next other m))
 reached_phased script came valid served _ _ (passes {s = s} {places = places} r next other there none busy) =
     let b = reached_phased script came valid served 0 s r in
     record { each = b.each; points = b.points; waits = b.waits; begun_last = λ u at away. (let x = b.begun_last u at away in record { points = x.points; no_step = x.no_step; no_phase = x.no_phase }); last = b.last }
 reached_phased script came valid served _ _ (goes_inside {s = s} r next other first there is) = reached_phased script came valid served 0 s r
 reached_phased script came valid served _ _ (ends_it {s = s} {p = p} {t = t} step intent r other m is) =
-    phased_on script came valid served s (reached_holds script came valid served p s r) (reached_phased script came valid served p s r) p t step intent other m.there m.asked (reached_holds script came valid served p (stepped p t step s) (ends_it step intent r other m is))
+    phased_on script came valid served (chains_at r) s (reached_holds script came valid served p s r) (reached_phased script came valid served p s r) p t step intent other m.there m.asked
+    (chains_at (ends_it step intent r other m is)) (reached_holds script came valid served p (stepped p t step s) (ends_it step intent r other m is))
 reached_phased script came valid served _ _ (goes_outside {s = s} {p = p} r other there is) = reached_phased script came valid served p s r
 reached_phased script came valid served _ _ (by_number {s = s} {p = p} {t = t} step intent r next other first alone m) =
-    phased_on script came valid served s (reached_holds script came valid served 0 s r) (reached_phased script came valid served 0 s r) p t step intent other m.there m.asked
-    (reached_holds script came valid served 0 (stepped p t step s) (by_number step intent r next other first alone m))
+    phased_on script came valid served (chains_at r) s (reached_holds script came valid served 0 s r) (reached_phased script came valid served 0 s r) p t step intent other m.there m.asked
+    (chains_at (by_number step intent r next other first alone m)) (reached_holds script came valid served 0 (stepped p t step s) (by_number step intent r next other first alone m))
 reached_phased script came valid served _ _ (last {s = s} {t = t} r none ends there awaits may) =
     let b = reached_phased script came valid served 0 s r in
     let main = b.waits t there awaits in
@@ -410,7 +407,7 @@ reached_phased script came valid served _ _ (last {s = s} {t = t} r none ends th
       points = b.points;
       waits = λ u at is. main;
       begun_last = λ u at away. record {
-        points = λ k le. point_of_all script came valid served s (reached_holds script came valid served 0 s r) b k le main none ends;
+        points = λ k le. point_of_all script came valid served (chains_at r) s (reached_holds script came valid served 0 s r) b k le main none ends;
         no_step = λ q v other got. none q v other (others q v other got);
         no_phase = λ q v other got. ends q v other (others q v other got);
       };
@@ -423,4 +420,5 @@ reached_phased script came valid served _ _ (last {s = s} {t = t} r none ends th
         (λ (apart : (q ≢ 0) × (slice_get s.threads q ≡ Some v)). apart.1)
         (get_set s.threads 0 q (turned t None) v at)
 reached_phased script came valid served _ _ (last_step {s = s} {t = t} step intent r m) =
-    phased_last script came valid served s (reached_holds script came valid served 0 s r) (reached_phased script came valid served 0 s r) t step intent m.there m.asked (reached_holds script came valid served 0 (stepped 0 t step s) (last_step step intent r m))
+    phased_last script came valid served (chains_at r) s (reached_holds script came valid served 0 s r) (reached_phased script came valid served 0 s r) t step intent m.there m.asked
+    (chains_at (last_step step intent r m)) (reached_holds script came valid served 0 (stepped 0 t step s) (last_step step intent r m))

@@ -1,5 +1,5 @@
 -- The word that a step finds is served, and the event that it has is one of the operations that are served.
-use Rattle.std.proofs.Common.{◌≡◌, inl, inr, ℕ, suc, ◌+◌, ◌<◌, ◌/◌, ◌==◌, Bool, true, false, cond, List, [], ◌++◌, length, Option, Some, None, refl, sym, ap, ◌∙◌, subst, arith}
+use Rattle.std.proofs.Common.{◌≡◌, inl, inr, ℕ, suc, ◌+◌, ◌≤◌, ◌<◌, ◌/◌, ◌==◌, Bool, true, false, cond, List, [], ◌∷◌, ◌++◌, length, Option, Some, None, refl, sym, ap, ◌∙◌, subst, arith}
 use Rattle.std.specs.Prelude.{slice_get, bit_and}
 use Rattle.std.proofs.lemmas.Option.{slice_get_within, get_or_from_slice_get}
 use Rattle.arc_bits.specs.Words.{unpacked}
@@ -14,7 +14,8 @@ use Rattle.arc_model.specs.declared.event.Got.TheVariants as gots
 use Rattle.arc_model.specs.declared.shape.Kind.{Kind}
 use Rattle.arc_model.specs.declared.shape.Kind.TheVariants.{Strong, Unowned, Weak}
 use Rattle.arc_model.specs.Shapes.{HeapShape, class_at}
-use Rattle.arc_model.specs.Heaps.{Hand, Duty, Deinit, Vacating, Object}
+use Rattle.arc_model.specs.Heaps.{Hand, Duty, Vacating, Object}
+use Rattle.arc_model.specs.References.{field_count}
 use Rattle.arc_model.specs.History.{History, heap_after, next_hand, share, IsLegal}
 use Rattle.arc_model.specs.Lookup.{spot}
 use Rattle.arc_model.proofs.Courses.{well_formed}
@@ -40,7 +41,10 @@ use Rattle.arc_plan.specs.declared.slots.Once.{Once}
 use Rattle.arc_plan.specs.declared.slots.Once.TheVariants as once
 use Rattle.arc_cells.specs.declared.cascade.At.{At as CascadeAt}
 use Rattle.arc_cells.specs.declared.cascade.At.TheVariants as ats
-use Rattle.arc_cells.specs.Cascades.{HasNoFields}
+use Rattle.arc_cells.specs.declared.ref_drop.At.{At as DropAt}
+use Rattle.arc_cells.specs.declared.ref_drop.At.TheVariants as drops
+use Rattle.arc_cells.specs.Drops.{Dropping as Drop}
+use Rattle.arc_cells.specs.Chains.{Frame, next_word_of, parent_of}
 use Rattle.arc_ops.specs.Takes.{IsInline}
 use Rattle.arc_side.specs.Inline.{IsCountedInline}
 use Rattle.arc_script.specs.declared.script.Op.{Op}
@@ -62,7 +66,7 @@ use Rattle.arc_spelled.specs.StepperStands.{Work, IsServedWork, MakesUpTo, Gains
 use Rattle.arc_view.specs.declared.view.Role.TheVariants.{Pass}
 use Rattle.arc_view.specs.declared.view.View.{View}
 use Rattle.arc_view.specs.declared.view.Working.{Working}
-use Rattle.arc_view.specs.Admission.{KnowsSlot, KeepsObject}
+use Rattle.arc_view.specs.Admission.{KnowsSlot, KeepsObject, Admits}
 use Rattle.arc_view.specs.Holding.{At, IsSource}
 use Rattle.arc_view.proofs.Bridge.{unsettled}
 use Rattle.arc_view.proofs.Known.{AccessStays, cell_held, refers_still}
@@ -75,10 +79,11 @@ use Rattle.arc_view.proofs.Lists.{others_came}
 use Rattle.arc_view.proofs.Owed.{OwedLater, owed_stays}
 use Rattle.arc_view.proofs.Strongs.{slot_found}
 use Rattle.arc_view.proofs.Within.{each_at}
-use Rattle.arc_ops_passes.specs.References.{is_ref, Leads, LeadsFrom}
-use Rattle.arc_ops_passes.specs.Drives.{SearchAsks, AttemptAsks, CountAsks, OnceAsks, GainsFrom, VacateAsks, NameAsks, CascadeAsks, OwesOne, DutyAt, cascade_works, Drives}
+use Rattle.arc_ops_passes.specs.References.{is_ref, dropped_in_flight, taken_in_flight, Leads, LeadsFrom}
+use Rattle.arc_ops_passes.specs.Drives.{SearchAsks, AttemptAsks, CountAsks, OnceAsks, GainsFrom, VacateAsks, NameAsks, DropAsks, CascadeAsks, OwesOne, Due, IsDue, OwesAll, dying_due, vacating_due, dropped_dues, dues_at, waits, Drives}
 use Rattle.arc_ops_passes.specs.Laws.{IsBelowCaps, IsServedWord}
 use Rattle.arc_ops_passes.proofs.Goes.{Facts, facts, known, asked_is}
+use Rattle.arc_ops_passes.proofs.Laws.{steps_are_allowed}
 use Rattle.arc_ops_passes.proofs.Sources.{gains_owes}
 use Rattle.arc_ops_passes.proofs.Owned.{ref-itself}
 use Rattle.arc_ops_passes.proofs.Walks.{vars-least}
@@ -169,11 +174,11 @@ module _ (w : Work) (words : List ℕ) (views : List View) (k : IsKept w.shape (
       keeps (origins.Hand hand) source = inl (hand, from.kind, source.0, counted≢weak from.kind counted)
       keeps (origins.Cell cell) source = inr (inr (cell, from.kind, source, counted≢weak from.kind counted))
 
-  -- of an object to which it owes the deinit
-  owed_word : (s : ℕ) → s < w.shape.slots → v.working.owes ≡ None → OwesOne v Deinit s → IsInline (unpacked (word_at w.shape words (Count s)))
-  owed_word s lt free owes =
-      let later : OwedLater owes.place owes.object now = owed_stays w.shape v.number owes.place Deinit owes.object v.seen rest legal others owes.here owes.owes in
-      below_inline w.shape.caps _ (word_of s owes.place later.q later.here (later.slot ∙ owes.slot) (says s lt free (owes.place, owes.object, owes.here, owes.slot, inr (inl (Deinit, owes.owes)))))
+  -- of an object to which it owes something
+  owed_word : (q : Due) → q.slot < w.shape.slots → v.working.owes ≡ None → IsDue w.shape v q → IsInline (unpacked (word_at w.shape words (Count q.slot)))
+  owed_word q lt free o =
+      let later : OwedLater o.place o.object now = owed_stays w.shape v.number o.place q.duty o.object v.seen rest legal others o.here o.owes in
+      below_inline w.shape.caps _ (word_of q.slot o.place later.q later.here (later.slot ∙ o.slot) (says q.slot lt free (o.place, o.object, o.here, o.slot, inr (inl (q.duty, o.owes)))))
 
   -- ---- the step that the stepper asks for
 
@@ -352,17 +357,14 @@ module _ (w : Work) (words : List ℕ) (views : List View) (k : IsKept w.shape (
     })
     dropping held attempt.Ended lt free leads x = absurd x
 
-    apart : (s : ℕ) (pl : Place) → place_at (extent_of w.shape) (number (extent_of w.shape) pl) ≡ pl → s < w.shape.slots → (pl ≡ Count s → ⊥) → number (extent_of w.shape) pl ≡ number (extent_of w.shape) (Count s) → ⊥
-    apart s pl back lt ne e = ne (sym back ∙ (ap (place_at (extent_of w.shape)) e ∙ place_at-number (extent_of w.shape) (Count s) lt))
-
-    finishing : (s : ℕ) (a : AttemptAt) → s < w.shape.slots → v.working.owes ≡ None → OwesOne v Deinit s → CountAsks w.shape t.asked s (intents.Deinit s) a → Serves step intent
-    finishing s attempt.Start lt free owes x = absurd x
-    finishing s attempt.Loading lt free owes x = as_asked (Load (number (extent_of w.shape) (Count s))) (intents.Deinit s) x (record { word = λ _. owed_word s lt free owes; event = tt })
-    finishing s (attempt.Exchanging seen new) lt free owes x = as_asked (Exchange (number (extent_of w.shape) (Count s)) seen new) (intents.Deinit s) x (record {
+    finishing : (s : ℕ) (a : AttemptAt) → IsInline (unpacked (word_at w.shape words (Count s))) → CountAsks w.shape t.asked s (intents.Deinit s) a → Serves step intent
+    finishing s attempt.Start inline x = absurd x
+    finishing s attempt.Loading inline x = as_asked (Load (number (extent_of w.shape) (Count s))) (intents.Deinit s) x (record { word = λ _. inline; event = tt })
+    finishing s (attempt.Exchanging seen new) inline x = as_asked (Exchange (number (extent_of w.shape) (Count s)) seen new) (intents.Deinit s) x (record {
       word = tt;
       event = exchanged w.shape (word_at w.shape words (Count s) == seen) _ _ tt tt;
     })
-    finishing s attempt.Ended lt free owes x = absurd x
+    finishing s attempt.Ended inline x = absurd x
 
     vacating : (s : ℕ) (a : Once) → s < w.shape.slots → VacateAsks w.shape t.asked s a → Serves step intent
     vacating s once.Start lt x = absurd x
@@ -374,55 +376,63 @@ module _ (w : Work) (words : List ℕ) (views : List View) (k : IsKept w.shape (
         })
     vacating s once.Ended lt x = absurd x
 
-    dying : (s : ℕ) (a : CascadeAt) → s < w.shape.slots → v.working ≡ cascade_works s a → DutyAt v s a → CascadeAsks w.shape t.asked s a → Serves step intent
-    dying s ats.Start lt works duty x = absurd x
-    dying s ats.Entering lt works duty x = as_asked (Store (number (extent_of w.shape) (Next s)) 0) (intents.Deinit s) x (record {
-      word = tt;
-      event = subst (EventFits w.shape) (sym (ap (λ (q : Place). stored_act v q (intents.Deinit s)) (place_at-number (extent_of w.shape) (Next s) lt))) tt;
-    })
-    dying s ats.Naming lt works duty x = as_asked (Load (number (extent_of w.shape) (Isa s))) (intents.Deinit s) x (record {
-      word = λ e. absurd (apart s (Isa s) (place_at-number (extent_of w.shape) (Isa s) lt) lt (λ u. cc) e);
-      event = tt;
-    })
-    dying s (ats.Named name) lt works duty x = absurd x
-    dying s (ats.Looking name field) lt works duty x = absurd x
-    dying s (ats.Taking name field place) lt works duty x = absurd x
-    dying s (ats.Dropping name field drop) lt works duty x = absurd x
-    dying s ats.Leaving lt works duty x = as_asked (Load (number (extent_of w.shape) (Next s))) (intents.Deinit s) x (record {
-      word = λ e. absurd (apart s (Next s) (place_at-number (extent_of w.shape) (Next s) lt) lt (λ u. cc) e);
-      event = tt;
-    })
-    dying s (ats.Finishing None p) lt works duty x = finishing s p.at lt (ap (λ (y : Working). y.owes) works) duty x.1
-    dying s (ats.Finishing (Some parent) p) lt works duty x = absurd x
-    dying s (ats.Ending None end) lt works duty x = vacating s once.Asked lt x.1
-    dying s (ats.Ending (Some parent) end) lt works duty x = absurd x
-    dying s (ats.Resuming field) lt works duty x = absurd x
-    dying s ats.Ended lt works duty x = absurd x
+    -- ---- an object dies
 
-    -- an object that the pass owes something is in a slot of the shape
+    -- an object that the pass owes something is in a slot of the shape, and so is one to which it has a reference
     owed_within : (s : ℕ) (d : Duty) → InShape w.shape v.seen → OwesOne v d s → s < w.shape.slots
     owed_within s d within o = (each_at (IsWithin w.shape) (heap_after v.seen).objects o.place o.object within.within o.here).0 s o.slot
 
-    duty_within : (s : ℕ) (a : CascadeAt) → InShape w.shape v.seen → DutyAt v s a → s < w.shape.slots
-    duty_within s (ats.Ending parent end) within o = owed_within s Vacating within o
-    duty_within s ats.Start within o = owed_within s Deinit within o
-    duty_within s ats.Entering within o = owed_within s Deinit within o
-    duty_within s ats.Naming within o = owed_within s Deinit within o
-    duty_within s (ats.Named name) within o = owed_within s Deinit within o
-    duty_within s (ats.Looking name field) within o = owed_within s Deinit within o
-    duty_within s (ats.Taking name field place) within o = owed_within s Deinit within o
-    duty_within s (ats.Dropping name field drop) within o = owed_within s Deinit within o
-    duty_within s ats.Leaving within o = owed_within s Deinit within o
-    duty_within s (ats.Finishing parent p) within o = owed_within s Deinit within o
-    duty_within s (ats.Resuming field) within o = owed_within s Deinit within o
-    duty_within s ats.Ended within o = owed_within s Deinit within o
+    due_within : (q : Due) → InShape w.shape v.seen → IsDue w.shape v q → q.slot < w.shape.slots
+    due_within q within o = (each_at (IsWithin w.shape) (heap_after v.seen).objects o.place o.object within.within o.here).0 q.slot o.slot
 
-    serves_at : (d : Doing) → Facts w t v d → Serves step intent
-    serves_at doings.Ready f = no_step moves.PhaseEnd f.asks (λ e. cc)
-    serves_at (doings.Making to name plan) f = making name plan.at (subst (λ (l : Extent). IsMakingIn l plan.at) f.is_for.0 f.fits.3) f.asks.1 (λ s seen is.
+    led_within : (held : Held) → InShape w.shape v.seen → Leads v held → held.place < w.shape.slots
+    led_within held within (counted, j, o, hand, here, slot) = (each_at (IsWithin w.shape) (heap_after v.seen).objects j o within.within here).0 held.place slot
+
+    -- a load of another word of the slot
+    looking_at : (s place : ℕ) → (place ≡ number (extent_of w.shape) (Count s) → ⊥) → t.asked ≡ moves.Step (Load place) (intents.Deinit s) → Serves step intent
+    looking_at s place apart x = as_asked (Load place) (intents.Deinit s) x (record { word = λ e. absurd (apart e); event = tt })
+
+    -- what is stored in a field takes out of it
+    store_fits : (s : ℕ) (pl : Place) → IsPlace (extent_of w.shape) pl → s < w.shape.slots → EventFits w.shape (stored_act v pl (intents.Deinit s))
+    store_fits s (places.Field owner field) inside lt = (lt, inside.1)
+    store_fits s pl inside lt = tt
+
+    storing : (s place new : ℕ) → s < w.shape.slots → Admits w.shape v step intent → t.asked ≡ moves.Step (Store place new) (intents.Deinit s) → Serves step intent
+    storing s place new lt may x =
+        let same = asked_is t.asked (Store place new) step (intents.Deinit s) intent x asked in
+        let its : Admits w.shape v (Store place new) (intents.Deinit s) = subst (λ (y : Step × Intent). Admits w.shape v y.0 y.1) (λ j. (sym same.0 j, sym same.1 j)) may in
+        let back : place_at (extent_of w.shape) place ≡ its.0 = ap (place_at (extent_of w.shape)) its.1 ∙ place_at-number (extent_of w.shape) its.0 its.2 in
+        as_asked (Store place new) (intents.Deinit s) x (record { word = tt; event = subst (λ (q : Place). EventFits w.shape (stored_act v q (intents.Deinit s))) (sym back) (store_fits s its.0 its.2 lt) })
+
+    -- what was taken out of a field is dropped
+    falling : (d : Drop) (b : DropAt) (ds : List Due) → InShape w.shape v.seen → v.working.owes ≡ None → ((held : Held) → 1 ≤ dropped_in_flight (is_ref held) d b → Leads v held) → OwesAll w.shape v (dropped_dues d.place b ds) → DropAsks w.shape t.asked d b → Serves step intent
+    falling d (drops.Counting p) ds within free leads owes x =
+        let held : Held = record { hand = d.hand; kind = d.kind; place = d.place } in
+        let led : Leads v held = leads held (let one = ref-itself held in omega (arith, one)) in
+        dropping held p.at (led_within held within led) free led x.1
+    falling d (drops.Ending p) ds within free leads owes x = vacating d.place once.Asked (due_within (vacating_due d.place) within owes.just.0) x.1
+    falling d b ds within free leads owes x = absurd x
+
+    dying : (fs : List Frame) (name : ObjectName) (s : ℕ) (a : CascadeAt) → InShape w.shape v.seen → v.working.owes ≡ None → ((held : Held) → 1 ≤ taken_in_flight (is_ref held) a → Leads v held) → OwesAll w.shape v (dues_at w.shape name fs s a) → Admits w.shape v step intent
+        → CascadeAsks w.shape t.asked fs s a → Serves step intent
+    dying fs name s ats.Entering within free leads owes may x = storing s (number (extent_of w.shape) (Next s)) (next_word_of (parent_of fs)) (due_within (dying_due s None 0) within owes.just.0) may x
+    dying fs name s ats.Naming within free leads owes may x = looking_at s (number (extent_of w.shape) (Isa s)) (λ e. omega (arith, e)) x
+    dying fs name s (ats.Looking n field) within free leads owes may x = looking_at s (number (extent_of w.shape) (places.Field s field)) (λ e. omega (arith, e)) x
+    dying fs name s (ats.Taking n field place) within free leads owes may x = storing s (number (extent_of w.shape) (places.Field s field)) 0 (due_within (dying_due s (Some n) field) within owes.just.0) may x
+    dying fs name s (ats.Dropping n field d) within free leads owes may x = falling d d.at (dying_due s (Some n) (suc field) ∷ waits fs) within free leads owes x.1
+    dying fs name s ats.Leaving within free leads owes may x = looking_at s (number (extent_of w.shape) (Next s)) (λ e. omega (arith, e)) x
+    dying fs name s (ats.Finishing parent p) within free leads owes may x =
+        let q : Due = dying_due s (Some name) (field_count w.shape name) in finishing s p.at (owed_word q (due_within q within owes.just.0) free owes.just.0) x.2
+    dying fs name s (ats.Ending parent p) within free leads owes may x = vacating s once.Asked (due_within (vacating_due s) within owes.just.0) x.2
+    dying fs name s (ats.Resuming field) within free leads owes may x = looking_at s (number (extent_of w.shape) (Isa s)) (λ e. omega (arith, e)) x
+    dying fs name s a within free leads owes may x = absurd x
+
+    serves_at : (d : Doing) → Facts w t v d → Admits w.shape v step intent → Serves step intent
+    serves_at doings.Ready f may = no_step moves.PhaseEnd f.asks (λ e. cc)
+    serves_at (doings.Making to name plan) f may = making name plan.at (subst (λ (l : Extent). IsMakingIn l plan.at) f.is_for.0 f.fits.3) f.asks.1 (λ s seen is.
         let up : MakesUpTo (known v w) t.index to name t.vars f.notes (search.Taking s seen) = subst (λ (a : Search). MakesUpTo (known v w) t.index to name t.vars f.notes a) is f.up_to in
         class_fits f.stepper f.is_for.1 f.program to name.class t.index up.begun.there)
-    serves_at (doings.Gaining gain to from plan) f =
+    serves_at (doings.Gaining gain to from plan) f may =
         let lt : from.place < w.shape.slots = subst (λ (e : Extent). from.place < e.slots) f.is_for.0 f.fits.1.place in
         gaining gain from plan.at lt (gains_owes v from from.origin f.under_way.0) (leads_from from.origin refl f.up_to f.under_way.0) (reached from.origin (subst (λ (e : Extent). IsReached e from.origin) f.is_for.0 f.fits.1.reached)) f.asks.1
       where
@@ -436,18 +446,20 @@ module _ (w : Work) (words : List ℕ) (views : List View) (k : IsKept w.shape (
         reached : (o : Origin) → IsReached (extent_of w.shape) o → OriginFits w.shape o
         reached (origins.Hand hand) there = tt
         reached (origins.Cell cell) there = there
-    serves_at (doings.Naming to held plan) f = reading held.place plan.at f.asks.1
-    serves_at (doings.Opening to cell plan) f = opening cell.name (subst (λ (e : Extent). IsPlace e (place_in cell.name)) f.is_for.0 f.fits.1.place) (cell_number (extent_of w.shape) cell.name) plan.at f.asks.1
-    serves_at (doings.Closing to cell held plan) f = closing cell (cell_number (extent_of w.shape) cell) (held.place + 2) plan.at f.asks.1
-    serves_at (doings.Setting from cell plan) f = swapping cell.name (subst (λ (e : Extent). IsPlace e (place_in cell.name)) f.is_for.0 f.fits.1.place) (hand_in (value t.vars from)) (cell_number (extent_of w.shape) cell.name) plan.at f.asks.1
-    serves_at (doings.Clearing plan) f = swapping (cells.Global t.cleared) (subst (λ (e : Extent). t.cleared < e.globals) f.is_for.0 f.in_op) None (cell_number (extent_of w.shape) (cells.Global t.cleared)) plan.at f.asks.1
-    serves_at (doings.Dropping held plan) f =
+    serves_at (doings.Naming to held plan) f may = reading held.place plan.at f.asks.1
+    serves_at (doings.Opening to cell plan) f may = opening cell.name (subst (λ (e : Extent). IsPlace e (place_in cell.name)) f.is_for.0 f.fits.1.place) (cell_number (extent_of w.shape) cell.name) plan.at f.asks.1
+    serves_at (doings.Closing to cell held plan) f may = closing cell (cell_number (extent_of w.shape) cell) (held.place + 2) plan.at f.asks.1
+    serves_at (doings.Setting from cell plan) f may = swapping cell.name (subst (λ (e : Extent). IsPlace e (place_in cell.name)) f.is_for.0 f.fits.1.place) (hand_in (value t.vars from)) (cell_number (extent_of w.shape) cell.name) plan.at f.asks.1
+    serves_at (doings.Clearing plan) f may = swapping (cells.Global t.cleared) (subst (λ (e : Extent). t.cleared < e.globals) f.is_for.0 f.in_op) None (cell_number (extent_of w.shape) (cells.Global t.cleared)) plan.at f.asks.1
+    serves_at (doings.Dropping held plan) f may =
         let lt : held.place < w.shape.slots = subst (λ (e : Extent). held.place < e.slots) f.is_for.0 f.fits.place in
         let leads : Leads v held = f.owns.leads held (let one = ref-itself held in omega arith) in
         dropping held plan.at lt (ap (λ (x : Working). x.owes) f.under_way.0.working) leads f.asks.1
-    serves_at (doings.Vacating slot plan) f = vacating slot plan.at (owed_within slot Vacating f.in_shape f.under_way.1) f.asks.1
-    serves_at (doings.Dying c) f = dying c.slot c.at (duty_within c.slot c.at f.in_shape f.under_way.duty) f.under_way.working f.under_way.duty f.asks.1
-    serves_at doings.Ended f = no_step moves.Ended f.asks.0 (λ e. cc)
+    serves_at (doings.Vacating slot plan) f may = vacating slot plan.at (owed_within slot Vacating f.in_shape f.under_way.1) f.asks.1
+    serves_at (doings.Dying c) f may =
+        let u = f.under_way in
+        dying f.chain u.name c.slot c.at f.in_shape (ap (λ (x : Working). x.owes) u.working) (λ held le. f.owns.leads held (omega (arith, le))) u.owes may f.asks.1
+    serves_at doings.Ended f may = no_step moves.Ended f.asks.0 (λ e. cc)
 
-    pub serves : IsServedWork w → HasNoFields w.shape → IsStepper t → Drives w t v → Serves step intent
-    serves served no_fields stepper d = serves_at t.doing (facts w t v served no_fields stepper k.sized d)
+    pub serves : IsServedWork w → IsStepper t → Drives w t v → Serves step intent
+    serves served stepper d = serves_at t.doing (facts w t v served stepper k.sized d) (steps_are_allowed w t v step intent served stepper k.sized d asked)

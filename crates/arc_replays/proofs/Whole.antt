@@ -1,22 +1,24 @@
--- A replay that has come to its end is one legal history, and leaves no object but immortal ones.
+-- A replay that has come to its end is one legal history, and leaves no entry taken, and where strong fields lead one way no object but immortal ones.
 use Rattle.std.proofs.Common.{◌≡◌, ◌⊎◌, inl, inr, ℕ, zero, suc, ◌+◌, ◌/◌, ◌≤◌, ◌<◌, true, false, cond, List, [], ◌∷◌, length, map, drop, Option, Some, None, refl, sym, ap, ◌∙◌, subst, arith}
 use Rattle.std.specs.Prelude.{All, find, slice_get, slice_index, sum_by, is_some, ◌||◌}
 use Rattle.std.specs.List.{AllByRecursion, list_any}
 use Rattle.std.proofs.lemmas.Bool.{cases_lt}
 use Rattle.std.proofs.lemmas.List.{length-map}
-use Rattle.std.proofs.lemmas.List.Elements.{All-from_recursion, recursion_from_All}
+use Rattle.std.proofs.lemmas.List.Elements.{All-from_recursion}
 use Rattle.std.proofs.lemmas.List.Sums.{sum_by-cons}
 use Rattle.std.proofs.lemmas.Option.{slice_get_within}
 use Rattle.arc_model.specs.declared.event.ObjectName.{ObjectName}
-use Rattle.arc_model.specs.Shapes.{HeapShape, ObjectClass, class_at}
-use Rattle.arc_model.specs.SpellingTies.{name_of}
+use Rattle.arc_model.specs.Shapes.{HeapShape, class_at}
+use Rattle.arc_model.specs.References.{name_of}
 use Rattle.arc_model.specs.Heaps.{Object}
 use Rattle.arc_model.specs.Holders.{is_number, has_entry, at_slot, claims_it, is_slot_taken, is_entry_taken}
 use Rattle.arc_model.specs.History.{History, heap_after}
-use Rattle.arc_model.specs.SpellingTies.Causes.{Judged}
+use Rattle.arc_spelling.specs.SpellingTies.Causes.{Judged}
 use Rattle.arc_model.proofs.Basics.{None≢Some, Some-inj}
+use Rattle.arc_model.proofs.Courses.{well_formed}
+use Rattle.arc_cells.specs.Chains.{Frame}
 use Rattle.arc_rule.specs.Places.{extent_of, number}
-use Rattle.arc_rule.specs.Bits.{words_of}
+use Rattle.arc_rule.specs.Bits.{words_of, is_set}
 use Rattle.arc_rule.proofs.Bits.{bit_shown}
 use Rattle.arc_rule.specs.Isa.{IsIsaWord, isa_word_of, isa_name_of}
 use Rattle.arc_rule.specs.Shown.{Shows, ShowsCounts, ShowsName, IsInline}
@@ -28,10 +30,10 @@ use Rattle.arc_script.proofs.OneList.{length_in_one}
 use Rattle.arc_programs.specs.Programs.{Hands}
 use Rattle.arc_programs.specs.ProgramsLines.{told}
 use Rattle.arc_programs.specs.ProgramsTied.{HasProgram}
-use Rattle.arc_quiet.specs.OneWay.{NoClassIsImmortal, StrongFieldsLeadOneWay, AllDead}
+use Rattle.arc_quiet.specs.OneWay.{NoClassIsImmortal, StrongFieldsLeadOneWay, CellsKeepClasses, AllDead}
 use Rattle.arc_quiet.specs.Quiet.{IsQuietHeap}
 use Rattle.arc_quiet.specs.Whole.{AllFinish, StandsLast}
-use Rattle.arc_quiet.proofs.Leaving.{leaves_nothing, whole_is_quiet}
+use Rattle.arc_quiet.proofs.Leaving.{cells_keep_classes, leaves_nothing, whole_is_quiet}
 use Rattle.arc_programs_laws.specs.Deinits.{deinit_lines, emptied}
 use Rattle.arc_programs_laws.specs.Phases.{PhaseEnds, PhasesFollow}
 use Rattle.arc_programs_laws.specs.Room.{room}
@@ -48,15 +50,16 @@ use Rattle.arc_view.proofs.Put.{is_number_some}
 use Rattle.arc_view_laws.proofs.Names.{is_name, name_back, is_isa}
 use Rattle.arc_replays.specs.Histories.{history_of, lines_from, first_lines, deinits_printed, IsHistory}
 use Rattle.arc_replays.specs.Laws.{ReplaysAreHistories, IsWholeReplay}
-use Rattle.arc_replays.specs.Left.{isa_of, IsImmortalSlot, OnlyImmortals}
+use Rattle.arc_replays.specs.Left.{isa_of, IsImmortalSlot, IsBareSlot, ImmortalsHaveNoFields, OnlyImmortals}
 use Rattle.arc_replays.specs.Named.{LineFits, ActFits, EventsFit}
 use Rattle.arc_replays.specs.Replaying.{IsSpelledInLog, IsOneHistory}
-use Rattle.arc_replays.specs.Stages.{Stage, IsRun, is_phase_end}
-use Rattle.arc_replays.proofs.Bare.{came_in, IsBareHeap, AreBare, bare_after}
-use Rattle.arc_replays.proofs.GoesOn.{replays_are_one_history, ended_threads_spell}
-use Rattle.arc_replays.proofs.Holds.{Holds, is_sized, reached_holds}
+use Rattle.arc_replays.specs.Stages.{Stage, IsRun, is_phase_end, chains_at}
+use Rattle.arc_replays.proofs.Bare.{came_in, IsBareHeap, AreBare, bare_at, bare_after}
+use Rattle.arc_replays.proofs.GoesOn.{there_is, replays_are_one_history, ended_threads_spell}
+use Rattle.arc_replays.proofs.Words.{below_inline, bare_word}
+use Rattle.arc_replays.proofs.Holds.{Holds, is_sized, few_came, few_unowned_came, reached_holds}
 use Rattle.arc_replays.proofs.Left.{slotted_immortal, found_there}
-use Rattle.arc_replays.proofs.Phases.{IsPoint, IsPhased, reached_phased, there_is}
+use Rattle.arc_replays.proofs.Phases.{IsPoint, IsPhased, reached_phased}
 use Rattle.arc_replays.proofs.Promises.{deinits_once, loads_come_before, slots_are_vacated, entries_are_given_back}
 
 -- ---- lines
@@ -116,15 +119,18 @@ module _ (script : Script) (s : Stage) (valid : IsScript script) (served : IsSer
   abbrev log : History
   log = history_of s.events
 
-  holds : Holds script nothing s
+  abbrev chains : ℕ → List Frame
+  chains = chains_at run.reached
+
+  holds : Holds script nothing chains s
   holds = reached_holds script nothing valid served 0 s run.reached
 
-  one : IsOneHistory script.shape (λ p. work_of script p nothing) s.threads s.words log
-  one = replays_are_one_history script.shape (λ p. work_of script p nothing) s.threads s.words log holds.replaying
+  one : IsOneHistory script.shape (λ p. work_of script p nothing) chains s.threads s.words log
+  one = replays_are_one_history script.shape (λ p. work_of script p nothing) chains s.threads s.words log holds.replaying
 
   spelled : (p : ℕ) (t : Thread) → slice_get s.threads p ≡ Some t → IsSpelledInLog script p t log
   spelled p t at =
-      ended_threads_spell script nothing s.threads s.words log p t valid served (let lt = slice_get_within s.threads p t at in let long = holds.as_many in omega arith) holds.replaying at (run.ended p t at)
+      ended_threads_spell script nothing chains s.threads s.words log p t valid served (let lt = slice_get_within s.threads p t at in let long = holds.as_many in omega arith) holds.replaying at (run.ended p t at)
 
   -- ---- each thread's program
 
@@ -208,40 +214,79 @@ module _ (script : Script) (s : Stage) (valid : IsScript script) (served : IsSer
   within : InShape script.shape log
   within = subst (InShape script.shape) holds.replaying.log_is holds.replaying.kept.in_shape
 
-  -- an object in a slot is immortal, as its words say
-  slot_is : (k : ℕ) → k < script.shape.slots → is_slot_taken k (heap_after log) ≡ true → IsImmortalSlot script.shape s.words k
-  slot_is k lt taken = go (at_slot k (heap_after log)) refl taken
+  classes : CellsKeepClasses script.shape (heap_after log)
+  classes = cells_keep_classes Judged script log valid one.legal finish holds.no_other
+
+  -- what the words of a slot show of its object
+  record IsShown (k i : ℕ) (o : Object) : Type 0 where
+    here : slice_get (heap_after log).objects i ≡ Some o
+    slot : o.slot ≡ Some k
+    counts : ShowsCounts script.shape (Some o) (slice_index s.words (number (extent_of script.shape) (Count k)))
+    named : IsIsaWord (isa_of script.shape s.words k)
+    name_is : isa_name_of (isa_of script.shape s.words k) ≡ name_of o
+    class_there : (isa_name_of (isa_of script.shape s.words k)).class < length script.shape.classes
+
+  shown : (k : ℕ) → k < script.shape.slots → is_slot_taken k (heap_after log) ≡ true → (i : ℕ) × (o : Object) × IsShown k i o
+  shown k lt taken = go (at_slot k (heap_after log)) refl taken
     where
-      go : (m : Option Object) → at_slot k (heap_after log) ≡ m → is_some m ≡ true → IsImmortalSlot script.shape s.words k
+      go : (m : Option Object) → at_slot k (heap_after log) ≡ m → is_some m ≡ true → (i : ℕ) × (o : Object) × IsShown k i o
       go None e none = absurd cc
       go (Some o) e some =
           let there = found_there k (heap_after log).objects o e in
-          let immortal = slotted_immortal script.shape log one.legal (recursion_from_All (λ (c : ObjectClass). c.fields ≡ []) script.shape.classes served.without_fields) quiet there.0 k o there.1 (is_number_some o.slot k there.2) in
-          let says : ShowsCounts script.shape (Some o) (slice_index s.words (number (extent_of script.shape) (Count k))) =
-          subst (λ (m : Option Object). ShowsCounts script.shape m (slice_index s.words (number (extent_of script.shape) (Count k)))) e (shows.says (Count k) lt (λ x. x)) in
-          let fits = is_name script.shape log there.0 o (is_sized script valid served) within there.1 in
+          let fits = is_name script.shape log there.0 o (is_sized script valid) within there.1 in
           let isa : isa_of script.shape s.words k ≡ isa_word_of (name_of o) = subst (λ (m : Option Object). ShowsName m (isa_of script.shape s.words k)) e (shows.says (Isa k) lt (λ x. x)) in
-          let same : isa_name_of (isa_of script.shape s.words k) ≡ name_of o = ap isa_name_of isa ∙ sym (name_back (name_of o) fits) in record {
-            count = subst (λ b. IsInline b script.shape o (slice_index s.words (number (extent_of script.shape) (Count k)))) immortal says;
-            named = subst IsIsaWord (sym isa) (is_isa (name_of o) fits);
-            class_there = subst (λ (n : ObjectName). n.class < length script.shape.classes) (sym same) (within.classes there.0 o there.1).0;
-            immortal = subst (λ (n : ObjectName). (class_at script.shape n.class).immortal ≡ true) (sym same) immortal;
-          }
+          let same : isa_name_of (isa_of script.shape s.words k) ≡ name_of o = ap isa_name_of isa ∙ sym (name_back (name_of o) fits) in (
+            there.0,
+            o,
+            record {
+              here = there.1;
+              slot = is_number_some o.slot k there.2;
+              counts = subst (λ (m : Option Object). ShowsCounts script.shape m (slice_index s.words (number (extent_of script.shape) (Count k)))) e (shows.says (Count k) lt (λ x. x));
+              named = subst IsIsaWord (sym isa) (is_isa (name_of o) fits);
+              name_is = same;
+              class_there = subst (λ (n : ObjectName). n.class < length script.shape.classes) (sym same) (within.classes there.0 o there.1).0;
+            },
+          )
+
+  -- a slot whose bit is set is taken
+  set_taken : (k : ℕ) → k < script.shape.slots → is_set k (slice_index s.words (number (extent_of script.shape) (SlotBits (k / 64)))) ≡ true → is_slot_taken k (heap_after log) ≡ true
+  set_taken k lt set =
+      let bits = shows.says (SlotBits (k / 64)) (word_in k script.shape.slots lt) (λ x. x) in
+      sym (bit_shown script.shape.slots (k / 64) (λ x. is_slot_taken x (heap_after log)) (slice_index s.words (number (extent_of script.shape) (SlotBits (k / 64)))) bits k refl lt) ∙ set
+
+  -- its counts lie in the inline word
+  bare_slot : (k : ℕ) → k < script.shape.slots → is_set k (slice_index s.words (number (extent_of script.shape) (SlotBits (k / 64)))) ≡ true → IsBareSlot script.shape s.words k
+  bare_slot k lt set =
+      let x = shown k lt (set_taken k lt set) in record {
+        named = x.2.named;
+        class_there = x.2.class_there;
+        inline = below_inline script.shape.caps _
+            (bare_word script.shape (came_in log) (slice_index s.words (number (extent_of script.shape) (Count k))) x.1 (is_sized script valid) ((well_formed script.shape log one.legal).whole x.0 x.1 x.2.here) (bare_at (came_in log) (heap_after log).objects x.0 x.1 bare.objects x.2.here)
+            (few_came script nothing valid served chains s holds) (few_unowned_came script nothing valid served chains s holds) x.2.counts);
+      }
 
   no_entry_taken : (e : ℕ) → is_entry_taken e (heap_after log) ≡ false
   no_entry_taken e =
       (λ j. list_any (claims_it e) (bare.claims j) || is_some (no_entry (came_in log) e (heap_after log).objects bare.objects j))
 
-  left : OnlyImmortals script.shape s.words
-  left = record {
-    whole = shows.whole;
-    slots = λ k lt set.
-        let bits = shows.says (SlotBits (k / 64)) (word_in k script.shape.slots lt) (λ x. x) in
-        slot_is k lt (sym (bit_shown script.shape.slots (k / 64) (λ x. is_slot_taken x (heap_after log)) (slice_index s.words (number (extent_of script.shape) (SlotBits (k / 64)))) bits k refl lt) ∙ set);
-    entries = λ e lt.
-        let bits = shows.says (EntryBits (e / 64)) (word_in e script.shape.entries lt) (λ x. x) in
-        bit_shown script.shape.entries (e / 64) (λ x. is_entry_taken x (heap_after log)) (slice_index s.words (number (extent_of script.shape) (EntryBits (e / 64)))) bits e refl lt ∙ no_entry_taken e;
-  }
+  no_entry_set : (e : ℕ) → e < script.shape.entries → is_set e (slice_index s.words (number (extent_of script.shape) (EntryBits (e / 64)))) ≡ false
+  no_entry_set e lt =
+      let bits = shows.says (EntryBits (e / 64)) (word_in e script.shape.entries lt) (λ x. x) in
+      bit_shown script.shape.entries (e / 64) (λ x. is_entry_taken x (heap_after log)) (slice_index s.words (number (extent_of script.shape) (EntryBits (e / 64)))) bits e refl lt ∙ no_entry_taken e
+
+  -- where strong fields lead one way and immortal objects have none, an object in a slot is immortal, as its words say
+  left : ImmortalsHaveNoFields script.shape → StrongFieldsLeadOneWay script.shape → OnlyImmortals script.shape s.words
+  left none ways = record { whole = shows.whole; slots = slot_is; entries = no_entry_set }
+    where
+      slot_is : (k : ℕ) → k < script.shape.slots → is_set k (slice_index s.words (number (extent_of script.shape) (SlotBits (k / 64)))) ≡ true → IsImmortalSlot script.shape s.words k
+      slot_is k lt set =
+          let x = shown k lt (set_taken k lt set) in
+          let immortal = slotted_immortal script.shape log one.legal none ways classes quiet x.0 k x.1 x.2.here x.2.slot in record {
+            count = subst (λ b. IsInline b script.shape x.1 (slice_index s.words (number (extent_of script.shape) (Count k)))) immortal x.2.counts;
+            named = x.2.named;
+            class_there = x.2.class_there;
+            immortal = subst (λ (n : ObjectName). (class_at script.shape n.class).immortal ≡ true) (sym x.2.name_is) immortal;
+          }
 
   history : IsHistory script threads (first_lines s.threads) log s.words
   history = record {
@@ -268,6 +313,7 @@ module _ (script : Script) (s : Stage) (valid : IsScript script) (served : IsSer
   pub whole : IsWholeReplay script s
   whole = record {
     history = history;
+    no_entries = record { whole = shows.whole; slots = bare_slot; entries = no_entry_set };
     left = left;
     lines_fit = All-from_recursion (λ (x : ThreadLines). All (LineFits (length script.shape.classes)) x.lines) threads (all_at (λ (x : ThreadLines). All (LineFits (length script.shape.classes)) x.lines) threads (λ i x at. fit (i + 1) x.lines (each_spelled i x at).1));
     end_fits = fit 0 (first_lines s.threads) end_spelled;

@@ -1,6 +1,7 @@
 -- Which classes lines and events name, and which cells events do.
 use Rattle.std.specs.Prelude.{◌<◌, length, [], ◌∷◌, Option, Some, None, ⊤}
 use Rattle.arc_model.specs.declared.event.CellName.{CellName}
+use Rattle.arc_model.specs.declared.event.CellName.TheVariants as cells
 use Rattle.arc_model.specs.declared.event.Origin.{Origin}
 use Rattle.arc_model.specs.declared.event.Origin.TheVariants.{Hand, Cell}
 use Rattle.arc_model.specs.declared.event.Act.{Act}
@@ -20,8 +21,8 @@ OriginFits shape (Hand of) = ⊤
 OriginFits shape (Cell cell) = IsThere shape cell
 
 -- An event of the operations that are served so far: an object is made, of a class of the heap, or no slot is free; a reference is
--- copied from a hand or a cell, formed or loaded by one, put into a cell or taken out of it, or dropped; a cell is looked at; a deinit is
--- finished, a slot is vacated.
+-- copied from a hand or a cell, formed or loaded by one, put into a cell or taken out of it, or dropped; a cell is looked at; a deinit takes
+-- out of a field, or is finished; a slot is vacated.
 abbrev pub ActFits : HeapShape → Act → Type 0
 ActFits shape (acts.New hand class slot) = class < length shape.classes
 ActFits shape acts.Full = ⊤
@@ -37,7 +38,7 @@ ActFits shape (acts.Side slot entry why) = ⊥
 ActFits shape (acts.Back entry) = ⊥
 ActFits shape (acts.Swap cell put took) = IsThere shape cell
 ActFits shape (acts.Look cell) = IsThere shape cell
-ActFits shape (acts.Take slot field hand) = ⊥
+ActFits shape (acts.Take slot field hand) = IsThere shape (cells.Field slot field)
 ActFits shape (acts.Finish slot last) = ⊤
 ActFits shape (acts.Vacate slot) = ⊤
 ActFits shape (acts.Gone entry last) = ⊥

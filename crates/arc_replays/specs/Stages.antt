@@ -1,11 +1,12 @@
 -- A replay: which steps are made, in which order, and what comes of them.
-use Rattle.std.specs.Prelude.{ℕ, zero, suc, Bool, true, false, ◌≡◌, ◌≢◌, ◌≤◌, ◌<◌, ◌+◌, if◌then◌else◌, List, [], ◌∷◌, length, map, replicate, slice_get, slice_set, Option, Some, None}
+use Rattle.std.specs.Prelude.{ℕ, zero, suc, Bool, true, false, ◌≡◌, ◌≢◌, ◌≤◌, ◌<◌, ◌+◌, ◌==◌, if◌then◌else◌, List, [], ◌∷◌, length, map, replicate, slice_get, slice_set, Option, Some, None}
 use Rattle.arc_model.specs.declared.event.Act.{Act}
 use Rattle.arc_rule.specs.Places.{extent_of, word_count}
 use Rattle.arc_rule.specs.Steps.{found_by, made_by}
 use Rattle.arc_rule.specs.declared.step.Step.{Step}
 use Rattle.arc_rule.specs.declared.step.Intent.{Intent}
 use Rattle.arc_script.specs.declared.script.Script.{Script}
+use Rattle.arc_cells.specs.Chains.{Frame}
 use Rattle.arc_ops.specs.declared.told.Stamped.{Stamped}
 use Rattle.arc_ops.specs.declared.stepper.Move.{Move}
 use Rattle.arc_ops.specs.declared.stepper.Move.TheVariants as moves
@@ -13,6 +14,7 @@ use Rattle.arc_ops.specs.Thread.{Thread, stepper_of, in_access, in_operation}
 use Rattle.arc_ops.specs.Turns.{turned}
 use Rattle.arc_ops.specs.Takes.{takes}
 use Rattle.arc_ops.specs.Steppers.{IsStepper}
+use Rattle.arc_spelled.specs.StepperStands.{chain_after}
 
 -- Where a replay is: how many phases have begun, the places of the schedule that are left, the threads with thread 0 first, the words, how many steps
 -- were made, and the events, the newest first.
@@ -143,3 +145,22 @@ pub data Reached (script : Script) : (ending : ℕ) → Stage → Type 0 where
 pub record IsRun (script : Script) (s : Stage) : Type 0 where
   pub reached : Reached script 0 s
   pub ended : (p : ℕ) (t : Thread) → slice_get s.threads p ≡ Some t → t.asked ≡ moves.Ended
+
+-- ---- the deinits that wait
+
+-- The chains of the deinits that wait, by thread, where this one's has become a new one.
+abbrev pub with_chain : ℕ → List Frame → (ℕ → List Frame) → ℕ → List Frame
+with_chain i own chains p = if p == i then own else chains p
+
+-- The chains of the deinits that wait, by thread, at a stage that the replay came to: each step of a thread changes its own as its machine says.
+abbrev pub chains_at : {script : Script} {ending : ℕ} {s : Stage} → Reached script ending s → ℕ → List Frame
+chains_at new = λ p. []
+chains_at (begins before none waits take) = chains_at before
+chains_at (makes {s = s} {p = p} {t = t} step intent before next other may) = with_chain p (chain_after t (Some (found_by step s.words)) (chains_at before p)) (chains_at before)
+chains_at (passes before next other there none some) = chains_at before
+chains_at (inside before none other below there within) = chains_at before
+chains_at (ends_it {s = s} {p = p} {t = t} step intent before other may busy) = with_chain p (chain_after t (Some (found_by step s.words)) (chains_at before p)) (chains_at before)
+chains_at (outside before other there idle) = chains_at before
+chains_at (by_number {s = s} {p = p} {t = t} step intent before none other below but may) = with_chain p (chain_after t (Some (found_by step s.words)) (chains_at before p)) (chains_at before)
+chains_at (last before none no_phase there waits take) = chains_at before
+chains_at (last_step {s = s} {t = t} step intent before may) = with_chain 0 (chain_after t (Some (found_by step s.words)) (chains_at before 0)) (chains_at before)

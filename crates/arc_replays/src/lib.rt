@@ -3,7 +3,8 @@
 //!
 //! The stages that a replay comes to are a relation by data: a place of the schedule is followed, a phase begins, a thread makes a step. At each
 //! stage every thread drives a pass of one heap, whose words these are; so each step that a thread asks for may be made, and in the end there is
-//! one history: legal, with the program and the lines of each thread, its phases in their order, and no object left but immortal ones.
+//! one history: legal, with the program and the lines of each thread, its phases in their order, and no entry taken. Where strong fields lead one
+//! way along the classes and immortal objects have none, no object is left but immortal ones.
 #![tactic(auto)]
 
 ghost use Rattle.arc_replays.specs.Laws.{StagesAreWhole, ThreadsAreAtWork, StepsMayBeMade, PhasesMayBegin, ReplaysAreHistories};
@@ -26,7 +27,7 @@ pub fn replays_go_on()
 {}
 
 /// At each stage of a replay there are the script's threads, at work, and a word for each place. A step that a thread asks for may be made,
-/// whatever word it finds there, and a phase that a thread waits for may begin.
+/// whatever word it finds there, which shows the chain of the thread's deinits that wait, and a phase that a thread waits for may begin.
 pub fn stages_go_on()
     ensures whole { StagesAreWhole }
     ensures at_work { ThreadsAreAtWork }
@@ -34,8 +35,8 @@ pub fn stages_go_on()
     ensures phase { PhasesMayBegin }
 {}
 
-/// A replay that has come to its end is one legal history of the script, with the lines of its threads, and no object is left but immortal
-/// ones.
+/// A replay that has come to its end is one legal history of the script, with the lines of its threads, and no entry is taken. Where strong
+/// fields lead one way along the classes and immortal objects have none, no object is left but immortal ones.
 pub fn replays_are_histories()
     ensures { ReplaysAreHistories }
 {}

@@ -12,7 +12,7 @@ use Rattle.arc_model.specs.Heaps.{Object, Heap}
 use Rattle.arc_model.specs.Heaps as holders
 use Rattle.arc_model.specs.Holders.{is_empty, list_of, at_slot, at_entry, is_slot_taken, is_entry_taken}
 use Rattle.arc_model.specs.Cells.{has_field, is_immortal}
-use Rattle.arc_model.specs.SpellingTies.{Reference, reference_of, name_of}
+use Rattle.arc_model.specs.References.{Reference, reference_of, name_of}
 use Rattle.arc_rule.specs.Isa.{isa_word_of}
 use Rattle.arc_rule.specs.Bits.{ShowsBits}
 use Rattle.arc_rule.specs.Places.{IsPlace, extent_of, number}

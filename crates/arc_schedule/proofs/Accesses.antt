@@ -1,5 +1,5 @@
 -- The steps say whether a thread is inside an access just as its stepper does.
-use Rattle.std.proofs.Common.{◌≡◌, ℕ, ◌+◌, ◌<◌, Bool, true, false, cond, eqb, ltb, List, Option, Some, None, refl, sym, ap, subst, ◌∙◌, arith}
+use Rattle.std.proofs.Common.{◌≡◌, ℕ, ◌+◌, ◌<◌, Bool, true, false, cond, eqb, ltb, List, [], ◌∷◌, Option, Some, None, refl, sym, ap, subst, ◌∙◌, arith}
 use Rattle.std.proofs.lemmas.Option.{same_Some}
 use Rattle.std.specs.Option.{unwrap_or}
 use Rattle.std.specs.Prelude.{bit_and, ◌&&◌}
@@ -8,8 +8,8 @@ use Rattle.arc_model.specs.declared.event.ObjectName.{ObjectName}
 use Rattle.arc_rule.proofs.Places.{place_at-number}
 use Rattle.arc_rule.specs.Extents.{Extent}
 use Rattle.arc_rule.specs.Isa.{isa_word_of, isa_name_of}
-use Rattle.arc_rule.specs.Places.{number, place_at, extent_of}
-use Rattle.arc_rule.specs.declared.layout.Place.TheVariants.{Count, Isa, Global, Next as NextPlace}
+use Rattle.arc_rule.specs.Places.{IsPlace, number, place_at, extent_of}
+use Rattle.arc_rule.specs.declared.layout.Place.TheVariants.{Count, Isa, Global, Field, Next as NextPlace}
 use Rattle.arc_rule.specs.declared.plan.Next.{Next}
 use Rattle.arc_rule.specs.declared.plan.Next.TheVariants as nexts
 use Rattle.arc_rule.specs.declared.step.Changed.{Changed}
@@ -35,22 +35,28 @@ use Rattle.arc_side.specs.Downs.{Fall, down_choice, down_end, down_in, down_move
 use Rattle.arc_plan.specs.Slots.{Creation, OneStep, free_slot, new_word, looked_answer, making_answer, looking, taking, counting, naming, once_answer, once_turned, one_turned, creation_turned, creation_answer, name_of_answer, vacate_answer, vacating, reading_isa}
 use Rattle.arc_rule.specs.Bits.{words_of, bit_of}
 use Rattle.arc_model.specs.declared.shape.Kind.{Kind}
-use Rattle.arc_model.specs.Shapes.{CapNumbers, class_at}
+use Rattle.arc_model.specs.Shapes.{HeapShape, CapNumbers, class_at}
 use Rattle.arc_plan.specs.Unowned.{unowned_down_row, unowned_down_end}
 use Rattle.arc_cells.specs.declared.cascade.At.{At as CascadeAt}
 use Rattle.arc_cells.specs.declared.cascade.At.TheVariants as at
+use Rattle.arc_cells.specs.declared.ref_drop.At.{At as DropAt}
+use Rattle.arc_cells.specs.declared.ref_drop.At.TheVariants as drops_at
+use Rattle.arc_cells.specs.Chains.{Frame, next_word_of, parent_of}
 use Rattle.arc_cells.specs.declared.begin.BeginAnswer.{BeginAnswer}
 use Rattle.arc_cells.specs.declared.begin.BeginAnswer.TheVariants as begins
 use Rattle.arc_cells.specs.declared.swap.SwapAnswer.TheVariants as swaps
 use Rattle.arc_cells.specs.Begins.{Beginning, begin_row, begin_turned, begin_answer}
 use Rattle.arc_cells.specs.Ends.{AccessEnd, ending, end_turned, end_answer}
 use Rattle.arc_cells.specs.Swaps.{SwapAttempt, swap_row, swap_turned, swap_answer}
-use Rattle.arc_cells.specs.Cascades.{cascade_turned, cascade_answer}
+use Rattle.arc_cells.specs.Cascades.{cascade_turned, cascade_answer, field_kind}
+use Rattle.arc_model.specs.declared.event.CellName.{CellName}
+use Rattle.arc_model.specs.declared.event.CellName.TheVariants as cells
 use Rattle.arc_model.specs.declared.event.Origin.{Origin}
 use Rattle.arc_model.specs.declared.event.Origin.TheVariants as origins
 use Rattle.arc_ops.specs.declared.stepper.Held.{Held}
 use Rattle.arc_ops.specs.declared.gain.Gain.{Gain}
 use Rattle.arc_ops.specs.declared.gain.Gain.TheVariants as gains
+use Rattle.arc_ops.specs.Cells.{place_in, cell_number}
 use Rattle.arc_ops.specs.Gains.{gained_on, named_on}
 use Rattle.arc_ops.specs.Gets.{opened_on, closed_on}
 use Rattle.arc_ops.specs.Sets.{set_on}
@@ -65,13 +71,15 @@ use Rattle.arc_ops.specs.Plans.{list_of}
 use Rattle.arc_ops.specs.Thread.{Thread, value, is_accessing, in_access as accesses, is_cell as is_from_cell}
 use Rattle.arc_schedule.specs.Made.{Point, Made}
 use Rattle.arc_schedule.specs.Plans.{Rises, Reaches, new_object, up, down, name_of, finish, vacate, begin_access, end_access, swap}
-use Rattle.arc_schedule.specs.Operations.{get_acts, global_kind, word_of, hand_of}
+use Rattle.arc_schedule.specs.Operations.{loads, takes_out, get_acts, word_of, hand_of}
 use Rattle.arc_schedule.specs.Plans.Reaches.{starts as reaches_start, makes as reaches_next}
 use Rattle.arc_schedule.specs.Orders.{is_cell, enters}
 use Rattle.arc_schedule.proofs.Lists.{not-equal}
 use Rattle.arc_schedule.proofs.Tells.{idle, in_hand, in_cell}
 use Rattle.arc_schedule.proofs.Outside.{made-outside, gained-outside, got-inside, is_held_answer, opened-inside, closed-outside, set-outside, named-outside, dropped-outside, vacated-outside, dying-outside}
-use Rattle.arc_schedule.proofs.Stands.{Waits, Task, ref, rises_of, here, CascadeUpTo, IsGainingFrom, step_in, UpTo, Stands}
+use Rattle.arc_schedule.proofs.Given.{Waits}
+use Rattle.arc_schedule.proofs.Deinits.{ref, DropUpTo, CascadeUpTo}
+use Rattle.arc_schedule.proofs.Stands.{Task, rises_of, here, IsOver, IsGainingFrom, step_in, UpTo, Stands}
 
 -- a thread that is in no access is in none behind the step
 abbrev pub IsCalm : Extent → Step → Type 0
@@ -239,17 +247,18 @@ name-calm l slot w = go w.gave.before.at w.gave.answers
 
 -- ---- accesses
 
-global-is : (l : Extent) (g : ℕ) → g < l.globals → is_cell (place_at l (number l (Global g))) ≡ true
-global-is l g within = let same : place_at l (number l (Global g)) ≡ Global g = place_at-number l (Global g) within in rw same refl
+cell-is : (l : Extent) (cell : CellName) → IsPlace l (place_in cell) → is_cell (place_at l (cell_number l cell)) ≡ true
+cell-is l (cells.Global g) within = let same : place_at l (number l (Global g)) ≡ Global g = place_at-number l (Global g) within in rw same refl
+cell-is l (cells.Field slot field) within = let same : place_at l (number l (Field slot field)) ≡ Field slot field = place_at-number l (Field slot field) within in rw same refl
 
-begin-place : (l : Extent) (g : ℕ) {point : Point} {b ns : List Made} {p : Beginning} {last : Option ℕ} → Reaches (begin_access l g) point b p last ns → p.place ≡ number l (Global g)
-begin-place l g reaches_start = refl
-begin-place l g (reaches_next r e) = begin-place l g r
+begin-place : (l : Extent) (cell : CellName) {point : Point} {b ns : List Made} {p : Beginning} {last : Option ℕ} → Reaches (begin_access l cell) point b p last ns → p.place ≡ cell_number l cell
+begin-place l cell reaches_start = refl
+begin-place l cell (reaches_next r e) = begin-place l cell r
 
 -- the exchange that finds the word that was loaded begins the access
-begins-inside : (l : Extent) (g : ℕ) {point : Point} {b now : List Made} {p : Beginning} {asked : Option Step} (found : ℕ) → g < l.globals → (w : Waits (begin_access l g) point b now p asked) →
+begins-inside : (l : Extent) (cell : CellName) {point : Point} {b now : List Made} {p : Beginning} {asked : Option Step} (found : ℕ) → IsPlace l (place_in cell) → (w : Waits (begin_access l cell) point b now p asked) →
     enters l w.step found false ≡ is_held_answer (begin_answer p (Some found))
-begins-inside l g {p = p} found within w =
+begins-inside l cell {p = p} found within w =
     subst (λ (q : Beginning). enters l w.step found false ≡ is_held_answer (begin_answer q (Some found))) w.gave.turned (go w.gave.before.at w.gave.answers)
   where
     place : ℕ
@@ -257,9 +266,6 @@ begins-inside l g {p = p} found within w =
 
     word : ℕ
     word = unwrap_or w.gave.last 0
-
-    goal : Step → At → Type 0
-    goal s a = enters l s found false ≡ is_held_answer (attempt_answer begin_row begins.Held begins.Again place a found)
 
     tells : (z o : Bool) → is_held_answer (chosen place found (cond z (Tell begins.Nil) (cond o (Tell begins.Busy) (Write 1)))) ≡ false
     tells true o = refl
@@ -272,8 +278,8 @@ begins-inside l g {p = p} found within w =
 
     wrote : (s : Step) → steps.Exchange place word 1 ≡ s → enters l s found false ≡ is_held_answer (nexts.Done (cond (eqb found word) (begins.Held word) (begins.Again (record { seen = word; found = found }))))
     wrote s e =
-        let cell : is_cell (place_at l place) ≡ true = ap (λ (n : ℕ). is_cell (place_at l n)) (begin-place l g w.gave.reaches) ∙ global-is l g within in
-        subst (λ (x : Step). enters l x found false ≡ is_held_answer (nexts.Done (cond (eqb found word) (begins.Held word) (begins.Again (record { seen = word; found = found }))))) e (rw cell (exchanged (eqb found word)))
+        let is : is_cell (place_at l place) ≡ true = ap (λ (n : ℕ). is_cell (place_at l n)) (begin-place l cell w.gave.reaches) ∙ cell-is l cell within in
+        subst (λ (x : Step). enters l x found false ≡ is_held_answer (nexts.Done (cond (eqb found word) (begins.Held word) (begins.Again (record { seen = word; found = found }))))) e (rw is (exchanged (eqb found word)))
 
     loaded : (c : Choice BeginAnswer) → chosen place word c ≡ nexts.Step w.step → (z o : Bool) → c ≡ cond z (Tell begins.Nil) (cond o (Tell begins.Busy) (Write 1)) →
         enters l w.step found false ≡ is_held_answer (attempt_answer begin_row begins.Held begins.Again place (exchanging word c) found)
@@ -292,35 +298,35 @@ begins-inside l g {p = p} found within w =
     go (attempt.Exchanging seen new) e = absurd (cc)
     go attempt.Ended e = let same : steps.Load place ≡ w.step = cc in subst (λ (x : Step). enters l x found false ≡ false) same refl
 
-end-place : (l : Extent) (g word : ℕ) {point : Point} {b ns : List Made} {p : AccessEnd} {last : Option ℕ} → Reaches (end_access l g word) point b p last ns → p.place ≡ number l (Global g)
-end-place l g word reaches_start = refl
-end-place l g word (reaches_next r e) = end-place l g word r
+end-place : (l : Extent) (cell : CellName) (word : ℕ) {point : Point} {b ns : List Made} {p : AccessEnd} {last : Option ℕ} → Reaches (end_access l cell word) point b p last ns → p.place ≡ cell_number l cell
+end-place l cell word reaches_start = refl
+end-place l cell word (reaches_next r e) = end-place l cell word r
 
 -- the store ends it
-ends-outside : (l : Extent) (g word : ℕ) {point : Point} {b now : List Made} {p : AccessEnd} {asked : Option Step} → g < l.globals → (w : Waits (end_access l g word) point b now p asked) →
+ends-outside : (l : Extent) (cell : CellName) (word : ℕ) {point : Point} {b now : List Made} {p : AccessEnd} {asked : Option Step} → IsPlace l (place_in cell) → (w : Waits (end_access l cell word) point b now p asked) →
     ((found : ℕ) → enters l w.step found true ≡ false) × ((found : ℕ) → end_answer p (Some found) ≡ nexts.Done tt)
-ends-outside l g word {p = p} within w = go w.gave.before.at w.gave.answers (ap (λ (q : AccessEnd). q.at) w.gave.turned)
+ends-outside l cell word {p = p} within w = go w.gave.before.at w.gave.answers (ap (λ (q : AccessEnd). q.at) w.gave.turned)
   where
     go : (a : Once) → once_answer {A = Unit {0}} (ending w.gave.before) tt a ≡ nexts.Step w.step → once_turned a ≡ p.at →
         ((found : ℕ) → enters l w.step found true ≡ false) × ((found : ℕ) → end_answer p (Some found) ≡ nexts.Done tt)
     go onces.Start e is =
         let same : ending w.gave.before ≡ w.step = cc in
-        let cell : is_cell (place_at l w.gave.before.place) ≡ true = ap (λ (n : ℕ). is_cell (place_at l n)) (end-place l g word w.gave.reaches) ∙ global-is l g within in
-        (λ found. subst (λ (x : Step). enters l x found true ≡ false) same (rw cell refl), λ found. subst (λ (x : Once). once_answer {A = Unit {0}} (ending p) tt x ≡ nexts.Done tt) is refl)
+        let at_cell : is_cell (place_at l w.gave.before.place) ≡ true = ap (λ (n : ℕ). is_cell (place_at l n)) (end-place l cell word w.gave.reaches) ∙ cell-is l cell within in
+        (λ found. subst (λ (x : Step). enters l x found true ≡ false) same (rw at_cell refl), λ found. subst (λ (x : Once). once_answer {A = Unit {0}} (ending p) tt x ≡ nexts.Done tt) is refl)
     go onces.Asked e is = absurd (cc)
     go onces.Ended e is = absurd (cc)
 
-swap-new : (l : Extent) (g new : ℕ) (put : Option ℕ) (hand : ℕ) {point : Point} {b ns : List Made} {p : SwapAttempt} {last : Option ℕ} → Reaches (swap l g new put hand) point b p last ns → p.new ≡ new
-swap-new l g new put hand reaches_start = refl
-swap-new l g new put hand (reaches_next r e) = swap-new l g new put hand r
+swap-new : (l : Extent) (cell : CellName) (new : ℕ) (put : Option ℕ) (hand : ℕ) {point : Point} {b ns : List Made} {p : SwapAttempt} {last : Option ℕ} → Reaches (swap l cell new put hand) point b p last ns → p.new ≡ new
+swap-new l cell new put hand reaches_start = refl
+swap-new l cell new put hand (reaches_next r e) = swap-new l cell new put hand r
 
 -- what is put isn't the word of an access
 put-free : (o : Option Held) → eqb (word_of (ref o)) 1 ≡ false
 put-free None = refl
 put-free (Some h) = not-equal (h.place + 2) 1 (λ (e : h.place + 2 ≡ 1). absurd (omega arith))
 
-swaps-calm : (l : Extent) (g new : ℕ) (put : Option ℕ) (hand : ℕ) {point : Point} {b now : List Made} {p : SwapAttempt} {asked : Option Step} → eqb new 1 ≡ false → (w : Waits (swap l g new put hand) point b now p asked) → IsCalm l w.step
-swaps-calm l g new put hand free w = go w.gave.before.at w.gave.answers
+swaps-calm : (l : Extent) (cell : CellName) (new : ℕ) (put : Option ℕ) (hand : ℕ) {point : Point} {b now : List Made} {p : SwapAttempt} {asked : Option Step} → eqb new 1 ≡ false → (w : Waits (swap l cell new put hand) point b now p asked) → IsCalm l w.step
+swaps-calm l cell new put hand free w = go w.gave.before.at w.gave.answers
   where
     place : ℕ
     place = w.gave.before.place
@@ -340,7 +346,7 @@ swaps-calm l g new put hand free w = go w.gave.before.at w.gave.answers
 
     loaded : (b : Bool) → chosen place word (cond b (Tell swaps.Busy) (Write w.gave.before.new)) ≡ nexts.Step w.step → IsCalm l w.step
     loaded true e = absurd (cc)
-    loaded false e = let same : steps.Exchange place word w.gave.before.new ≡ w.step = cc in subst (IsCalm l) same (calm-exchange w.gave.before.new (swap-new l g new put hand w.gave.reaches))
+    loaded false e = let same : steps.Exchange place word w.gave.before.new ≡ w.step = cc in subst (IsCalm l) same (calm-exchange w.gave.before.new (swap-new l cell new put hand w.gave.reaches))
 
     go : (a : At) → attempt_answer (swap_row w.gave.before.new) swaps.Took swaps.Again place a word ≡ nexts.Step w.step → IsCalm l w.step
     go attempt.Start e = let same : steps.Load place ≡ w.step = cc in subst (IsCalm l) same (λ found. refl)
@@ -348,12 +354,46 @@ swaps-calm l g new put hand free w = go w.gave.before.at w.gave.answers
     go (attempt.Exchanging seen x) e = absurd (cc)
     go attempt.Ended e = let same : steps.Load place ≡ w.step = cc in subst (IsCalm l) same (λ found. refl)
 
+-- ---- a deinit
+
+-- what was in a field is dropped
+dropping-calm : (shape : HeapShape) (point : Point) (kind : Kind) (place hand : ℕ) (base now : List Made) (asked : Option Step) (a : DropAt) → place < shape.slots → DropUpTo shape point kind place hand base now asked a →
+    (s : Step) × (asked ≡ Some s) × IsCalm (extent_of shape) s
+dropping-calm shape point kind place hand base now asked drops_at.Start within u = absurd u
+dropping-calm shape point kind place hand base now asked (drops_at.Counting p) within u =
+    (u.waits.step, u.waits.asked_is, still-calm (extent_of shape) u.waits.step (down-still (extent_of shape) kind place hand within u.waits (ap (λ (q : Fall). q.entry) u.plan)))
+dropping-calm shape point kind place hand base now asked (drops_at.InEntry p) within u = absurd u
+dropping-calm shape point kind place hand base now asked (drops_at.Ending p) within u = (u.waits.step, u.waits.asked_is, vacate-calm (extent_of shape) place u.waits)
+dropping-calm shape point kind place hand base now asked drops_at.Returning within u = absurd u
+dropping-calm shape point kind place hand base now asked drops_at.Ended within u = absurd u
+
+load-calm : (l : Extent) (place : ℕ) → IsCalm l (steps.Load place)
+load-calm l place found = refl
+
+-- no access begins in a deinit
+dying-calm : (shape : HeapShape) (point : Point) (Over : ℕ → List Made → Type 0) (chain : List Frame) (slot hands : ℕ) (asked : Option Step) (now : List Made) (a : CascadeAt) → CascadeUpTo shape point Over chain slot hands asked now a →
+    (s : Step) × (asked ≡ Some s) × IsCalm (extent_of shape) s
+dying-calm shape point Over chain slot hands asked now at.Start p = absurd p
+dying-calm shape point Over chain slot hands asked now at.Entering p = (_, p.asks, stored (extent_of shape) (number (extent_of shape) (NextPlace slot)) (next_word_of (parent_of chain)))
+dying-calm shape point Over chain slot hands asked now at.Naming p = (_, p.asks, load-calm (extent_of shape) (number (extent_of shape) (Isa slot)))
+dying-calm shape point Over chain slot hands asked now (at.Named name) p = absurd p
+dying-calm shape point Over chain slot hands asked now (at.Looking name field) p = (_, p.asks, load-calm (extent_of shape) (number (extent_of shape) (Field slot field)))
+dying-calm shape point Over chain slot hands asked now (at.Taking name field place) p = (_, p.asks, stored (extent_of shape) (number (extent_of shape) (Field slot field)) 0)
+dying-calm shape point Over chain slot hands asked now (at.Dropping name field d) p =
+    dropping-calm shape point (field_kind shape name field) d.place (p.held + 1) (takes_out shape point slot field (p.held + 1) p.found ∷ loads shape point (Field slot field) (d.place + 2) ∷ p.before) now asked d.at p.place_in p.up_to
+dying-calm shape point Over chain slot hands asked now at.Leaving p = (_, p.asks, load-calm (extent_of shape) (number (extent_of shape) (NextPlace slot)))
+dying-calm shape point Over chain slot hands asked now (at.Finishing parent q) p = (p.waits.step, p.waits.asked_is, still-calm (extent_of shape) p.waits.step (finish-still (extent_of shape) slot p.fields.begun.within p.waits))
+dying-calm shape point Over chain slot hands asked now (at.Ending parent q) p = (p.waits.step, p.waits.asked_is, vacate-calm (extent_of shape) slot p.waits)
+dying-calm shape point Over [] slot hands asked now (at.Resuming field) p = absurd p
+dying-calm shape point Over (f ∷ chain) slot hands asked now (at.Resuming field) p = (_, p.asks, load-calm (extent_of shape) (number (extent_of shape) (Isa slot)))
+dying-calm shape point Over chain slot hands asked now at.Ended p = absurd p
+
 -- ---- the stepper
 
 -- A thread is inside an access behind its steps where its stepper says so: so it is behind the next one.
-pub inside-on : (k : Task) (n : ℕ) (t : Thread) (s : Step) (w : ℕ) (now : List Made) → Stands k n t now → step_in t.asked ≡ Some s → takes t (Some w) →
+pub inside-on : (k : Task) (n : ℕ) {chain : List Frame} (t : Thread) (s : Step) (w : ℕ) (now : List Made) → Stands k n chain t now → step_in t.asked ≡ Some s → takes t (Some w) →
     enters (extent_of k.shape) s w (accesses t) ≡ accesses (turned t (Some w))
-inside-on k n t s w now st asked takes = go t.doing st.up_to takes.0
+inside-on k n {chain = chain} t s w now st asked takes = go t.doing st.up_to takes.0
   where
     l : Extent
     l = extent_of k.shape
@@ -366,7 +406,7 @@ inside-on k n t s w now st asked takes = go t.doing st.up_to takes.0
     out : (x : Step) → step_in t.asked ≡ Some x → IsCalm (extent_of k.shape) x → (u : Thread) → accesses u ≡ false → enters (extent_of k.shape) s w false ≡ accesses u
     out x e calm u outside = on x false (accesses u) e (calm w ∙ sym outside)
 
-    go : (d : Doing) → UpTo k st.job st.at t.vars t.made t.hands t.asked now d → takes_at t.shape (Some w) d → enters (extent_of k.shape) s w (is_accessing d) ≡ accesses (turned_at (Some w) d (idle t))
+    go : (d : Doing) → UpTo k chain st.job st.at t.vars t.made t.hands t.asked now d → takes_at t.shape (Some w) d → enters (extent_of k.shape) s w (is_accessing d) ≡ accesses (turned_at (Some w) d (idle t))
     go Ready u takes = let e : step_in t.asked ≡ None = ap step_in u.0 in absurd (cc)
     go (Making to name plan) u takes =
         out u.waits.step u.waits.asked_is (making-calm (extent_of k.shape) (class_at k.shape name.class).immortal name (u.held + 1) u.waits)
@@ -382,7 +422,7 @@ inside-on k n t s w now st asked takes = go t.doing st.up_to takes.0
         of (origins.Cell cell) u = copies gain u.is_copy takes
           where
             still : enters (extent_of k.shape) s w true ≡ true
-            still = on u.waits.step true true u.waits.asked_is (up-still (extent_of k.shape) k.shape.caps (global_kind k.shape u.of.global) from.place (get_acts u.of.global (t.hands + 1)) u.place_in u.waits u.bare w true)
+            still = on u.waits.step true true u.waits.asked_is (up-still (extent_of k.shape) k.shape.caps from.kind from.place (get_acts cell (t.hands + 1)) u.place_in u.waits u.bare w true)
 
             copies : (g : Gain) → g ≡ gains.Copy → gain_takes g plan (Some w) →
                 enters (extent_of k.shape) s w true ≡ accesses (gained_on g to (in_cell cell from.kind from.place) (up_turned plan (Some w)) (up_answer plan (Some w)) (idle t))
@@ -393,13 +433,13 @@ inside-on k n t s w now st asked takes = go t.doing st.up_to takes.0
         out u.waits.step u.waits.asked_is (name-calm (extent_of k.shape) held.place u.waits) (named_on to held (one_turned plan (Some w)) (name_of_answer plan (Some w)) (idle t)) (named-outside t to held (one_turned plan (Some w)) (name_of_answer plan (Some w)))
     go (Opening to cell plan) u takes =
         on u.waits.step false (accesses (opened_on to cell (begin_turned plan (Some w)) (begin_answer plan (Some w)) (idle t))) u.waits.asked_is
-        (begins-inside (extent_of k.shape) u.of.global w u.of.there u.waits ∙ sym (opened-inside t to cell (begin_turned plan (Some w)) (begin_answer plan (Some w))))
+        (begins-inside (extent_of k.shape) cell.name w u.cell_is.there u.waits ∙ sym (opened-inside t to cell (begin_turned plan (Some w)) (begin_answer plan (Some w))))
     go (Closing to cell held plan) u takes =
-        let h = ends-outside (extent_of k.shape) u.of.global (held.place + 2) u.of.there u.waits in
+        let h = ends-outside (extent_of k.shape) cell (held.place + 2) u.there u.waits in
         subst (λ (a : Next (Unit {0})). enters (extent_of k.shape) s w true ≡ accesses (closed_on to cell held (end_turned plan (Some w)) a (idle t))) (sym (h.1 w))
         (on u.waits.step true (accesses (closed_on to cell held (end_turned plan (Some w)) (nexts.Done tt) (idle t))) u.waits.asked_is (h.0 w ∙ sym (closed-outside t to cell held (end_turned plan (Some w)))))
     go (Setting from cell plan) u takes =
-        out u.waits.step u.waits.asked_is (swaps-calm (extent_of k.shape) u.of.global (word_of (ref (value t.vars from))) (hand_of (ref (value t.vars from))) (t.hands + 1) (put-free (value t.vars from)) u.waits)
+        out u.waits.step u.waits.asked_is (swaps-calm (extent_of k.shape) cell.name (word_of (ref (value t.vars from))) (hand_of (ref (value t.vars from))) (t.hands + 1) (put-free (value t.vars from)) u.waits)
         (set_on from cell (swap_turned plan (Some w)) (swap_answer plan (Some w)) (idle t)) (set-outside t from cell (swap_turned plan (Some w)) (swap_answer plan (Some w)))
     go (Clearing plan) u takes = absurd u
     go (Dropping held plan) u takes =
@@ -407,25 +447,8 @@ inside-on k n t s w now st asked takes = go t.doing st.up_to takes.0
         (dropped_on held (down_turned plan (Some w)) (down_answer plan (Some w)) (idle t)) (dropped-outside t held (down_turned plan (Some w)) (down_answer plan (Some w)))
     go (Vacating slot plan) u takes =
         out u.waits.step u.waits.asked_is (vacate-calm (extent_of k.shape) slot u.waits) (vacated_on slot (one_turned plan (Some w)) (vacate_answer plan (Some w)) (idle t)) (vacated-outside t slot (one_turned plan (Some w)) (vacate_answer plan (Some w)))
-    go (Dying c) u takes = dying c.at u.place
-      where
-        new : Thread
-        new = dying_on (cascade_turned c (Some w)) (cascade_answer c (Some w)) (deinit_tells (cascade_turned c (Some w)).event (idle t))
-
-        away : accesses new ≡ false
-        away = dying-outside (cascade_turned c (Some w)) (cascade_answer c (Some w)) (deinit_tells (cascade_turned c (Some w)).event (idle t)) refl
-
-        dying : (a : CascadeAt) → CascadeUpTo k.shape (here k st.job st.at) c.slot u.base now (step_in t.asked) a → enters (extent_of k.shape) s w false ≡ accesses new
-        dying at.Start p = absurd p
-        dying at.Entering p = out (steps.Store (number (extent_of k.shape) (NextPlace c.slot)) 0) p.1 (stored (extent_of k.shape) (number (extent_of k.shape) (NextPlace c.slot)) 0) new away
-        dying at.Naming p = out (steps.Load (number (extent_of k.shape) (Isa c.slot))) p.1 (λ found. refl) new away
-        dying (at.Named name) p = absurd p
-        dying (at.Looking name field) p = absurd p
-        dying (at.Taking name field place) p = absurd p
-        dying (at.Dropping name field d) p = absurd p
-        dying (at.Resuming field) p = absurd p
-        dying at.Leaving p = out (steps.Load (number (extent_of k.shape) (NextPlace c.slot))) p.1 (λ found. refl) new away
-        dying (at.Finishing parent q) p = out p.waits.step p.waits.asked_is (still-calm (extent_of k.shape) p.waits.step (finish-still (extent_of k.shape) c.slot u.within p.waits)) new away
-        dying (at.Ending parent q) p = out p.waits.step p.waits.asked_is (vacate-calm (extent_of k.shape) c.slot p.waits) new away
-        dying at.Ended p = absurd p
+    go (Dying c) u takes =
+        let x = dying-calm k.shape (here k st.job st.at) (IsOver k st.job st.at t.vars t.made) chain c.slot t.hands (step_in t.asked) now c.at u.place in
+        let new : Thread = dying_on (cascade_turned c (Some w)) (cascade_answer c (Some w)) (deinit_tells (cascade_turned c (Some w)).event (idle t)) in
+        out x.0 x.1 x.2 new (dying-outside (cascade_turned c (Some w)) (cascade_answer c (Some w)) (deinit_tells (cascade_turned c (Some w)).event (idle t)) refl)
     go Ended u takes = absurd takes

@@ -1,6 +1,7 @@
 -- What a stepper that stands for its steps asks for, and what it stands for where it has ended.
 use Rattle.std.proofs.Common.{◌≡◌, ℕ, ◌+◌, true, false, List, Some, None, refl, ap, ◌∙◌}
 use Rattle.arc_rule.specs.declared.step.Step.{Step}
+use Rattle.arc_cells.specs.Chains.{Frame}
 use Rattle.arc_ops.specs.declared.stepper.Doing.{Doing}
 use Rattle.arc_ops.specs.declared.stepper.Doing.TheVariants.{Ready, Making, Gaining, Naming, Opening, Closing, Setting, Clearing, Dropping, Dying, Vacating, Ended}
 use Rattle.arc_ops.specs.declared.stepper.Move.{Move}
@@ -44,10 +45,10 @@ has-ended t e f = go t.asked e f
     go moves.Ended e f = refl
 
 -- a thread that has ended stays so, however many phases have begun
-pub ended-stays : (k : Task) (n m : ℕ) (t : Thread) (now : List Made) → Stands k n t now → t.asked ≡ moves.Ended → Stands k m t now
-ended-stays k n m t now st ended = record { job = st.job; at = st.at; phases = st.phases; phased = go t.doing (idle-here k n t now st (ap step_in ended)) st.up_to; works = st.works; vars_in = st.vars_in; placed = st.placed; up_to = st.up_to }
+pub ended-stays : (k : Task) (n m : ℕ) {chain : List Frame} (t : Thread) (now : List Made) → Stands k n chain t now → t.asked ≡ moves.Ended → Stands k m chain t now
+ended-stays k n m {chain = chain} t now st ended = record { job = st.job; at = st.at; phases = st.phases; phased = go t.doing (idle-here k n t now st (ap step_in ended)) st.up_to; works = st.works; vars_in = st.vars_in; placed = st.placed; up_to = st.up_to }
   where
-    go : (d : Doing) → IsIdle d → UpTo k st.job st.at t.vars t.made t.hands t.asked now d → IsIn m st.phases d
+    go : (d : Doing) → IsIdle d → UpTo k chain st.job st.at t.vars t.made t.hands t.asked now d → IsIn m st.phases d
     go Ready i u = let e = u.0 in absurd (cc)
     go (Making to name plan) i u = absurd i
     go (Gaining gain to held plan) i u = absurd i
@@ -61,10 +62,10 @@ ended-stays k n m t now st ended = record { job = st.job; at = st.at; phases = s
     go (Dying c) i u = absurd i
     go Ended i u = tt
 
-pub whole : (k : Task) (n : ℕ) (t : Thread) (now : List Made) → Stands k n t now → t.asked ≡ moves.Ended → IsWhole k now
-whole k n t now st ended = go t.doing (idle-here k n t now st (ap step_in ended)) st.up_to
+pub whole : (k : Task) (n : ℕ) {chain : List Frame} (t : Thread) (now : List Made) → Stands k n chain t now → t.asked ≡ moves.Ended → IsWhole k now
+whole k n {chain = chain} t now st ended = go t.doing (idle-here k n t now st (ap step_in ended)) st.up_to
   where
-    go : (d : Doing) → IsIdle d → UpTo k st.job st.at t.vars t.made t.hands t.asked now d → IsWhole k now
+    go : (d : Doing) → IsIdle d → UpTo k chain st.job st.at t.vars t.made t.hands t.asked now d → IsWhole k now
     go Ready i u = let e = u.0 in absurd (cc)
     go (Making to name plan) i u = absurd i
     go (Gaining gain to held plan) i u = absurd i
@@ -79,10 +80,10 @@ whole k n t now st ended = go t.doing (idle-here k n t now st (ap step_in ended)
     go Ended i u = u.1
 
 -- a step belongs to the phase that has begun last
-pub in-phase : (k : Task) (n : ℕ) (t : Thread) (step : Step) (now : List Made) (st : Stands k n t now) → step_in t.asked ≡ Some step → st.job.phase + 1 ≡ n
-in-phase k n t step now st asked = st.works.begun_is ∙ go t.doing st.phased st.up_to
+pub in-phase : (k : Task) (n : ℕ) {chain : List Frame} (t : Thread) (step : Step) (now : List Made) (st : Stands k n chain t now) → step_in t.asked ≡ Some step → st.job.phase + 1 ≡ n
+in-phase k n {chain = chain} t step now st asked = st.works.begun_is ∙ go t.doing st.phased st.up_to
   where
-    go : (d : Doing) → IsIn n st.phases d → UpTo k st.job st.at t.vars t.made t.hands t.asked now d → st.phases ≡ n
+    go : (d : Doing) → IsIn n st.phases d → UpTo k chain st.job st.at t.vars t.made t.hands t.asked now d → st.phases ≡ n
     go Ready p u = let e = ap step_in u.0 in absurd (cc)
     go (Making to name plan) p u = p
     go (Gaining gain to held plan) p u = p

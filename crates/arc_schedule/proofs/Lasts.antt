@@ -1,5 +1,5 @@
 -- What an operation does last, and what clearing a global does: a reference is dropped. Each word keeps what that stands for, with the step that found it.
-use Rattle.std.proofs.Common.{◌≡◌, ℕ, Bool, true, false, cond, eqb, List, ◌∷◌, Option, Some, None, refl, sym, ap, subst, ◌∙◌}
+use Rattle.std.proofs.Common.{◌≡◌, ℕ, Bool, true, false, cond, eqb, List, [], ◌∷◌, Option, Some, None, refl, sym, ap, subst, ◌∙◌, arith}
 use Rattle.std.specs.Prelude.{⊤}
 use Rattle.arc_bits.specs.declared.packing.Word.{Word}
 use Rattle.arc_bits.specs.declared.packing.Word.TheVariants.{Free, Counts, Slow, Immortal}
@@ -34,6 +34,7 @@ use Rattle.arc_plan.specs.Strong.{strong_down_row, strong_down_end}
 use Rattle.arc_plan.specs.Unowned.{unowned_down_row, unowned_down_end}
 use Rattle.arc_plan.specs.Slots.{OneStep, one_turned, vacate_answer}
 use Rattle.arc_cells.specs.Cascades.{CascadeState}
+use Rattle.arc_cells.specs.Chains.{Frame}
 use Rattle.arc_ops.specs.declared.stepper.Held.{Held}
 use Rattle.arc_ops.specs.declared.stepper.Doing.TheVariants.{Dropping, Dying, Vacating}
 use Rattle.arc_ops.specs.declared.stepper.Move.TheVariants as moves
@@ -52,7 +53,10 @@ use Rattle.arc_schedule.specs.Operations.{reference_to, SlotEnds, Drops}
 use Rattle.arc_schedule.specs.Operations.SlotEnds.{bare as slot_ends}
 use Rattle.arc_schedule.specs.Operations.Drops.{more as drops_more, last as drops_last, last_unowned as drops_last_unowned}
 use Rattle.arc_schedule.proofs.Newest.{IsHere}
-use Rattle.arc_schedule.proofs.Stands.{Gave, waits, begun-from, given, gives, starts-again, IsDropping, IsEnding, IsDying, step_in}
+use Rattle.arc_schedule.proofs.Given.{Gave, waits, begun-from, given, gives, starts-again}
+use Rattle.arc_schedule.proofs.Deinits.{IsDropping, IsEnding, IsDying}
+use Rattle.arc_schedule.proofs.Deinits.Chained.{root}
+use Rattle.arc_schedule.proofs.Stands.{step_in}
 use Rattle.arc_schedule.proofs.Tells.{idle}
 
 -- ---- which answers the words allow
@@ -147,22 +151,22 @@ last-bare p w fits = go p.entry (down-met p w fits).0 (entry_met p.entry p.at (S
 -- ---- what is done last
 
 -- A thread drops a reference at a point, behind which this holds: what is under way stands for its steps, and when it is over the thread goes on.
-pub record Lasts (shape : HeapShape) (point : Point) (Over : List Made → Type 0) (t : Thread) (Goal : Thread → List Made → Type 0) : Type 0 where
+pub record Lasts (shape : HeapShape) (point : Point) (Over : ℕ → List Made → Type 0) (t : Thread) (Goal : List Frame → Thread → List Made → Type 0) : Type 0 where
   pub layout_is : t.layout ≡ extent_of shape
   pub shape_is : t.shape ≡ shape
-  pub drops : (held : Held) (plan : Fall) (asked : Move) (event : Option Act) (now : List Made) → IsDropping shape point Over held plan (step_in asked) now → IsHere point now →
-      Goal (record (idle t) { doing = Dropping held plan; asked = asked; event = event }) now
-  pub dies : (c : CascadeState) (asked : Move) (event : Option Act) (kept : Kept) (now : List Made) → IsDying shape point Over c (step_in asked) now → IsHere point now →
-      Goal (record (idle t) { doing = Dying c; asked = asked; event = event; kept = kept }) now
-  pub ends : (slot : ℕ) (plan : OneStep) (asked : Move) (event : Option Act) (now : List Made) → IsEnding shape point Over slot plan (step_in asked) now → IsHere point now →
-      Goal (record (idle t) { doing = Vacating slot plan; asked = asked; event = event }) now
-  pub over : (event : Option Act) (now : List Made) → IsHere point now → Over now → Goal (next_op (record (idle t) { event = event })) now
+  pub drops : (chain : List Frame) (held : Held) (plan : Fall) (asked : Move) (event : Option Act) (now : List Made) → IsDropping shape point Over held plan t.hands (step_in asked) now → IsHere point now →
+      Goal chain (record (idle t) { doing = Dropping held plan; asked = asked; event = event }) now
+  pub dies : (chain : List Frame) (c : CascadeState) (asked : Move) (event : Option Act) (kept : Kept) (hands taken : ℕ) (now : List Made) → IsDying shape point Over chain c hands (step_in asked) now → IsHere point now →
+      Goal chain (record (idle t) { doing = Dying c; asked = asked; event = event; kept = kept; hands = hands; taken = taken }) now
+  pub ends : (chain : List Frame) (slot : ℕ) (plan : OneStep) (asked : Move) (event : Option Act) (now : List Made) → IsEnding shape point Over slot plan t.hands (step_in asked) now → IsHere point now →
+      Goal chain (record (idle t) { doing = Vacating slot plan; asked = asked; event = event }) now
+  pub over : (chain : List Frame) (event : Option Act) (now : List Made) → IsHere point now → Over t.hands now → Goal chain (next_op (record (idle t) { event = event })) now
 
 -- ---- a reference is dropped
 
-pub drops : (shape : HeapShape) (point : Point) (Over : List Made → Type 0) (t : Thread) (Goal : Thread → List Made → Type 0) → Lasts shape point Over t Goal → (s : Step) (w : ℕ) (now : List Made) →
-    (held : Held) (plan : Fall) → IsDropping shape point Over held plan (Some s) now → IsBareAt IsInline plan.entry plan.at w →
-    Goal (dropped_on held (down_turned plan (Some w)) (down_answer plan (Some w)) (idle t)) (made_at point s w (told_by (down_told held.hand) (down_answer plan (Some w))) ∷ now)
+pub drops : (shape : HeapShape) (point : Point) (Over : ℕ → List Made → Type 0) (t : Thread) (Goal : List Frame → Thread → List Made → Type 0) → Lasts shape point Over t Goal → (s : Step) (w : ℕ) (now : List Made) →
+    (held : Held) (plan : Fall) → IsDropping shape point Over held plan t.hands (Some s) now → IsBareAt IsInline plan.entry plan.at w →
+    Goal [] (dropped_on held (down_turned plan (Some w)) (down_answer plan (Some w)) (idle t)) (made_at point s w (told_by (down_told held.hand) (down_answer plan (Some w))) ∷ now)
 drops shape point Over t Goal x s w now held plan u fits =
     go (down_answer plan (Some w)) (last-bare plan w fits) (given fall point u.base now plan s w u.waits)
   where
@@ -179,36 +183,39 @@ drops shape point Over t Goal x s w now held plan u fits =
     last : Thread
     last = record (idle t) { event = Some (acts.Drop held.hand true) }
 
-    ends_as : (kind : Kind) → held.kind ≡ kind → (end : List Made) → Drops shape point (reference_to held.hand kind held.place) u.base end → Over end
-    ends_as kind is end y = u.ends end (subst (λ (c : Kind). Drops shape point (reference_to held.hand c held.place) u.base end) (sym is) y)
+    ends_as : (kind : Kind) → held.kind ≡ kind → (came : ℕ) (end : List Made) → Drops shape point [] (reference_to held.hand kind held.place) t.hands u.base came end → Over came end
+    ends_as kind is came end y = u.ends came end (subst (λ (c : Kind). Drops shape point [] (reference_to held.hand c held.place) t.hands u.base came end) (sym is) y)
 
-    gone : (kind : Kind) → held.kind ≡ kind → (entry : Option ℕ) → entry ≡ None → Gives (fall_of kind) point u.base (downs.Last entry) after → Goal (last_gone kind held.place last) after
-    gone Strong is entry none g = x.dies _ _ (Some (acts.Drop held.hand true)) t.kept after (record {
-      base = after;
+    gone : (kind : Kind) → held.kind ≡ kind → (entry : Option ℕ) → entry ≡ None → Gives (fall_of kind) point u.base (downs.Last entry) after → Goal [] (last_gone kind held.place last) after
+    gone Strong is entry none g = x.dies [] _ _ (Some (acts.Drop held.hand true)) t.kept t.hands t.taken after (record {
       layout = x.layout_is;
       shape_is = x.shape_is;
-      ends = λ end y. ends_as Strong is end (drops_last u.inside.place g y);
-      place = (refl, rw x.layout_is refl);
-      within = u.inside.place;
+      came = omega arith;
+      place = record {
+        begun = record { hands = t.hands; base = after; waiting = root (λ came end y. ends_as Strong is came end (drops_last u.inside.place g y refl)); within = u.inside.place };
+        hands_are = refl;
+        now_is = refl;
+        asks = rw x.layout_is refl;
+      };
     }) (refl, refl)
     gone Unowned is entry none g =
         let ending : Plan OneStep (Unit {0}) = vacate (extent_of shape) held.place in
         let same : ending.start ≡ ending_from held.place last = rw x.layout_is refl in
-        x.ends held.place _ _ (Some (acts.Drop held.hand true)) after (record {
+        x.ends [] held.place _ _ (Some (acts.Drop held.hand true)) after (record {
           base = after;
-          ends = λ end y. ends_as Unowned is end (drops_last_unowned u.inside.place g (subst (λ (o : Option ℕ). SlotEnds shape point held.place o after end) (sym none) y));
+          ends = λ end y. ends_as Unowned is t.hands end (drops_last_unowned u.inside.place g (subst (λ (o : Option ℕ). SlotEnds shape point held.place o after end) (sym none) y));
           waits = waits ending point after after _ _ (begun-from ending point after after (ending_from held.place last) starts_first same);
         }) (refl, refl)
     gone Weak is entry none g = absurd (subst IsCountedInline is u.inside.kind)
 
-    go : (a : Next DownAnswer) → HasNoEntry a → Gave fall point u.base after a (down_turned plan (Some w)) → Goal (dropped_on held (down_turned plan (Some w)) a (idle t)) after
-    go (nexts.Step s) bare g = x.drops held _ (moves.Step s (intents.Drop held.hand)) None after (record { base = u.base; ends = u.ends; waits = waits fall point u.base after _ s g; inside = u.inside; bare = down-bare plan w fits }) (refl, refl)
+    go : (a : Next DownAnswer) → HasNoEntry a → Gave fall point u.base after a (down_turned plan (Some w)) → Goal [] (dropped_on held (down_turned plan (Some w)) a (idle t)) after
+    go (nexts.Step s) bare g = x.drops [] held _ (moves.Step s (intents.Drop held.hand)) None after (record { base = u.base; ends = u.ends; waits = waits fall point u.base after _ s g; inside = u.inside; bare = down-bare plan w fits }) (refl, refl)
     go (nexts.Done (downs.More entry)) bare g =
-        x.over (Some (acts.Drop held.hand false)) after (refl, refl) (u.ends after (drops_more u.inside.place u.inside.kind (gives fall point u.base after _ (downs.More entry) refl g)))
+        x.over [] (Some (acts.Drop held.hand false)) after (refl, refl) (u.ends t.hands after (drops_more u.inside.place u.inside.kind (gives fall point u.base after _ (downs.More entry) refl g)))
     go (nexts.Done (downs.Last entry)) bare g = gone held.kind refl entry bare (gives fall point u.base after _ (downs.Last entry) refl g)
     go (nexts.Done (downs.Again c)) bare g =
         let same : fall.start ≡ drop_from held (idle t) = rw x.layout_is refl in
-        x.drops held _ _ None after (record {
+        x.drops [] held _ _ None after (record {
           base = u.base;
           ends = u.ends;
           waits = waits fall point u.base after _ _ (begun-from fall point u.base after (drop_from held (idle t)) (starts-again fall point u.base after _ (downs.Again c) refl g) same);
@@ -217,8 +224,8 @@ drops shape point Over t Goal x s w now held plan u fits =
         }) (refl, refl)
 
 -- the slot ends of an object whose last unowned reference went
-pub slot-ends : (shape : HeapShape) (point : Point) (Over : List Made → Type 0) (t : Thread) (Goal : Thread → List Made → Type 0) → Lasts shape point Over t Goal → (s : Step) (w : ℕ) (now : List Made) → (slot : ℕ) (plan : OneStep) → IsEnding shape point Over slot plan (Some s) now →
-    Goal (vacated_on slot (one_turned plan (Some w)) (vacate_answer plan (Some w)) (idle t)) (made_at point s w (told_by (vacate_told slot) (vacate_answer plan (Some w))) ∷ now)
+pub slot-ends : (shape : HeapShape) (point : Point) (Over : ℕ → List Made → Type 0) (t : Thread) (Goal : List Frame → Thread → List Made → Type 0) → Lasts shape point Over t Goal → (s : Step) (w : ℕ) (now : List Made) → (slot : ℕ) (plan : OneStep) → IsEnding shape point Over slot plan t.hands (Some s) now →
+    Goal [] (vacated_on slot (one_turned plan (Some w)) (vacate_answer plan (Some w)) (idle t)) (made_at point s w (told_by (vacate_told slot) (vacate_answer plan (Some w))) ∷ now)
 slot-ends shape point Over t Goal x s w now slot plan u = go (vacate_answer plan (Some w)) (given ending point u.base now plan s w u.waits)
   where
     ending : Plan OneStep (Unit {0})
@@ -227,6 +234,6 @@ slot-ends shape point Over t Goal x s w now slot plan u = go (vacate_answer plan
     after : List Made
     after = made_at point s w (told_by (vacate_told slot) (vacate_answer plan (Some w))) ∷ now
 
-    go : (a : Next (Unit {0})) → Gave ending point u.base after a (one_turned plan (Some w)) → Goal (vacated_on slot (one_turned plan (Some w)) a (idle t)) after
-    go (nexts.Step s) g = x.ends slot _ (moves.Step s intents.Vacate) None after (record { base = u.base; ends = u.ends; waits = waits ending point u.base after _ s g }) (refl, refl)
-    go (nexts.Done a) g = x.over (Some (acts.Vacate slot)) after (refl, refl) (u.ends after (slot_ends (gives ending point u.base after _ tt refl g)))
+    go : (a : Next (Unit {0})) → Gave ending point u.base after a (one_turned plan (Some w)) → Goal [] (vacated_on slot (one_turned plan (Some w)) a (idle t)) after
+    go (nexts.Step s) g = x.ends [] slot _ (moves.Step s intents.Vacate) None after (record { base = u.base; ends = u.ends; waits = waits ending point u.base after _ s g }) (refl, refl)
+    go (nexts.Done a) g = x.over [] (Some (acts.Vacate slot)) after (refl, refl) (u.ends after (slot_ends (gives ending point u.base after _ tt refl g)))

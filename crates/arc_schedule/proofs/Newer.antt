@@ -7,6 +7,7 @@ use Rattle.arc_model.specs.declared.event.Origin.{Origin}
 use Rattle.arc_model.specs.declared.event.Origin.TheVariants as origins
 use Rattle.arc_rule.specs.declared.step.Step.{Step}
 use Rattle.arc_script.proofs.OneList.{number_next}
+use Rattle.arc_cells.specs.Chains.{Frame}
 use Rattle.arc_ops.specs.declared.stepper.Doing.{Doing}
 use Rattle.arc_ops.specs.declared.stepper.Doing.TheVariants.{Ready, Making, Gaining, Naming, Opening, Closing, Setting, Clearing, Dropping, Dying, Vacating, Ended}
 use Rattle.arc_ops.specs.Thread.{Thread, is_busy, is_accessing, is_cell as is_from_cell, in_access as accesses, in_operation}
@@ -25,10 +26,10 @@ op-now-is k j i t works =
     rw (works.phases_is, works.phase_is, works.index_is, ops, place) refl
 
 -- a thread with a step has an operation under way, and its newest step stands with it
-pub newest-of : (k : Task) (n : ℕ) (t : Thread) (s : Step) (now : List Made) (st : Stands k n t now) → step_in t.asked ≡ Some s → IsAt k st.job st.at × Newest (here k st.job st.at) t.first now
-newest-of k n t s now st asked = go t.doing st.placed st.up_to
+pub newest-of : (k : Task) (n : ℕ) {chain : List Frame} (t : Thread) (s : Step) (now : List Made) (st : Stands k n chain t now) → step_in t.asked ≡ Some s → IsAt k st.job st.at × Newest (here k st.job st.at) t.first now
+newest-of k n {chain = chain} t s now st asked = go t.doing st.placed st.up_to
   where
-    go : (d : Doing) → IsPlaced k st.job st.at t.first now d → UpTo k st.job st.at t.vars t.made t.hands t.asked now d → IsAt k st.job st.at × Newest (here k st.job st.at) t.first now
+    go : (d : Doing) → IsPlaced k st.job st.at t.first now d → UpTo k chain st.job st.at t.vars t.made t.hands t.asked now d → IsAt k st.job st.at × Newest (here k st.job st.at) t.first now
     go Ready placed u = let e = ap step_in u.0 in absurd (cc)
     go (Making to name plan) placed u = placed
     go (Gaining gain to from plan) placed u = placed
@@ -43,10 +44,10 @@ newest-of k n t s now st asked = go t.doing st.placed st.up_to
     go Ended placed u = let e = ap step_in u.0 in absurd (cc)
 
 -- and it is busy
-pub busy-here : (k : Task) (n : ℕ) (t : Thread) (s : Step) (now : List Made) → Stands k n t now → step_in t.asked ≡ Some s → is_busy t.doing ≡ true
-busy-here k n t s now st asked = go t.doing st.up_to
+pub busy-here : (k : Task) (n : ℕ) {chain : List Frame} (t : Thread) (s : Step) (now : List Made) → Stands k n chain t now → step_in t.asked ≡ Some s → is_busy t.doing ≡ true
+busy-here k n {chain = chain} t s now st asked = go t.doing st.up_to
   where
-    go : (d : Doing) → UpTo k st.job st.at t.vars t.made t.hands t.asked now d → is_busy d ≡ true
+    go : (d : Doing) → UpTo k chain st.job st.at t.vars t.made t.hands t.asked now d → is_busy d ≡ true
     go Ready u = let e = ap step_in u.0 in absurd (cc)
     go (Making to name plan) u = refl
     go (Gaining gain to from plan) u = refl
@@ -61,7 +62,7 @@ busy-here k n t s now st asked = go t.doing st.up_to
     go Ended u = let e = ap step_in u.0 in absurd (cc)
 
 -- a thread without a step is outside
-pub idle-outside : (k : Task) (n : ℕ) (t : Thread) (now : List Made) → Stands k n t now → step_in t.asked ≡ None → accesses t ≡ false
+pub idle-outside : (k : Task) (n : ℕ) {chain : List Frame} (t : Thread) (now : List Made) → Stands k n chain t now → step_in t.asked ≡ None → accesses t ≡ false
 idle-outside k n t now st none = go t.doing (idle-here k n t now st none)
   where
     go : (d : Doing) → IsIdle d → is_accessing d ≡ false
@@ -87,10 +88,10 @@ numbered-here k j i at within =
     rw e (omega arith)
 
 -- a thread inside an access has made a step of its operation
-pub inside-newest : (k : Task) (n : ℕ) (t : Thread) (now : List Made) (st : Stands k n t now) → accesses t ≡ true → IsHere (here k st.job st.at) now × (1 ≤ (here k st.job st.at).operation)
-inside-newest k n t now st inside = go t.doing inside st.placed st.up_to
+pub inside-newest : (k : Task) (n : ℕ) {chain : List Frame} (t : Thread) (now : List Made) (st : Stands k n chain t now) → accesses t ≡ true → IsHere (here k st.job st.at) now × (1 ≤ (here k st.job st.at).operation)
+inside-newest k n {chain = chain} t now st inside = go t.doing inside st.placed st.up_to
   where
-    go : (d : Doing) → is_accessing d ≡ true → IsPlaced k st.job st.at t.first now d → UpTo k st.job st.at t.vars t.made t.hands t.asked now d → IsHere (here k st.job st.at) now × (1 ≤ (here k st.job st.at).operation)
+    go : (d : Doing) → is_accessing d ≡ true → IsPlaced k st.job st.at t.first now d → UpTo k chain st.job st.at t.vars t.made t.hands t.asked now d → IsHere (here k st.job st.at) now × (1 ≤ (here k st.job st.at).operation)
     go Ready e placed u = absurd (cc)
     go (Making to name plan) e placed u = absurd (cc)
     go (Gaining gain to from plan) e placed u = of from.origin e u
@@ -120,7 +121,7 @@ at-index k j i t works at within = go (ltb i (length j.ops)) refl
         absurd (cc)
 
 -- a thread in an operation has made a step of it
-pub operation-newest : (k : Task) (n : ℕ) (t : Thread) (s : Step) (now : List Made) (st : Stands k n t now) → step_in t.asked ≡ Some s → in_operation t ≡ true → IsHere (here k st.job st.at) now × (1 ≤ (here k st.job st.at).operation)
+pub operation-newest : (k : Task) (n : ℕ) {chain : List Frame} (t : Thread) (s : Step) (now : List Made) (st : Stands k n chain t now) → step_in t.asked ≡ Some s → in_operation t ≡ true → IsHere (here k st.job st.at) now × (1 ≤ (here k st.job st.at).operation)
 operation-newest k n t s now st asked inside = with (newest-of k n t s now st asked)
   where
     parts : (a b c : Bool) → (a && not b && c) ≡ true → (b ≡ false) × (c ≡ true)
@@ -144,7 +145,7 @@ operation-newest k n t s now st asked inside = with (newest-of k n t s now st as
         go (inr (past, inr last)) = let f = number in absurd (omega arith)
 
 -- a thread that isn't in an operation has made no step of the one that it is at, where its newest step is one of the phase
-pub outside-behind : (k : Task) (n : ℕ) (t : Thread) (s : Step) (m : Made) (ms : List Made) (st : Stands k n t (m ∷ ms)) → step_in t.asked ≡ Some s → in_operation t ≡ false → 1 ≤ m.point.operation → m.point.phase + 1 ≡ n → st.job.phase + 1 ≡ n →
+pub outside-behind : (k : Task) (n : ℕ) {chain : List Frame} (t : Thread) (s : Step) (m : Made) (ms : List Made) (st : Stands k n chain t (m ∷ ms)) → step_in t.asked ≡ Some s → in_operation t ≡ false → 1 ≤ m.point.operation → m.point.phase + 1 ≡ n → st.job.phase + 1 ≡ n →
     IsBehind m.point.operation (op_now t)
 outside-behind k n t s m ms st asked outside some phase in_phase = subst (IsBehind m.point.operation) (sym (op-now-is k st.job st.at t st.works)) (with (newest-of k n t s (m ∷ ms) st asked))
   where
@@ -172,7 +173,7 @@ outside-behind k n t s m ms st asked outside some phase in_phase = subst (IsBehi
         go (inr (inr here_is, y)) = (some, here_is.2)
 
 -- behind a step of an operation the thread is at it or at one behind
-pub from-step : (k : Task) (n : ℕ) (t : Thread) (s : Step) (m : Made) (ms : List Made) (st : Stands k n t (m ∷ ms)) → step_in t.asked ≡ Some s → m.point.phase + 1 ≡ n → st.job.phase + 1 ≡ n → IsFrom m.point.operation (op_now t)
+pub from-step : (k : Task) (n : ℕ) {chain : List Frame} (t : Thread) (s : Step) (m : Made) (ms : List Made) (st : Stands k n chain t (m ∷ ms)) → step_in t.asked ≡ Some s → m.point.phase + 1 ≡ n → st.job.phase + 1 ≡ n → IsFrom m.point.operation (op_now t)
 from-step k n t s m ms st asked phase in_phase = subst (IsFrom m.point.operation) (sym (op-now-is k st.job st.at t st.works)) (go (newest-of k n t s (m ∷ ms) st asked).1)
   where
     go : Newest (here k st.job st.at) t.first (m ∷ ms) → IsFrom m.point.operation (here k st.job st.at).operation

@@ -7,6 +7,7 @@ use Rattle.std.proofs.lemmas.List.Elements.{All-replicate, All-from_recursion, r
 use Rattle.std.specs.Prelude.{slice_get, replicate, take, All}
 use Rattle.std.specs.List.{AllByRecursion}
 use Rattle.arc_rule.specs.Places.{extent_of}
+use Rattle.arc_cells.specs.Chains.{Frame}
 use Rattle.arc_script.specs.declared.script.VarDecl.{VarDecl}
 use Rattle.arc_script.specs.declared.script.Op.{Op}
 use Rattle.arc_script.specs.declared.script.ThreadDecl.{ThreadDecl}
@@ -15,7 +16,7 @@ use Rattle.arc_script.specs.OneList.{in_one_list}
 use Rattle.arc_script.specs.Valid.{IsScript, IsThread, IsOp, Nested}
 use Rattle.arc_ops.specs.declared.stepper.Move.TheVariants as moves
 use Rattle.arc_served.proofs.Blocks.{nested_forth}
-use Rattle.arc_served.specs.Programs.{GoesForth, declared_of, phases_in, phases_of, count_of_vars, vars_of}
+use Rattle.arc_served.specs.Programs.{GoesForth, declared_of, classes_in, phases_in, phases_of, count_of_vars, vars_of}
 use Rattle.arc_ops.specs.declared.stepper.Held.{Held}
 use Rattle.arc_served.specs.Served.{IsServed, IsServedThread, IsServedVar, IsServedOp}
 use Rattle.arc_spelled.proofs.Declared.{declared as declared-as, op-kinds, op-cells, globals-served}
@@ -26,6 +27,7 @@ use Rattle.arc_ops.specs.Thread.{Thread, stepper_of, value, in_access as accesse
 use Rattle.arc_ops.specs.Turns.{turned_at, turned}
 use Rattle.arc_ops.specs.Takes.{takes_at, takes}
 use Rattle.arc_ops.specs.Steppers.{HeldFits}
+use Rattle.arc_replays.proofs.Holds.{is_sized}
 use Rattle.arc_replays.specs.Stages.{Stage, has_step, awaits_phase, IsNone, new_threads, begun_thread, begun_threads}
 use Rattle.arc_schedule.specs.Made.{Made, own}
 use Rattle.arc_schedule.specs.Operations.{State, Variables}
@@ -67,7 +69,8 @@ job-served script some valid served i decl there p ops here = record {
   kinds_fit = λ x o at. op-kinds script.shape script.classes script.globals decl.vars (declared-as script valid) (recursion_from_All IsServedVar decl.vars thread.vars) o (is-op x o at);
   cells_fit = λ x o at. op-cells script.shape script.classes script.globals decl.vars (declared-as script valid) o (is-op x o at);
   globals = globals-served script valid served;
-  without_fields = served.without_fields;
+  classes_served = served.classes;
+  few_fields = (is_sized script valid).shape_fits.fields_fit;
   forth = forth ops (phase-nested decl.phases p ops declared_so.nested here);
 }
   where
@@ -117,7 +120,7 @@ first-ops : (phases : List (List Op)) → 1 ≤ length phases → (ops : List Op
 first-ops [] e = absurd (omega arith)
 first-ops (ops ∷ phases) e = (ops, refl)
 
-pub new-stands : (script : Script) (some : 0 < script.shape.slots) (i : ℕ) (decl : ThreadDecl) → slice_get script.threads i ≡ Some decl → 1 ≤ length decl.phases → Stands (task_of script some i decl) 0 (stepper_of script (i + 1)) []
+pub new-stands : (script : Script) (some : 0 < script.shape.slots) (i : ℕ) (decl : ThreadDecl) → slice_get script.threads i ≡ Some decl → 1 ≤ length decl.phases → Stands (task_of script some i decl) 0 [] (stepper_of script (i + 1)) []
 new-stands script some i decl there phases = record {
   job = job;
   at = 0;
@@ -129,6 +132,7 @@ new-stands script some i decl there phases = record {
     thread_is = refl;
     phases_is = phases_are;
     program_is = ap (λ (ps : List (List Op)). in_one_list 0 ps) phases_are;
+    classes_are = ap classes_in is;
     phase_is = refl;
     index_is = refl;
     begun_is = refl;
@@ -184,14 +188,14 @@ begun-many [] = refl
 begun-many (t ∷ ts) = ap suc (length-map ts begun_thread)
 
 -- each thread that waits begins its next phase, and the others have ended
-pub begun-stands : (script : Script) → IsScript script → IsServed script → (some : 0 < script.shape.slots) (s : Stage) (ms : List Made) → AllStand script some s.begun s.threads ms → IsNone has_step s.threads →
-    ((p : ℕ) (t : Thread) → 1 ≤ p → slice_get s.threads p ≡ Some t → awaits_phase t ≡ true → takes t None) → AllStand script some (s.begun + 1) (begun_threads s.threads) ms
-begun-stands script valid served some s ms stand quiet may i decl u there get = go (begun-there s.threads i u (rw add-one at get))
+pub begun-stands : (script : Script) → IsScript script → IsServed script → (some : 0 < script.shape.slots) (s : Stage) (chains : ℕ → List Frame) (ms : List Made) → AllStand script some s.begun chains s.threads ms → IsNone has_step s.threads →
+    ((p : ℕ) (t : Thread) → 1 ≤ p → slice_get s.threads p ≡ Some t → awaits_phase t ≡ true → takes t None) → AllStand script some (s.begun + 1) chains (begun_threads s.threads) ms
+begun-stands script valid served some s chains ms stand quiet may i decl u there get = go (begun-there s.threads i u (rw add-one at get))
   where
     k : Task
     k = task_of script some i decl
 
-    go : ((t : Thread) × (slice_get s.threads (suc i) ≡ Some t) × (u ≡ begun_thread t)) → Stands k (s.begun + 1) u (own (i + 1) ms)
+    go : ((t : Thread) × (slice_get s.threads (suc i) ≡ Some t) × (u ≡ begun_thread t)) → Stands k (s.begun + 1) (chains (i + 1)) u (own (i + 1) ms)
     go x = which (awaits_phase x.0) refl
       where
         t : Thread
@@ -200,26 +204,26 @@ begun-stands script valid served some s ms stand quiet may i decl u there get = 
         there_is : slice_get s.threads (i + 1) ≡ Some t
         there_is = rw add-one x.1
 
-        st : Stands k s.begun t (own (i + 1) ms)
+        st : Stands k s.begun (chains (i + 1)) t (own (i + 1) ms)
         st = stand i decl t there there_is
 
-        which : (b : Bool) → awaits_phase t ≡ b → Stands k (s.begun + 1) u (own (i + 1) ms)
+        which : (b : Bool) → awaits_phase t ≡ b → Stands k (s.begun + 1) (chains (i + 1)) u (own (i + 1) ms)
         which true e =
             let is : u ≡ turned t None = x.2 ∙ (rw e refl) in
-            subst (λ (v : Thread). Stands k (s.begun + 1) v (own (i + 1) ms)) (sym is)
-            (begins-phase k s.begun t (own (i + 1) ms) st (job-served script some valid served i decl there st.job.phase st.job.ops st.job.there) (may (i + 1) t (omega arith) there_is e) (waits-for-phase t e))
+            subst (λ (v : Thread). Stands k (s.begun + 1) (chains (i + 1)) v (own (i + 1) ms)) (sym is)
+            (begins-phase k s.begun (chains (i + 1)) t (own (i + 1) ms) st (job-served script some valid served i decl there st.job.phase st.job.ops st.job.there) (may (i + 1) t (omega arith) there_is e) (waits-for-phase t e))
         which false e =
             let is : u ≡ t = x.2 ∙ (rw e refl) in
-            subst (λ (v : Thread). Stands k (s.begun + 1) v (own (i + 1) ms)) (sym is)
+            subst (λ (v : Thread). Stands k (s.begun + 1) (chains (i + 1)) v (own (i + 1) ms)) (sym is)
             (ended-stays k s.begun (s.begun + 1) t (own (i + 1) ms) st (has-ended t (quiet (i + 1) t (omega arith) there_is) e))
 
 -- ---- thread 0
 
-pub first-stands : (script : Script) → StandsFirst script.shape (stepper_of script 0) []
+pub first-stands : (script : Script) → StandsFirst script.shape [] (stepper_of script 0) []
 first-stands script = record { layout_is = refl; shape_is = refl; thread_is = refl; phases_is = refl; program_is = refl; vars_is = refl; up_to = (refl, refl, globals_none) }
 
 -- a thread whose phase begins is outside
-pub begun-away : (t : Thread) → takes t None → t.asked ≡ moves.PhaseEnd → (k : Task) (n : ℕ) (now : List Made) → Stands k n t now → accesses (turned t None) ≡ false
+pub begun-away : (t : Thread) → takes t None → t.asked ≡ moves.PhaseEnd → (k : Task) (n : ℕ) {chain : List Frame} (now : List Made) → Stands k n chain t now → accesses (turned t None) ≡ false
 begun-away t takes asked k n now st = go t.doing (idle-here k n t now st (ap step_in asked)) takes.0
   where
     go : (d : Doing) → IsIdle d → takes_at t.shape None d → accesses (turned_at None d (idle t)) ≡ false
@@ -237,9 +241,9 @@ begun-away t takes asked k n now st = go t.doing (idle-here k n t now st (ap ste
     go Ended i takes = absurd takes
 
 -- and so the steps say behind the beginning of a phase
-pub begun-inside : (script : Script) (some : 0 < script.shape.slots) (s : Stage) (ms : List Made) → AllStand script some s.begun s.threads ms → AllInside script s.threads ms →
+pub begun-inside : (script : Script) (some : 0 < script.shape.slots) (s : Stage) (chains : ℕ → List Frame) (ms : List Made) → AllStand script some s.begun chains s.threads ms → AllInside script s.threads ms →
     ((p : ℕ) (t : Thread) → 1 ≤ p → slice_get s.threads p ≡ Some t → awaits_phase t ≡ true → takes t None) → AllInside script (begun_threads s.threads) ms
-begun-inside script some s ms stand inside may i u within get = go (begun-there s.threads i u (rw add-one at get))
+begun-inside script some s chains ms stand inside may i u within get = go (begun-there s.threads i u (rw add-one at get))
   where
     d : (decl : ThreadDecl) × (slice_get script.threads i ≡ Some decl)
     d = there-is script.threads i within
@@ -253,7 +257,7 @@ begun-inside script some s ms stand inside may i u within get = go (begun-there 
         there_is : slice_get s.threads (i + 1) ≡ Some t
         there_is = rw add-one x.1
 
-        st : Stands (task_of script some i d.0) s.begun t (own (i + 1) ms)
+        st : Stands (task_of script some i d.0) s.begun (chains (i + 1)) t (own (i + 1) ms)
         st = stand i d.0 t d.1 there_is
 
         which : (b : Bool) → awaits_phase t ≡ b → in_access (extent_of script.shape) (own (i + 1) ms) ≡ accesses u

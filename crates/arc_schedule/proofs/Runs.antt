@@ -7,7 +7,7 @@ use Rattle.arc_rule.specs.Places.{extent_of}
 use Rattle.arc_script.specs.declared.script.Script.{Script}
 use Rattle.arc_ops.specs.declared.stepper.Move.TheVariants as moves
 use Rattle.arc_ops.specs.Thread.{Thread}
-use Rattle.arc_replays.specs.Stages.{Stage, has_step, is_step}
+use Rattle.arc_replays.specs.Stages.{Stage, has_step, is_step, chains_at}
 use Rattle.arc_schedule.specs.Made.{Made, own}
 use Rattle.arc_schedule.specs.Threads.{point_of, PhasesDone, IsThread, ScopeEnds, GlobalsCleared}
 use Rattle.arc_schedule.specs.Threads.PhasesDone.{one as phases_one}
@@ -31,8 +31,9 @@ is-thread k ms w =
     record {
       behind = w.behind;
       worked = w.worked;
+      came = w.came;
       phases = subst (λ (n : ℕ). PhasesDone k.shape k.thread k.decl n w.behind w.worked) last done;
-      scope = subst (λ (n : ℕ). ScopeEnds k.shape (point_of k.thread n 0) w.behind.vars w.worked (length w.behind.vars) ms) phase w.scope;
+      scope = subst (λ (n : ℕ). ScopeEnds k.shape (point_of k.thread n 0) w.behind.vars w.behind.hands w.worked (length w.behind.vars) w.came ms) phase w.scope;
     }
 
 -- nothing is to come behind the end
@@ -59,7 +60,7 @@ replays_are_schedule_runs script last valid served r =
             is-thread (task_of script some i decl) (own (i + 1) f.ms) (whole (task_of script some i decl) last.begun t.0 (own (i + 1) f.ms) (f.stand i decl t.0 there t.1) (r.ended (i + 1) t.0 t.1)));
         end_section = (
             let t = there-is last.threads 0 (let many = f.many in omega arith) in
-            let x = all-cleared script.shape t.0 (own 0 f.ms) (f.first t.0 t.1) (r.ended 0 t.0 t.1) in
+            let x = all-cleared script.shape (chains_at r.reached 0) t.0 (own 0 f.ms) (f.first t.0 t.1) (r.ended 0 t.0 t.1) in
             record { hands = x.0; cleared = subst (λ (n : ℕ). GlobalsCleared script.shape n x.0 (own 0 f.ms)) (globals-are-many script valid) x.1 });
         no_other = All-from_recursion (λ m. m.point.thread ≤ length script.threads) f.ms f.threads_in;
         order = subst (λ (xs : List Made). InOrder (extent_of script.shape) (length script.threads) 0 script.schedule [] xs) (append-nil (reverse f.ms)) (f.order [] (nothing-ahead script last f.ms r.ended));

@@ -1,6 +1,5 @@
 -- What a stepper stands for: the steps made so far are those of its thread's operations up to where it is.
-use Rattle.std.proofs.Common.{◌≡◌, ℕ, ◌+◌, ◌<◌, ◌≤◌, Bool, true, false, cond, ltb, List, [], ◌∷◌, length, map, set, Option, Some, None, refl, sym, subst}
-use Rattle.std.proofs.lemmas.Option.{same_Some}
+use Rattle.std.proofs.Common.{◌≡◌, ℕ, ◌+◌, ◌<◌, ◌≤◌, Bool, true, false, cond, ltb, List, [], length, map, set, Option, Some, None}
 use Rattle.std.specs.Prelude.{slice_get, take, All, ⊤}
 use Rattle.arc_model.specs.declared.event.ObjectName.{ObjectName}
 use Rattle.arc_model.specs.declared.event.Origin.{Origin}
@@ -8,40 +7,23 @@ use Rattle.arc_model.specs.declared.event.Origin.TheVariants as origins
 use Rattle.arc_model.specs.declared.event.CellName.{CellName}
 use Rattle.arc_model.specs.declared.event.CellName.TheVariants as cells
 use Rattle.arc_model.specs.declared.shape.Kind.{Kind}
-use Rattle.arc_model.specs.declared.shape.Kind.TheVariants.{Unowned}
 use Rattle.arc_model.specs.Shapes.{HeapShape, class_at}
-use Rattle.arc_model.specs.Spelling.{field_count}
+use Rattle.arc_model.specs.Ranges.{FieldsFit}
 use Rattle.arc_rule.specs.Extents.{Extent}
-use Rattle.arc_rule.specs.Isa.{isa_name_of}
-use Rattle.arc_rule.specs.Places.{number, extent_of}
-use Rattle.arc_rule.specs.declared.layout.Place.TheVariants.{Isa, Next as NextPlace}
-use Rattle.arc_rule.specs.declared.plan.Next.{Next}
-use Rattle.arc_rule.specs.declared.plan.Next.TheVariants as nexts
 use Rattle.arc_rule.specs.declared.step.Step.{Step}
-use Rattle.arc_rule.specs.declared.step.Step.TheVariants as steps
 use Rattle.arc_plan.specs.declared.slots.Making.{Making as Search}
 use Rattle.arc_plan.specs.declared.slots.Making.TheVariants as search
-use Rattle.arc_plan.specs.declared.slots.Once.TheVariants as onces
-use Rattle.arc_plan.specs.declared.unowned.UnownedDownAnswer.TheVariants as unowneds
 use Rattle.arc_side.specs.declared.up.UpAnswer.{UpAnswer}
 use Rattle.arc_side.specs.Ups.{Rise}
-use Rattle.arc_side.specs.Downs.{Fall, inline_fall}
-use Rattle.arc_side.specs.Inline.{IsCountedInline}
 use Rattle.arc_cells.specs.declared.begin.BeginAnswer.TheVariants as begins
+use Rattle.arc_cells.specs.declared.swap.SwapAnswer.{SwapAnswer}
 use Rattle.arc_cells.specs.Begins.{Beginning}
 use Rattle.arc_cells.specs.Ends.{AccessEnd}
 use Rattle.arc_cells.specs.Swaps.{SwapAttempt}
 use Rattle.arc_plan.specs.Slots.{Creation, OneStep}
-use Rattle.arc_side.specs.declared.slot_end.At.TheVariants as slot_end
-use Rattle.arc_side.specs.SlotEnds.{SlotEnding}
-use Rattle.arc_cells.specs.declared.parent.Parent.{Parent}
-use Rattle.arc_cells.specs.declared.cascade.At.{At as CascadeAt}
-use Rattle.arc_cells.specs.declared.cascade.At.TheVariants as at
-use Rattle.arc_cells.specs.Cascades.{CascadeState, HasNoFields}
 use Rattle.arc_script.specs.declared.script.ThreadDecl.{ThreadDecl}
 use Rattle.arc_script.specs.declared.script.Op.{Op}
 use Rattle.arc_script.specs.declared.script.Op.TheVariants as op
-use Rattle.arc_script.specs.declared.script.OpCell.TheVariants as opcell
 use Rattle.arc_script.specs.Valid.{begins_block}
 use Rattle.arc_script.specs.OneList.{in_one_list, numbered}
 use Rattle.arc_ops.specs.declared.stepper.Held.{Held}
@@ -54,59 +36,22 @@ use Rattle.arc_ops.specs.declared.gain.Gain.{Gain}
 use Rattle.arc_ops.specs.declared.gain.Gain.TheVariants as gains
 use Rattle.arc_ops.specs.Plans.{op_of, of_hand, list_of}
 use Rattle.arc_served.specs.Programs.{GoesForth, KindsFit, CellFits, ops_in_first, kinds_in, kind_of, classes_in}
-use Rattle.arc_served.specs.Served.{IsServedOp, IsServedRef}
 use Rattle.arc_ops.specs.Thread.{Thread, value}
 use Rattle.arc_ops.specs.Steppers.{IsHeld, HeldFits, IsOpeningIn, IsSwappingIn}
 use Rattle.arc_spelled.specs.StepperStands.{AreOfKinds}
-use Rattle.arc_schedule.specs.Made.{Point, Made, made_at}
-use Rattle.arc_schedule.specs.Plans.{Plan, Rises, Reaches, Starts, Gives, new_object, up, down, name_of, finish, vacate, begin_access, end_access, swap}
-use Rattle.arc_schedule.specs.Plans.Reaches.{starts as reaches_start, makes as reaches_next}
-use Rattle.arc_schedule.specs.Plans.Starts.{again}
-use Rattle.arc_schedule.specs.Operations.{State, Holding, Variables, reference_to, next_name, copy_acts, unown_acts, load_acts, get_acts, global_kind, word_of, hand_of, loads, stores, FieldsDone, IsCascade, SlotEnds, Drops}
+use Rattle.arc_schedule.specs.Made.{Point, Made}
+use Rattle.arc_schedule.specs.Plans.{Plan, Rises, Gives, new_object, up, name_of, begin_access, end_access, swap}
+use Rattle.arc_schedule.specs.Operations.{State, Variables, next_name, copy_acts, unown_acts, load_acts, get_acts, IsCell, word_of, hand_of, Drops}
 use Rattle.arc_schedule.specs.Operations as operations
 use Rattle.arc_schedule.specs.Threads.{point_of, end_point, OpsDone, PhasesDone, ScopeEnds, GlobalsCleared}
 use Rattle.arc_schedule.proofs.Newest.{IsHere, Newest, Passed}
-
--- ---- a plan that was given a word
-
--- the plan asks for this step, or gives this answer, and is p then
-pub record Gave {P A : Type 0} (plan : Plan P A) (point : Point) (b now : List Made) (n : Next A) (p : P) : Type 0 where
-  pub started : List Made
-  pub starts : Starts plan point b started
-  pub before : P
-  pub last : Option ℕ
-  pub reaches : Reaches plan point started before last now
-  pub answers : plan.answer before last ≡ n
-  pub turned : plan.turned before last ≡ p
-
--- it waits for the word of the step that was asked for
-pub record Waits {P A : Type 0} (plan : Plan P A) (point : Point) (b now : List Made) (p : P) (asked : Option Step) : Type 0 where
-  pub step : Step
-  pub gave : Gave plan point b now (nexts.Step step) p
-  pub asked_is : asked ≡ Some step
-
-pub waits : {P A : Type 0} (plan : Plan P A) (point : Point) (b now : List Made) (p : P) (step : Step) → Gave plan point b now (nexts.Step step) p → Waits plan point b now p (Some step)
-waits plan point b now p step g = record { step = step; gave = g; asked_is = refl }
-
-pub begun-from : {P A : Type 0} (plan : Plan P A) (point : Point) (b now : List Made) (p : P) → Starts plan point b now → plan.start ≡ p → Gave plan point b now (plan.answer p None) (plan.turned p None)
-begun-from plan point b now p s e =
-    let Q : _ → Type 0 = λ x. Gave plan point b now (plan.answer x None) (plan.turned x None) in
-    subst Q e (record { started = now; starts = s; before = plan.start; last = None; reaches = reaches_start; answers = refl; turned = refl })
-
-pub given : {P A : Type 0} (plan : Plan P A) (point : Point) (b now : List Made) (p : P) (s : Step) (found : ℕ) → Waits plan point b now p (Some s) →
-    Gave plan point b (made_at point s found (plan.tells p found) ∷ now) (plan.answer p (Some found)) (plan.turned p (Some found))
-given {P = P} plan point b now p s found w =
-    let same : s ≡ w.step = same_Some s w.step w.asked_is in
-    let r : Reaches plan point w.gave.started (plan.turned w.gave.before w.gave.last) (Some found) (made_at point w.step found (plan.tells (plan.turned w.gave.before w.gave.last) found) ∷ now) = reaches_next w.gave.reaches w.gave.answers in
-    let Q : P → Type 0 = λ (x : P). Reaches plan point w.gave.started x (Some found) (made_at point w.step found (plan.tells x found) ∷ now) in
-    let R : Step → Type 0 = λ (x : Step). Reaches plan point w.gave.started p (Some found) (made_at point x found (plan.tells p found) ∷ now) in
-    record { started = w.gave.started; starts = w.gave.starts; before = p; last = Some found; reaches = subst R (sym same) (subst Q w.gave.turned r); answers = refl; turned = refl }
-
-pub gives : {P A : Type 0} (plan : Plan P A) (point : Point) (b now : List Made) (p : P) (a : A) → plan.anew a ≡ false → Gave plan point b now (nexts.Done a) p → Gives plan point b a now
-gives plan point b now p a e g = record { started = g.started; starts = g.starts; answers = record { at = g.before; last = g.last; reaches = g.reaches; answers = g.answers }; ends = e }
-
-pub starts-again : {P A : Type 0} (plan : Plan P A) (point : Point) (b now : List Made) (p : P) (a : A) → plan.anew a ≡ true → Gave plan point b now (nexts.Done a) p → Starts plan point b now
-starts-again plan point b now p a e g = again g.starts (record { at = g.before; last = g.last; reaches = g.reaches; answers = g.answers }) e
+use Rattle.arc_cells.specs.Chains.{Frame}
+use Rattle.arc_rule.specs.Places.{IsPlace, extent_of}
+use Rattle.arc_script.specs.declared.script.OpCell.{OpCell}
+use Rattle.arc_served.specs.Served.{IsServedOp, IsServedRef, IsServedClass}
+use Rattle.arc_ops.specs.Cells.{place_in}
+use Rattle.arc_schedule.proofs.Given.{Waits}
+use Rattle.arc_schedule.proofs.Deinits.{ref, IsDropping, IsEnding, IsDying}
 
 -- ---- a thread in one of its phases
 
@@ -133,23 +78,20 @@ kinds_here k = kinds_in (Some k.decl)
 abbrev pub classes_here : Task → List ℕ
 classes_here k = classes_in (Some k.decl)
 
--- the operations of a phase are served, on variables of their kinds and cells that are there, and its blocks go forth within it; no class has
--- a field
+-- the operations of a phase are served, on variables of their kinds and cells that are there, and its blocks go forth within it; and so are globals
+-- and classes, of a few fields each
 pub record AreServed (shape : HeapShape) (classes : List ℕ) (kinds : List Kind) (ops : List Op) : Type 0 where
   pub served : All IsServedOp ops
   pub kinds_fit : (i : ℕ) (o : Op) → slice_get ops i ≡ Some o → KindsFit shape classes kinds o
   pub cells_fit : (i : ℕ) (o : Op) → slice_get ops i ≡ Some o → CellFits shape classes o
   pub globals : All IsServedRef shape.globals
-  pub without_fields : HasNoFields shape
+  pub classes_served : All IsServedClass shape.classes
+  pub few_fields : FieldsFit shape.classes
   pub forth : (i : ℕ) (o : Op) → slice_get ops i ≡ Some o → GoesForth i (length ops) o
 
 -- how many operations stand before it
 abbrev pub start_of : (k : Task) → Job k → ℕ
 start_of k j = ops_in_first j.phase k.decl.phases
-
-abbrev pub ref : Option Held → Option Holding
-ref None = None
-ref (Some h) = reference_to h.hand h.kind h.place
 
 abbrev pub refs : List (Option Held) → Variables
 refs vars = map ref vars
@@ -158,13 +100,13 @@ abbrev pub state_of : List (Option Held) → (made hands : ℕ) → State
 state_of vars made hands = record { vars = refs vars; made = made; hands = hands }
 
 abbrev pub AreDone : (k : Task) → Job k → ℕ → State → List Made → Type 0
-AreDone k j i s now = OpsDone k.shape k.thread j.phase j.ops j.first j.base i s now
+AreDone k j i s now = OpsDone k.shape (classes_here k) k.thread j.phase j.ops j.first j.base i s now
 
 abbrev pub here : (k : Task) → Job k → ℕ → Point
 here k j i = point_of k.thread j.phase (cond (ltb i (length j.ops)) (numbered (take (i + 1) j.ops)) 0)
 
 -- all operations are done, and the first variables are dropped
-pub record IsInScope (k : Task) (j : Job k) (vars : List (Option Held)) (now : List Made) : Type 0 where
+pub record IsInScope (k : Task) (j : Job k) (vars : List (Option Held)) (hands : ℕ) (now : List Made) : Type 0 where
   pub last : j.phase + 1 ≡ length k.decl.phases
   pub behind : State
   pub worked : List Made
@@ -172,13 +114,13 @@ pub record IsInScope (k : Task) (j : Job k) (vars : List (Option Held)) (now : L
   pub count : length behind.vars ≡ length vars
   pub below : ℕ
   pub within : below ≤ length vars
-  pub ends : ScopeEnds k.shape (point_of k.thread j.phase 0) behind.vars worked below now
+  pub ends : ScopeEnds k.shape (point_of k.thread j.phase 0) behind.vars behind.hands worked below hands now
   pub rest : (v : ℕ) → below ≤ v → operations.value behind.vars v ≡ ref (value vars v)
   pub nils : (v : ℕ) → v < below → value vars v ≡ None
 
 abbrev pub IsOverIf : Bool → (k : Task) → Job k → ℕ → List (Option Held) → (made hands : ℕ) → List Made → Type 0
 IsOverIf true k j i vars made hands now = AreDone k j (i + 1) (state_of vars made hands) now
-IsOverIf false k j i vars made hands now = IsInScope k j vars now
+IsOverIf false k j i vars made hands now = IsInScope k j vars hands now
 
 abbrev pub IsOver : (k : Task) → Job k → ℕ → List (Option Held) → (made hands : ℕ) → List Made → Type 0
 IsOver k j i vars made hands now = IsOverIf (ltb i (length j.ops)) k j i vars made hands now
@@ -221,29 +163,26 @@ pub record IsGaining (k : Task) (j : Job k) (i : ℕ) (gain : Gain) (to : ℕ) (
   pub inside : IsHeld k.shape.slots held
   pub bare : plan.entry ≡ None
 
--- the plan of a copy of the reference in a global
-abbrev pub get_plan : Task → (global place hands : ℕ) → Plan Rise UpAnswer
-get_plan k g place hands = up (extent_of k.shape) k.shape.caps (global_kind k.shape g) place (get_acts g (hands + 1))
+-- the plan of a copy of the reference in a cell
+abbrev pub get_plan : Task → CellName → Kind → (place hands : ℕ) → Plan Rise UpAnswer
+get_plan k cell kind place hands = up (extent_of k.shape) k.shape.caps kind place (get_acts cell (hands + 1))
 
--- the cell is a global of the heap
-pub record IsGlobalOf (shape : HeapShape) (cell : CellName) (kind : Kind) : Type 0 where
-  pub global : ℕ
-  pub there : global < length shape.globals
-  pub name_is : cell ≡ cells.Global global
-  pub kind_is : kind ≡ global_kind shape global
+-- the cell that an operation of the task names
+abbrev pub IsCellOf : Task → List (Option Held) → OpCell → CellName → Kind → Type 0
+IsCellOf k vars c cell kind = IsCell k.shape (classes_here k) (refs vars) c cell kind
 
--- a copy of a global's reference during an access
+-- a copy of a cell's reference during an access
 pub record IsGetting (k : Task) (j : Job k) (i : ℕ) (gain : Gain) (to : ℕ) (cell : CellName) (kind : Kind) (place : ℕ) (plan : Rise) (vars : List (Option Held)) (made hands : ℕ) (asked : Option Step) (now : List Made) : Type 0 where
   pub is_copy : gain ≡ gains.Copy
-  pub of : IsGlobalOf k.shape cell kind
+  pub of : OpCell
+  pub cell_is : IsCellOf k vars of cell kind
   pub base : List Made
   pub begun : List Made
   pub done : AreDone k j i (state_of vars made hands) base
-  pub there : slice_get j.ops i ≡ Some (op.Get to (opcell.Global of.global))
-  pub began : Gives (begin_access (extent_of k.shape) of.global) (here k j i) base (begins.Held (place + 2)) begun
-  pub waits : Waits (get_plan k of.global place hands) (here k j i) begun now plan asked
+  pub there : slice_get j.ops i ≡ Some (op.Get to of)
+  pub began : Gives (begin_access (extent_of k.shape) cell) (here k j i) base (begins.Held (place + 2)) begun
+  pub waits : Waits (get_plan k cell kind place hands) (here k j i) begun now plan asked
   pub place_in : place < k.shape.slots
-  pub counted : IsCountedInline (global_kind k.shape of.global)
   pub bare : plan.entry ≡ None
   pub newest : IsHere (here k j i) now
 
@@ -251,113 +190,50 @@ abbrev pub IsGainingFrom : (k : Task) → Job k → ℕ → Gain → ℕ → Ori
 IsGainingFrom k j i gain to (origins.Hand hand) kind place plan vars made hands asked now = IsGaining k j i gain to (record { hand = hand; kind = kind; place = place }) plan vars made hands asked now
 IsGainingFrom k j i gain to (origins.Cell cell) kind place plan vars made hands asked now = IsGetting k j i gain to cell kind place plan vars made hands asked now
 
--- an access to a global is to begin
+-- an access to a cell is to begin
 pub record IsOpening (k : Task) (j : Job k) (i to : ℕ) (cell : Cell) (plan : Beginning) (vars : List (Option Held)) (made hands : ℕ) (asked : Option Step) (now : List Made) : Type 0 where
-  pub of : IsGlobalOf k.shape cell.name cell.kind
+  pub of : OpCell
+  pub cell_is : IsCellOf k vars of cell.name cell.kind
   pub base : List Made
   pub done : AreDone k j i (state_of vars made hands) base
-  pub there : slice_get j.ops i ≡ Some (op.Get to (opcell.Global of.global))
-  pub waits : Waits (begin_access (extent_of k.shape) of.global) (here k j i) base now plan asked
+  pub there : slice_get j.ops i ≡ Some (op.Get to of)
+  pub waits : Waits (begin_access (extent_of k.shape) cell.name) (here k j i) base now plan asked
   pub word : IsOpeningIn k.shape.slots plan.at
 
 -- the access ends, and then what the variable held is dropped
 pub record IsClosing (k : Task) (j : Job k) (i to : ℕ) (cell : CellName) (held : Held) (plan : AccessEnd) (vars : List (Option Held)) (made hands : ℕ) (asked : Option Step) (now : List Made) : Type 0 where
-  pub of : IsGlobalOf k.shape cell held.kind
+  pub there : IsPlace (extent_of k.shape) (place_in cell)
   pub base : List Made
-  pub ends : (ended after : List Made) → Gives (end_access (extent_of k.shape) of.global (held.place + 2)) (here k j i) base tt ended → Drops k.shape (here k j i) (operations.value (refs vars) to) ended after →
-      AreDone k j (i + 1) (state_of (set vars to (Some held)) made hands) after
-  pub waits : Waits (end_access (extent_of k.shape) of.global (held.place + 2)) (here k j i) base now plan asked
+  pub ends : (came : ℕ) (ended after : List Made) → Gives (end_access (extent_of k.shape) cell (held.place + 2)) (here k j i) base tt ended →
+      Drops k.shape (here k j i) [] (operations.value (refs vars) to) hands ended came after → AreDone k j (i + 1) (state_of (set vars to (Some held)) made came) after
+  pub waits : Waits (end_access (extent_of k.shape) cell (held.place + 2)) (here k j i) base now plan asked
   pub inside : IsHeld k.shape.slots held
   pub kind : held.kind ≡ kind_of (kinds_here k) to
   pub within : i < length j.ops
   pub newest : IsHere (here k j i) now
 
--- a variable's reference, or nil, is to come into a global
+-- the plan of a variable's reference, or nil, that comes into a cell
+abbrev pub set_plan : Task → CellName → Option Held → (hands : ℕ) → Plan SwapAttempt SwapAnswer
+set_plan k cell put hands = swap (extent_of k.shape) cell (word_of (ref put)) (hand_of (ref put)) (hands + 1)
+
 pub record IsSetting (k : Task) (j : Job k) (i from : ℕ) (cell : Cell) (plan : SwapAttempt) (vars : List (Option Held)) (made hands : ℕ) (asked : Option Step) (now : List Made) : Type 0 where
-  pub of : IsGlobalOf k.shape cell.name cell.kind
+  pub of : OpCell
+  pub cell_is : IsCellOf k vars of cell.name cell.kind
   pub base : List Made
   pub done : AreDone k j i (state_of vars made hands) base
-  pub there : slice_get j.ops i ≡ Some (op.Set (opcell.Global of.global) from)
-  pub waits : Waits (swap (extent_of k.shape) of.global (word_of (ref (value vars from))) (hand_of (ref (value vars from))) (hands + 1)) (here k j i) base now plan asked
+  pub there : slice_get j.ops i ≡ Some (op.Set of from)
+  pub waits : Waits (set_plan k cell.name (value vars from) hands) (here k j i) base now plan asked
   pub word : IsSwappingIn k.shape.slots plan.at
 
 -- the name of the object is read, and then what the variable held is dropped
 pub record IsNaming (k : Task) (j : Job k) (i to : ℕ) (held : Held) (plan : OneStep) (vars : List (Option Held)) (made hands : ℕ) (asked : Option Step) (now : List Made) : Type 0 where
   pub base : List Made
-  pub ends : (name : ObjectName) (named after : List Made) → Gives (name_of (extent_of k.shape) held.place) (here k j i) base name named → Drops k.shape (here k j i) (operations.value (refs vars) to) named after →
-      AreDone k j (i + 1) (state_of (set vars to (Some held)) made hands) after
+  pub ends : (name : ObjectName) (came : ℕ) (named after : List Made) → Gives (name_of (extent_of k.shape) held.place) (here k j i) base name named →
+      Drops k.shape (here k j i) [] (operations.value (refs vars) to) hands named came after → AreDone k j (i + 1) (state_of (set vars to (Some held)) made came) after
   pub waits : Waits (name_of (extent_of k.shape) held.place) (here k j i) base now plan asked
   pub inside : IsHeld k.shape.slots held
   pub kind : held.kind ≡ kind_of (kinds_here k) to
   pub within : i < length j.ops
-
--- ---- what is done last: a reference is dropped, and then this holds
-
-pub record IsDropping (shape : HeapShape) (point : Point) (Over : List Made → Type 0) (held : Held) (plan : Fall) (asked : Option Step) (now : List Made) : Type 0 where
-  pub base : List Made
-  pub ends : (after : List Made) → Drops shape point (ref (Some held)) base after → Over after
-  pub waits : Waits (down (extent_of shape) held.kind held.place held.hand) point base now plan asked
-  pub inside : IsHeld shape.slots held
-  pub bare : plan.entry ≡ None
-
--- the slot of an object ends whose last unowned reference went
-pub record IsEnding (shape : HeapShape) (point : Point) (Over : List Made → Type 0) (slot : ℕ) (plan : OneStep) (asked : Option Step) (now : List Made) : Type 0 where
-  pub base : List Made
-  pub ends : (after : List Made) → SlotEnds shape point slot None base after → Over after
-  pub waits : Waits (vacate (extent_of shape) slot) point base now plan asked
-
--- ---- a deinit
-
-pub record AllDone (shape : HeapShape) (point : Point) (slot : ℕ) (base now : List Made) : Type 0 where
-  pub isa : ℕ
-  pub done : FieldsDone shape point slot isa base (field_count shape (isa_name_of isa)) now
-
-pub record IsEntered (shape : HeapShape) (point : Point) (slot : ℕ) (base now : List Made) : Type 0 where
-  pub stored : ℕ
-  pub now_is : now ≡ stores shape point (NextPlace slot) 0 stored ∷ base
-
--- no deinit waits for it, and its object has no entry, so the count lies in the inline word
-pub record IsFinishing (shape : HeapShape) (point : Point) (slot : ℕ) (base now : List Made) (parent : Option Parent) (p : Fall) (asked : Option Step) : Type 0 where
-  pub alone : parent ≡ None
-  pub plan : p ≡ record { layout = extent_of shape; slot = slot; list = Unowned; entry = None; at = p.at }
-  pub left : List Made
-  pub all : AllDone shape point slot base left
-  pub waits : Waits (finish (extent_of shape) slot) point (loads shape point (NextPlace slot) 0 ∷ left) now (inline_fall p) asked
-
-pub record IsVacating (shape : HeapShape) (point : Point) (slot : ℕ) (base now : List Made) (parent : Option Parent) (p : SlotEnding) (asked : Option Step) : Type 0 where
-  pub alone : parent ≡ None
-  pub plan : p ≡ record { layout = extent_of shape; slot = slot; entry = None; at = slot_end.Vacating; event = p.event }
-  pub left : List Made
-  pub all : AllDone shape point slot base left
-  pub mid : List Made
-  pub finished : Gives (finish (extent_of shape) slot) point (loads shape point (NextPlace slot) 0 ∷ left) unowneds.Last mid
-  pub waits : Waits (vacate (extent_of shape) slot) point mid now (record { layout = extent_of shape; slot = slot; at = onces.Asked }) asked
-
--- where the deinit of an object without fields may be
-abbrev pub CascadeUpTo : HeapShape → Point → ℕ → (base now : List Made) → Option Step → CascadeAt → Type 0
-CascadeUpTo shape point slot base now asked at.Entering = (now ≡ base) × (asked ≡ Some (steps.Store (number (extent_of shape) (NextPlace slot)) 0))
-CascadeUpTo shape point slot base now asked at.Naming = IsEntered shape point slot base now × (asked ≡ Some (steps.Load (number (extent_of shape) (Isa slot))))
-CascadeUpTo shape point slot base now asked at.Leaving = AllDone shape point slot base now × (asked ≡ Some (steps.Load (number (extent_of shape) (NextPlace slot))))
-CascadeUpTo shape point slot base now asked (at.Finishing parent p) = IsFinishing shape point slot base now parent p asked
-CascadeUpTo shape point slot base now asked (at.Ending parent p) = IsVacating shape point slot base now parent p asked
-CascadeUpTo shape point slot base now asked _ = ⊥
-
-pub record IsDying (shape : HeapShape) (point : Point) (Over : List Made → Type 0) (c : CascadeState) (asked : Option Step) (now : List Made) : Type 0 where
-  pub base : List Made
-  pub layout : c.layout ≡ extent_of shape
-  pub shape_is : c.shape ≡ shape
-  pub ends : (after : List Made) → IsCascade shape point c.slot base after → Over after
-  pub place : CascadeUpTo shape point c.slot base now asked c.at
-  pub within : c.slot < shape.slots
-
--- no deinit waits for another, and the count of the object that dies lies in its inline word
-abbrev pub IsLoneAt : CascadeAt → Type 0
-IsLoneAt (at.Finishing parent p) = (parent ≡ None) × (p.entry ≡ None)
-IsLoneAt _ = ⊤
-
-abbrev pub IsLone : Doing → Type 0
-IsLone (Dying c) = IsLoneAt c.at
-IsLone _ = ⊤
 
 -- ---- the stepper
 
@@ -367,39 +243,41 @@ pub record IsWhole (k : Task) (now : List Made) : Type 0 where
   pub behind : State
   pub worked : List Made
   pub ops : AreDone k job (length job.ops) behind worked
-  pub scope : ScopeEnds k.shape (point_of k.thread job.phase 0) behind.vars worked (length behind.vars) now
+  pub came : ℕ
+  pub scope : ScopeEnds k.shape (point_of k.thread job.phase 0) behind.vars behind.hands worked (length behind.vars) came now
 
 abbrev pub step_in : Move → Option Step
 step_in (moves.Step step intent) = Some step
 step_in _ = None
 
-abbrev pub UpTo : (k : Task) → Job k → ℕ → List (Option Held) → (made hands : ℕ) → Move → List Made → Doing → Type 0
-UpTo k j i vars made hands asked now Ready = (asked ≡ moves.PhaseEnd) × AreDone k j i (state_of vars made hands) now
-UpTo k j i vars made hands asked now (Making to name plan) = IsMaking k j i to name plan vars made hands (step_in asked) now
-UpTo k j i vars made hands asked now (Gaining gain to from plan) = IsGainingFrom k j i gain to from.origin from.kind from.place plan vars made hands (step_in asked) now
-UpTo k j i vars made hands asked now (Naming to held plan) = IsNaming k j i to held plan vars made hands (step_in asked) now
-UpTo k j i vars made hands asked now (Opening to cell plan) = IsOpening k j i to cell plan vars made hands (step_in asked) now
-UpTo k j i vars made hands asked now (Closing to cell held plan) = IsClosing k j i to cell held plan vars made hands (step_in asked) now
-UpTo k j i vars made hands asked now (Setting from cell plan) = IsSetting k j i from cell plan vars made hands (step_in asked) now
-UpTo k j i vars made hands asked now (Clearing plan) = ⊥
-UpTo k j i vars made hands asked now (Dropping held plan) = IsDropping k.shape (here k j i) (IsOver k j i vars made hands) held plan (step_in asked) now
-UpTo k j i vars made hands asked now (Dying c) = IsDying k.shape (here k j i) (IsOver k j i vars made hands) c (step_in asked) now
-UpTo k j i vars made hands asked now (Vacating slot plan) = IsEnding k.shape (here k j i) (IsOver k j i vars made hands) slot plan (step_in asked) now
-UpTo k j i vars made hands asked now Ended = (asked ≡ moves.Ended) × IsWhole k now
+abbrev pub UpTo : (k : Task) → List Frame → Job k → ℕ → List (Option Held) → (made hands : ℕ) → Move → List Made → Doing → Type 0
+UpTo k chain j i vars made hands asked now Ready = (asked ≡ moves.PhaseEnd) × AreDone k j i (state_of vars made hands) now
+UpTo k chain j i vars made hands asked now (Making to name plan) = IsMaking k j i to name plan vars made hands (step_in asked) now
+UpTo k chain j i vars made hands asked now (Gaining gain to from plan) = IsGainingFrom k j i gain to from.origin from.kind from.place plan vars made hands (step_in asked) now
+UpTo k chain j i vars made hands asked now (Naming to held plan) = IsNaming k j i to held plan vars made hands (step_in asked) now
+UpTo k chain j i vars made hands asked now (Opening to cell plan) = IsOpening k j i to cell plan vars made hands (step_in asked) now
+UpTo k chain j i vars made hands asked now (Closing to cell held plan) = IsClosing k j i to cell held plan vars made hands (step_in asked) now
+UpTo k chain j i vars made hands asked now (Setting from cell plan) = IsSetting k j i from cell plan vars made hands (step_in asked) now
+UpTo k chain j i vars made hands asked now (Clearing plan) = ⊥
+UpTo k chain j i vars made hands asked now (Dropping held plan) = IsDropping k.shape (here k j i) (IsOver k j i vars made) held plan hands (step_in asked) now
+UpTo k chain j i vars made hands asked now (Dying c) = IsDying k.shape (here k j i) (IsOver k j i vars made) chain c hands (step_in asked) now
+UpTo k chain j i vars made hands asked now (Vacating slot plan) = IsEnding k.shape (here k j i) (IsOver k j i vars made) slot plan hands (step_in asked) now
+UpTo k chain j i vars made hands asked now Ended = (asked ≡ moves.Ended) × IsWhole k now
 
 -- the stepper is the thread's, at operation i of the phase, which is the last of so many that have begun
-pub record Works (k : Task) (j : Job k) (i n : ℕ) (layout : Extent) (shape : HeapShape) (thread : ℕ) (phases : List (List Op)) (program : List Op) (phase index : ℕ) : Type 0 where
+pub record Works (k : Task) (j : Job k) (i n : ℕ) (layout : Extent) (shape : HeapShape) (thread : ℕ) (phases : List (List Op)) (program : List Op) (classes : List ℕ) (phase index : ℕ) : Type 0 where
   pub layout_is : layout ≡ extent_of k.shape
   pub shape_is : shape ≡ k.shape
   pub thread_is : thread ≡ k.thread
   pub phases_is : phases ≡ k.decl.phases
   pub program_is : program ≡ in_one_list 0 k.decl.phases
+  pub classes_are : classes ≡ classes_here k
   pub phase_is : phase ≡ j.phase
   pub index_is : index ≡ start_of k j + i
   pub begun_is : j.phase + 1 ≡ n
 
 abbrev pub WorksAt : (k : Task) → Job k → (i n : ℕ) → Thread → Type 0
-WorksAt k j i n t = Works k j i n t.layout t.shape t.thread t.phases t.program t.phase t.index
+WorksAt k j i n t = Works k j i n t.layout t.shape t.thread t.phases t.program t.classes t.phase t.index
 
 -- the operation that is under way has a number, and the scope ends in the last phase
 pub record IsAt (k : Task) (j : Job k) (i : ℕ) : Type 0 where
@@ -423,8 +301,8 @@ IsPlaced k j i first now Ready = Passed j.phase j.ops i now
 IsPlaced k j i first now Ended = ⊤
 IsPlaced k j i first now _ = IsAt k j i × Newest (here k j i) first now
 
--- where so many phases have begun
-pub record Stands (k : Task) (begun : ℕ) (t : Thread) (now : List Made) : Type 0 where
+-- where so many phases have begun, under a chain of deinits that wait where an object dies
+pub record Stands (k : Task) (begun : ℕ) (chain : List Frame) (t : Thread) (now : List Made) : Type 0 where
   pub job : Job k
   pub at : ℕ
   pub phases : ℕ
@@ -432,7 +310,7 @@ pub record Stands (k : Task) (begun : ℕ) (t : Thread) (now : List Made) : Type
   pub works : WorksAt k job at phases t
   pub vars_in : AreIn k t.vars
   pub placed : IsPlaced k job at t.first now t.doing
-  pub up_to : UpTo k job at t.vars t.made t.hands t.asked now t.doing
+  pub up_to : UpTo k chain job at t.vars t.made t.hands t.asked now t.doing
 
 -- ---- thread 0
 
@@ -440,24 +318,24 @@ pub record IsClearing (shape : HeapShape) (cleared hands : ℕ) (plan : SwapAtte
   pub base : List Made
   pub so_far : GlobalsCleared shape cleared hands base
   pub there : cleared < length shape.globals
-  pub waits : Waits (swap (extent_of shape) cleared 0 None (hands + 1)) end_point base now plan asked
+  pub waits : Waits (swap (extent_of shape) (cells.Global cleared) 0 None (hands + 1)) end_point base now plan asked
   pub word : IsSwappingIn shape.slots plan.at
 
-abbrev pub FirstUpTo : HeapShape → (cleared hands : ℕ) → Move → List Made → Doing → Type 0
-FirstUpTo shape cleared hands asked now Ready = (asked ≡ moves.PhaseEnd) × (now ≡ []) × GlobalsCleared shape cleared hands now
-FirstUpTo shape cleared hands asked now (Clearing plan) = IsClearing shape cleared hands plan (step_in asked) now
-FirstUpTo shape cleared hands asked now (Dropping held plan) = IsDropping shape end_point (GlobalsCleared shape cleared hands) held plan (step_in asked) now
-FirstUpTo shape cleared hands asked now (Dying c) = IsDying shape end_point (GlobalsCleared shape cleared hands) c (step_in asked) now
-FirstUpTo shape cleared hands asked now (Vacating slot plan) = IsEnding shape end_point (GlobalsCleared shape cleared hands) slot plan (step_in asked) now
-FirstUpTo shape cleared hands asked now Ended = (asked ≡ moves.Ended) × (length shape.globals ≤ cleared) × GlobalsCleared shape cleared hands now
-FirstUpTo shape cleared hands asked now _ = ⊥
+abbrev pub FirstUpTo : HeapShape → List Frame → (cleared hands : ℕ) → Move → List Made → Doing → Type 0
+FirstUpTo shape chain cleared hands asked now Ready = (asked ≡ moves.PhaseEnd) × (now ≡ []) × GlobalsCleared shape cleared hands now
+FirstUpTo shape chain cleared hands asked now (Clearing plan) = IsClearing shape cleared hands plan (step_in asked) now
+FirstUpTo shape chain cleared hands asked now (Dropping held plan) = IsDropping shape end_point (GlobalsCleared shape cleared) held plan hands (step_in asked) now
+FirstUpTo shape chain cleared hands asked now (Dying c) = IsDying shape end_point (GlobalsCleared shape cleared) chain c hands (step_in asked) now
+FirstUpTo shape chain cleared hands asked now (Vacating slot plan) = IsEnding shape end_point (GlobalsCleared shape cleared) slot plan hands (step_in asked) now
+FirstUpTo shape chain cleared hands asked now Ended = (asked ≡ moves.Ended) × (length shape.globals ≤ cleared) × GlobalsCleared shape cleared hands now
+FirstUpTo shape chain cleared hands asked now _ = ⊥
 
 -- it has no phase and no variable
-pub record StandsFirst (shape : HeapShape) (t : Thread) (now : List Made) : Type 0 where
+pub record StandsFirst (shape : HeapShape) (chain : List Frame) (t : Thread) (now : List Made) : Type 0 where
   pub layout_is : t.layout ≡ extent_of shape
   pub shape_is : t.shape ≡ shape
   pub thread_is : t.thread ≡ 0
   pub phases_is : t.phases ≡ []
   pub program_is : t.program ≡ []
   pub vars_is : t.vars ≡ []
-  pub up_to : FirstUpTo shape t.cleared t.hands t.asked now t.doing
+  pub up_to : FirstUpTo shape chain t.cleared t.hands t.asked now t.doing

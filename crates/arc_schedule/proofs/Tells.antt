@@ -10,7 +10,6 @@ use Rattle.arc_model.specs.declared.event.Act.TheVariants as acts
 use Rattle.arc_model.specs.declared.event.Origin.TheVariants as origins
 use Rattle.arc_model.specs.declared.event.CellName.{CellName}
 use Rattle.arc_model.specs.declared.event.CellName.TheVariants as cells
-use Rattle.arc_rule.specs.Extents.{Extent}
 use Rattle.arc_rule.specs.declared.plan.Next.{Next}
 use Rattle.arc_rule.specs.declared.plan.Next.TheVariants as nexts
 use Rattle.arc_plan.specs.declared.slots.Making.{Making as Search}
@@ -22,13 +21,11 @@ use Rattle.arc_side.specs.declared.down.DownAnswer.{DownAnswer}
 use Rattle.arc_side.specs.declared.down.DownAnswer.TheVariants as downs
 use Rattle.arc_side.specs.Ups.{Rise}
 use Rattle.arc_side.specs.Downs.{Fall}
-use Rattle.arc_plan.specs.declared.unowned.UnownedDownAnswer.{UnownedDownAnswer}
-use Rattle.arc_plan.specs.declared.unowned.UnownedDownAnswer.TheVariants as unowneds
 use Rattle.arc_plan.specs.Slots.{Creation, OneStep, free_slot, looked, looked_answer, making_turned, making_answer, looking, counting}
 use Rattle.arc_rule.specs.Bits.{words_of, bit_of}
-use Rattle.arc_cells.specs.declared.cascade.At.TheVariants as at
-use Rattle.arc_cells.specs.Cascades.{CascadeState, CascadeTurn, finishes}
-use Rattle.arc_side.proofs.Parts.{as_unowned_down}
+use Rattle.arc_cells.specs.declared.cascade.CascadeNext.{CascadeNext}
+use Rattle.arc_cells.specs.declared.cascade.CascadeNext.TheVariants as says
+use Rattle.arc_cells.specs.Cascades.{CascadeState, cascade_turned, cascade_answer}
 use Rattle.arc_script.specs.declared.script.Op.{Op}
 use Rattle.arc_script.specs.declared.script.Op.TheVariants as op
 use Rattle.arc_script.specs.declared.script.OpCell.TheVariants as opcell
@@ -54,11 +51,12 @@ use Rattle.arc_ops.specs.Sets.{set_on, cleared_on}
 use Rattle.arc_ops.specs.Gains.{gained, came_by, gained_on, named_on}
 use Rattle.arc_ops.specs.Takes.{IsGainAnswer}
 use Rattle.arc_ops.specs.Begins.{skipped, moved, begun_nil, begun_gain, begun_move, begun_drop, begun_get, begun_set, phase_end, phase_over, block_goes_on, at_place, begun_op, begun_at, has_globals, scope_drop, scope_at, scope_begun, next_op}
-use Rattle.arc_ops.specs.Drops.{last_gone, dropped_on, dying_on, vacated_on, replaced_old, replaced}
+use Rattle.arc_ops.specs.Drops.{last_gone, dropped_on, dying_asks, dying_on, vacated_on, replaced_old, replaced}
 use Rattle.arc_ops.specs.Makes.{strong_to, made_on}
-use Rattle.arc_schedule.specs.Plans.{told_by, making_told, up_told, down_told, finish_told, vacate_told, begin_told, swap_told, hand_for}
+use Rattle.arc_schedule.specs.Plans.{told_by, making_told, up_told, down_told, vacate_told, begin_told, swap_told, hand_for}
 use Rattle.arc_schedule.specs.Operations.{get_acts, hand_of}
-use Rattle.arc_schedule.proofs.Stands.{ref, rises_of, MadeUpTo}
+use Rattle.arc_schedule.proofs.Deinits.{ref}
+use Rattle.arc_schedule.proofs.Stands.{rises_of, MadeUpTo}
 
 abbrev pub idle : Thread → Thread
 idle t = record t { doing = Ended; first = false; event = None }
@@ -136,7 +134,7 @@ begun-event at (o ∷ rest) t = go (λ u. begun-event (at + 1) rest u) (ltb at t
     go e true = e t
     go e false = op-event o t (λ (behind : Thread). begun_at (at + 1) rest behind) e
 
-pub next-event : (t : Thread) → (next_op t).event ≡ t.event
+next-event : (t : Thread) → (next_op t).event ≡ t.event
 next-event t =
     begun-event (cond (ltb t.index (length t.program)) (t.index + 1) t.index) (drop (cond (ltb t.index (length t.program)) (t.index + 1) t.index) (take (phase_end t) t.program)) (record t { doing = Ended; index = cond (ltb t.index (length t.program)) (t.index + 1) t.index })
 
@@ -193,21 +191,21 @@ gains-tells t gain to hand kind place next (nexts.Done (ups.Again c)) fits = ref
 abbrev pub in_cell : CellName → Kind → (place : ℕ) → Source
 in_cell cell kind place = record { origin = origins.Cell cell; kind = kind; place = place }
 
-pub gets-tells : (t : Thread) (to g : ℕ) (cell : CellName) (kind : Kind) (place : ℕ) (next : Rise) (n : Next UpAnswer) → cell ≡ cells.Global g → IsGainAnswer gains.Copy n →
-    (gained_on gains.Copy to (in_cell cell kind place) next n (idle t)).event ≡ told_by (up_told (get_acts g (t.hands + 1))) n
-gets-tells t to g cell kind place next (nexts.Step s) is fits = refl
-gets-tells t to g cell kind place next (nexts.Done ups.Up) is fits = ap (λ (c : CellName). Some (acts.Copy (origins.Cell c) (t.hands + 1))) is
-gets-tells t to g cell kind place next (nexts.Done ups.Dead) is fits = absurd fits
-gets-tells t to g cell kind place next (nexts.Done ups.AtCap) is fits = absurd fits
-gets-tells t to g cell kind place next (nexts.Done ups.CountFull) is fits = absurd fits
-gets-tells t to g cell kind place next (nexts.Done (ups.Again c)) is fits = refl
+pub gets-tells : (t : Thread) (to : ℕ) (cell : CellName) (kind : Kind) (place : ℕ) (next : Rise) (n : Next UpAnswer) → IsGainAnswer gains.Copy n →
+    (gained_on gains.Copy to (in_cell cell kind place) next n (idle t)).event ≡ told_by (up_told (get_acts cell (t.hands + 1))) n
+gets-tells t to cell kind place next (nexts.Step s) fits = refl
+gets-tells t to cell kind place next (nexts.Done ups.Up) fits = refl
+gets-tells t to cell kind place next (nexts.Done ups.Dead) fits = absurd fits
+gets-tells t to cell kind place next (nexts.Done ups.AtCap) fits = absurd fits
+gets-tells t to cell kind place next (nexts.Done ups.CountFull) fits = absurd fits
+gets-tells t to cell kind place next (nexts.Done (ups.Again c)) fits = refl
 
-pub opens-tells : (t : Thread) (to g : ℕ) (cell : Cell) (next : Beginning) (n : Next BeginAnswer) → cell.name ≡ cells.Global g → (opened_on to cell next n (idle t)).event ≡ told_by (begin_told g) n
-opens-tells t to g cell next (nexts.Step s) is = refl
-opens-tells t to g cell next (nexts.Done (begins.Held w)) is = refl
-opens-tells t to g cell next (nexts.Done begins.Nil) is = replaced-event to None (put answers.Nil (record (idle t) { event = Some (acts.Look cell.name) })) ∙ ap (λ (c : CellName). Some (acts.Look c)) is
-opens-tells t to g cell next (nexts.Done begins.Busy) is = refl
-opens-tells t to g cell next (nexts.Done (begins.Again c)) is = refl
+pub opens-tells : (t : Thread) (to : ℕ) (cell : Cell) (next : Beginning) (n : Next BeginAnswer) → (opened_on to cell next n (idle t)).event ≡ told_by (begin_told cell.name) n
+opens-tells t to cell next (nexts.Step s) = refl
+opens-tells t to cell next (nexts.Done (begins.Held w)) = refl
+opens-tells t to cell next (nexts.Done begins.Nil) = replaced-event to None (put answers.Nil (record (idle t) { event = Some (acts.Look cell.name) }))
+opens-tells t to cell next (nexts.Done begins.Busy) = refl
+opens-tells t to cell next (nexts.Done (begins.Again c)) = refl
 
 pub closes-tells : (t : Thread) (to : ℕ) (cell : CellName) (held : Held) (next : AccessEnd) (n : Next (Unit {0})) → (closed_on to cell held next n (idle t)).event ≡ None
 closes-tells t to cell held next (nexts.Step s) = refl
@@ -229,18 +227,17 @@ pub hand-is : (o : Option Held) → hand_in o ≡ hand_of (ref o)
 hand-is None = refl
 hand-is (Some h) = refl
 
-pub sets-tells : (t : Thread) (from g : ℕ) (cell : Cell) (next : SwapAttempt) (n : Next SwapAnswer) → cell.name ≡ cells.Global g →
-    (set_on from cell next n (idle t)).event ≡ told_by (swap_told g (hand_of (ref (value t.vars from))) (t.hands + 1)) n
-sets-tells t from g cell next (nexts.Step s) is = refl
-sets-tells t from g cell next (nexts.Done (swaps.Took w)) is =
+pub sets-tells : (t : Thread) (from : ℕ) (cell : Cell) (next : SwapAttempt) (n : Next SwapAnswer) →
+    (set_on from cell next n (idle t)).event ≡ told_by (swap_told cell.name (hand_of (ref (value t.vars from))) (t.hands + 1)) n
+sets-tells t from cell next (nexts.Step s) = refl
+sets-tells t from cell next (nexts.Done (swaps.Took w)) =
     old-event (held_in cell.kind (t.hands + 1) w) (put answers.Ok (set_var from None (swapped cell.name (hand_in (value t.vars from)) (held_in cell.kind (t.hands + 1) w) (idle t)))) ∙
     took-event cell.name (hand_in (value t.vars from)) cell.kind w (idle t) ∙
-    ap (λ (c : CellName). Some (acts.Swap c (hand_in (value t.vars from)) (hand_for (t.hands + 1) w))) is ∙
-    ap (λ (h : Option ℕ). Some (acts.Swap (cells.Global g) h (hand_for (t.hands + 1) w))) (hand-is (value t.vars from))
-sets-tells t from g cell next (nexts.Done swaps.Busy) is = refl
-sets-tells t from g cell next (nexts.Done (swaps.Again c)) is = refl
+    ap (λ (h : Option ℕ). Some (acts.Swap cell.name h (hand_for (t.hands + 1) w))) (hand-is (value t.vars from))
+sets-tells t from cell next (nexts.Done swaps.Busy) = refl
+sets-tells t from cell next (nexts.Done (swaps.Again c)) = refl
 
-pub clears-tells : (t : Thread) (next : SwapAttempt) (n : Next SwapAnswer) → (cleared_on next n (idle t)).event ≡ told_by (swap_told t.cleared None (t.hands + 1)) n
+pub clears-tells : (t : Thread) (next : SwapAttempt) (n : Next SwapAnswer) → (cleared_on next n (idle t)).event ≡ told_by (swap_told (cells.Global t.cleared) None (t.hands + 1)) n
 clears-tells t next (nexts.Step s) = refl
 clears-tells t next (nexts.Done (swaps.Took w)) =
     let kind : Kind = (next_global t).kind in
@@ -268,14 +265,13 @@ pub ends-tells : (t : Thread) (slot : ℕ) (next : OneStep) (n : Next (Unit {0})
 ends-tells t slot next (nexts.Step s) = refl
 ends-tells t slot next (nexts.Done a) = next-event (record (idle t) { event = Some (acts.Vacate slot) })
 
--- what the stepper is behind a turn of the cascade that takes nothing out of a field
-abbrev pub dies_by : CascadeTurn → Thread → Thread
-dies_by turn t = dying_on turn.after turn.says (record t { event = turn.after.event })
+-- the event of a turn of a deinit stays
+asks-event : (c : CascadeState) (n : CascadeNext) (t : Thread) → (dying_asks c n t).event ≡ t.event
+asks-event c (says.Step s intent) t = refl
+asks-event c (says.Died name) t = refl
+asks-event c says.Done t = refl
 
-pub finish-tells : (t : Thread) (c : CascadeState) (l : Extent) (next : Fall) (n : Next UnownedDownAnswer) →
-    (dies_by (finishes (record c { at = at.Ended; event = None }) None next (as_unowned_down l n)) (idle t)).event ≡ told_by (finish_told c.slot) n
-finish-tells t c l next (nexts.Step s) = refl
-finish-tells t c l next (nexts.Done unowneds.More) = next-event (record (idle t) { event = Some (acts.Finish c.slot false) })
-finish-tells t c l next (nexts.Done unowneds.Last) = refl
-finish-tells t c l next (nexts.Done (unowneds.Slow e)) = refl
-finish-tells t c l next (nexts.Done (unowneds.Again x)) = refl
+pub dying-tells : (c : CascadeState) (n : CascadeNext) (t : Thread) → (dying_on c n t).event ≡ t.event
+dying-tells c (says.Step s intent) t = refl
+dying-tells c (says.Died name) t = asks-event (cascade_turned c None) (cascade_answer c None) (put (answers.Deinit name) t)
+dying-tells c says.Done t = next-event t

@@ -1,5 +1,6 @@
 -- Two threads of one phase, in the order of their schedule; an operation whose event no step tells alone; blocks that are run and passed over;
--- a load of an unowned reference, to an object that lives and to one whose deinit has begun; and a get, a set and an end section.
+-- a load of an unowned reference, to an object that lives and to one whose deinit has begun; a get, a set and an end section; and a deinit that
+-- brings about another one.
 use Rattle.std.proofs.Common.{◌≡◌, ℕ, zero, suc, Bool, true, false, [], ◌∷◌, Some, None, refl, sym, subst, arith}
 use Rattle.arc_model.specs.declared.event.Act.TheVariants as acts
 use Rattle.arc_model.specs.declared.event.Origin.TheVariants as origins
@@ -19,12 +20,14 @@ use Rattle.arc_schedule.specs.Orders.InOrder.{makes, runs_out, ends}
 use Rattle.arc_schedule.specs.Plans.Reaches.{starts as reaches_start, makes as reaches_next}
 use Rattle.arc_schedule.specs.Plans.Starts.{first as starts_first, again as starts_again}
 use Rattle.arc_schedule.specs.Operations.Does.{makes as does_make, load_gives, load_finds_dead, gets as does_get, sets as does_set}
-use Rattle.arc_schedule.specs.Operations.Drops.{nothing as drops_nothing, more as drops_more}
+use Rattle.arc_schedule.specs.Operations.Drops.{nothing as drops_nothing, more as drops_more, last as drops_last}
+use Rattle.arc_schedule.specs.Operations.FieldsDone.{entered, taken_out}
+use Rattle.arc_schedule.specs.Operations.IsCascade.{finish_more}
 use Rattle.arc_cells.specs.declared.swap.SwapAnswer.TheVariants.{Busy}
 use Rattle.arc_schedule.specs.Threads.{end_point}
 use Rattle.arc_schedule.specs.Threads.GlobalsCleared.{none as globals_none, one as globals_one}
 use Rattle.arc_schedule.specs.Threads.OpsDone.{none as ops_none, one as ops_one, block as ops_block}
-use Rattle.arc_schedule.specs.Worked.{by, look, one_slot, nothing_yet, first_of, count_word, raised, counts_more, PlacesComeFirst, AccessesEndFirst, OperationsTell, BlocksAreRun, LoadsGive, LoadsFindDead, GetsCopy, SetsSwap, EndsClear}
+use Rattle.arc_schedule.specs.Worked.{by, look, one_slot, nothing_yet, first_of, count_word, raised, counts_more, PlacesComeFirst, AccessesEndFirst, OperationsTell, BlocksAreRun, LoadsGive, LoadsFindDead, GetsCopy, SetsSwap, EndsClear, holder, kept, taken_last, inner_over, DeinitsNest}
 
 pub places_come_first : PlacesComeFirst
 places_come_first =
@@ -95,7 +98,7 @@ unfolding unpacked
 gets_copy =
     does_get {slot = 0} {begun = made_at (first_of 1) (Exchange 1 2 1) 2 None ∷ made_at (first_of 1) (Load 1) 2 None ∷ []}
     {mid = counts_more (first_of 1) (Some (acts.Copy (origins.Cell (cells.Global 0)) 1)) (made_at (first_of 1) (Exchange 1 2 1) 2 None ∷ made_at (first_of 1) (Load 1) 2 None ∷ [])}
-    (omega arith) (omega arith) tt
+    (record { named = refl; there = omega arith; kind_is = refl; counted = tt }) (omega arith)
     (record {
       started = [];
       starts = starts_first;
@@ -118,7 +121,7 @@ gets_copy =
 
 pub sets_swap : SetsSwap
 sets_swap =
-    does_set {word = 0} (omega arith)
+    does_set {word = 0} (record { named = refl; there = omega arith; kind_is = refl; counted = tt })
     (record {
       started = made_at (first_of 1) (Load 1) 1 None ∷ [];
       starts = starts_again {a = Busy} starts_first (record { at = _; last = Some 1; reaches = reaches_next {found = 1} reaches_start refl; answers = refl }) refl;
@@ -143,3 +146,28 @@ ends_clear =
       answers = record { at = _; last = Some (count_word 1 2 false); reaches = reaches_next {found = count_word 1 2 false} (reaches_next {found = count_word 1 2 false} reaches_start refl) refl; answers = refl };
       ends = refl;
     }))
+
+pub deinits_nest : DeinitsNest
+unfolding unpacked
+deinits_nest =
+    finish_more {name = holder}
+    (taken_out {word = 3} {found = 3} entered (λ e. (let y : 3 ≡ 0 = e in omega arith))
+    (drops_last {entry = None} {mid = taken_last} (omega arith)
+    (record {
+      started = made_at (first_of 1) (Store 4 0) 3 (Some (acts.Take 0 0 2)) ∷ by 1 1 (Load 4) 3 ∷ by 1 1 (Load 2) (isa_word_of holder) ∷ by 1 1 (Store 3 0) 0 ∷ [];
+      starts = starts_first;
+      answers = record { at = _; last = Some (count_word 0 2 false); reaches = reaches_next {found = count_word 0 2 false} (reaches_next {found = count_word 0 2 false} reaches_start refl) refl; answers = refl };
+      ends = refl;
+    })
+    (finish_more {name = kept} entered (record {
+      started = by 1 1 (Load 14) 2 ∷ by 1 1 (Load 13) (isa_word_of kept) ∷ by 1 1 (Store 14 2) 0 ∷ taken_last;
+      starts = starts_first;
+      answers = record { at = _; last = Some (count_word 0 2 true); reaches = reaches_next {found = count_word 0 2 true} (reaches_next {found = count_word 0 2 true} reaches_start refl) refl; answers = refl };
+      ends = refl;
+    })) refl))
+    (record {
+      started = by 1 1 (Load 3) 0 ∷ by 1 1 (Load 2) (isa_word_of holder) ∷ inner_over;
+      starts = starts_first;
+      answers = record { at = _; last = Some (count_word 0 2 true); reaches = reaches_next {found = count_word 0 2 true} (reaches_next {found = count_word 0 2 true} reaches_start refl) refl; answers = refl };
+      ends = refl;
+    })

@@ -2,13 +2,11 @@
 use Rattle.std.specs.Prelude.{ℕ, ◌≡◌, ◌==◌, if◌then◌else◌, is_some, Bool, true, false, List, ◌∷◌, Option, Some, None}
 use Rattle.arc_model.specs.declared.event.Act.{Act}
 use Rattle.arc_model.specs.declared.event.Act.TheVariants as acts
-use Rattle.arc_model.specs.declared.event.CellName.TheVariants as cells
+use Rattle.arc_model.specs.declared.event.CellName.{CellName}
 use Rattle.arc_model.specs.declared.event.ObjectName.{ObjectName}
 use Rattle.arc_model.specs.declared.shape.Kind.{Kind}
 use Rattle.arc_model.specs.Shapes.{CapNumbers}
 use Rattle.arc_rule.specs.Extents.{Extent}
-use Rattle.arc_rule.specs.Places.{number}
-use Rattle.arc_rule.specs.declared.layout.Place.TheVariants as places
 use Rattle.arc_rule.specs.declared.step.Step.{Step}
 use Rattle.arc_rule.specs.declared.plan.Next.{Next}
 use Rattle.arc_rule.specs.declared.plan.Next.TheVariants as nexts
@@ -35,6 +33,7 @@ use Rattle.arc_cells.specs.declared.swap.SwapAnswer.TheVariants as swaps
 use Rattle.arc_cells.specs.Begins.{Beginning, begin_turned, begin_answer}
 use Rattle.arc_cells.specs.Ends.{AccessEnd, end_turned, end_answer}
 use Rattle.arc_cells.specs.Swaps.{SwapAttempt, swap_turned, swap_answer}
+use Rattle.arc_ops.specs.Cells.{cell_number}
 use Rattle.arc_schedule.specs.Made.{Point, Made, made_at}
 
 -- A plan from its start: what it asks for or answers once it is given what its step before gave back, after which answers it is begun
@@ -168,12 +167,12 @@ vacate l slot = record {
   tells = λ p found. told_by (vacate_told slot) (vacate_answer p (Some found));
 }
 
--- ---- the plans of globals
+-- ---- the plans of cells, globals and fields
 
 -- the load that finds nil has the event
-abbrev pub begin_told : (global : ℕ) → BeginAnswer → Option Act
-begin_told g begins.Nil = Some (acts.Look (cells.Global g))
-begin_told g _ = None
+abbrev pub begin_told : CellName → BeginAnswer → Option Act
+begin_told cell begins.Nil = Some (acts.Look cell)
+begin_told cell _ = None
 
 -- another access is under way, or the word has changed
 abbrev pub begin_anew : BeginAnswer → Bool
@@ -181,20 +180,20 @@ begin_anew begins.Busy = true
 begin_anew (begins.Again changed) = true
 begin_anew _ = false
 
--- an access to the global begins, where it isn't nil
-abbrev pub begin_access : Extent → (global : ℕ) → Plan Beginning BeginAnswer
-begin_access l g = record {
-  start = record { layout = l; place = number l (places.Global g); at = attempt.Start };
+-- an access to the cell begins, where it isn't nil
+abbrev pub begin_access : Extent → CellName → Plan Beginning BeginAnswer
+begin_access l cell = record {
+  start = record { layout = l; place = cell_number l cell; at = attempt.Start };
   turned = begin_turned;
   answer = begin_answer;
   anew = begin_anew;
-  tells = λ p found. told_by (begin_told g) (begin_answer p (Some found));
+  tells = λ p found. told_by (begin_told cell) (begin_answer p (Some found));
 }
 
--- and ends: the global has this word again
-abbrev pub end_access : Extent → (global word : ℕ) → Plan AccessEnd (Unit {0})
-end_access l g word = record {
-  start = record { layout = l; place = number l (places.Global g); value = word; at = onces.Start };
+-- and ends: the cell has this word again
+abbrev pub end_access : Extent → CellName → (word : ℕ) → Plan AccessEnd (Unit {0})
+end_access l cell word = record {
+  start = record { layout = l; place = cell_number l cell; value = word; at = onces.Start };
   turned = end_turned;
   answer = end_answer;
   anew = λ a. false;
@@ -205,9 +204,9 @@ end_access l g word = record {
 abbrev pub hand_for : (hand word : ℕ) → Option ℕ
 hand_for hand word = if word == 0 then None else Some hand
 
-abbrev pub swap_told : (global : ℕ) (put : Option ℕ) (hand : ℕ) → SwapAnswer → Option Act
-swap_told g put hand (swaps.Took word) = Some (acts.Swap (cells.Global g) put (hand_for hand word))
-swap_told g put hand _ = None
+abbrev pub swap_told : CellName → (put : Option ℕ) (hand : ℕ) → SwapAnswer → Option Act
+swap_told cell put hand (swaps.Took word) = Some (acts.Swap cell put (hand_for hand word))
+swap_told cell put hand _ = None
 
 -- an access is under way, or the word has changed
 abbrev pub swap_anew : SwapAnswer → Bool
@@ -215,12 +214,12 @@ swap_anew swaps.Busy = true
 swap_anew (swaps.Again changed) = true
 swap_anew (swaps.Took word) = false
 
--- the word comes into the global, and what was there into the hand
-abbrev pub swap : Extent → (global new : ℕ) → (put : Option ℕ) → (hand : ℕ) → Plan SwapAttempt SwapAnswer
-swap l g new put hand = record {
-  start = record { layout = l; place = number l (places.Global g); new = new; at = attempt.Start };
+-- the word comes into the cell, and what was there into the hand
+abbrev pub swap : Extent → CellName → (new : ℕ) → (put : Option ℕ) → (hand : ℕ) → Plan SwapAttempt SwapAnswer
+swap l cell new put hand = record {
+  start = record { layout = l; place = cell_number l cell; new = new; at = attempt.Start };
   turned = swap_turned;
   answer = swap_answer;
   anew = swap_anew;
-  tells = λ p found. told_by (swap_told g put hand) (swap_answer p (Some found));
+  tells = λ p found. told_by (swap_told cell put hand) (swap_answer p (Some found));
 }

@@ -9,7 +9,7 @@
 #![tactic(auto)]
 
 ghost use Rattle.arc_schedule.specs.Law.{ReplaysAreScheduleRuns};
-ghost use Rattle.arc_schedule.specs.Worked.{PlacesComeFirst, AccessesEndFirst, OperationsTell, BlocksAreRun, LoadsGive, LoadsFindDead, GetsCopy, SetsSwap, EndsClear};
+ghost use Rattle.arc_schedule.specs.Worked.{PlacesComeFirst, AccessesEndFirst, OperationsTell, BlocksAreRun, LoadsGive, LoadsFindDead, GetsCopy, SetsSwap, EndsClear, DeinitsNest};
 
 /// The steps of a replay that came to its end are a schedule run of its script: the words go from all 0 by what each step means, each
 /// thread's steps are those of its operations, phase by phase, and their order is that of the phases and of the schedule. They are as many
@@ -22,8 +22,9 @@ pub fn replays_are_schedule_runs()
 /// Two worked orders of two threads: the schedule's places come first, and where they run out a thread inside an access ends its operation
 /// before the threads go on in the order of their numbers. A worked operation, whose event is no function of the step and the word. Worked
 /// blocks, one that is run and one that is passed over. And worked loads of an unowned reference: the object lives, so its name is read
-/// behind the exchange that has the event; and its deinit has begun, which the first step tells. At last a worked get, whose copy stands
-/// between the begin of an access and its end, a worked set, which another access stands in the way of, and a worked end section.
+/// behind the exchange that has the event; and its deinit has begun, which the first step tells. Then a worked get, whose copy stands
+/// between the begin of an access and its end, a worked set, which another access stands in the way of, and a worked end section; and a worked
+/// deinit, which brings about another one.
 pub fn schedules_are_followed()
     ensures places { PlacesComeFirst }
     ensures accesses { AccessesEndFirst }
@@ -34,4 +35,5 @@ pub fn schedules_are_followed()
     ensures gets { GetsCopy }
     ensures sets { SetsSwap }
     ensures end_section { EndsClear }
+    ensures deinits { DeinitsNest }
 {}

@@ -1,4 +1,10 @@
 //! The script language: what a script is, which lines there are, and what the words of an operation or a declaration say.
+//!
+//! What is a script (`IsScript`), with its names, kinds, classes and limits; which lines there are, as a table; and the functions by
+//! which the words of one line are taken apart. Each refusal has a number, and the table says which comes first.
+//!
+//! Reading a whole text is `arc_script_reader`'s, writing one `arc_script_text`'s, and what holds of both `arc_script_laws`'. What an
+//! operation does is said in `arc_programs`.
 #![tactic(auto)]
 
 mod answer;

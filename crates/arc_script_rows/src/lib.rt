@@ -1,4 +1,7 @@
 //! Tests of the script language: which line is refused, and with which number.
+//!
+//! A text for each form of a line and each fault that it can have, and whole texts. Nothing is promised here, and nothing that runs
+//! calls it.
 #![tactic(auto)]
 
 #[cfg(test)]

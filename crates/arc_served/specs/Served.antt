@@ -1,5 +1,5 @@
 -- Which scripts are served so far.
-use Rattle.std.specs.Prelude.{◌≡◌, [], All, ⊤}
+use Rattle.std.specs.Prelude.{◌≡◌, All, ⊤}
 use Rattle.arc_model.specs.Shapes.{ObjectClass}
 use Rattle.arc_model.specs.declared.shape.RefShape.{RefShape}
 use Rattle.arc_side.specs.Inline.{IsCountedInline}
@@ -41,11 +41,11 @@ pub record IsServedThread (t : ThreadDecl) : Type 0 where
   pub vars : All IsServedVar t.vars
   pub ops : All (All IsServedOp) t.phases
 
--- threads that make objects, and copy, move, drop and load strong and unowned references, also by strong and unowned globals, in blocks and phases
--- and by any schedule; classes without fields, the greatest caps
+-- threads that make objects, and copy, move, drop and load strong and unowned references, also by strong and unowned globals and fields, in blocks
+-- and phases and by any schedule; classes with strong and unowned fields, the greatest caps
 pub record IsServed (s : Script) : Type 0 where
   pub threads : All IsServedThread s.threads
-  pub without_fields : All (λ (c : ObjectClass). c.fields ≡ []) s.shape.classes
+  pub classes : All IsServedClass s.shape.classes
   pub globals : All IsServedVar s.globals
   pub strong_cap : s.shape.caps.strong ≡ 1073741823
   pub unowned_cap : s.shape.caps.unowned ≡ 2147483647

@@ -1,10 +1,10 @@
 //! Which scripts steppers serve.
 
-ghost use Rattle.std.specs.Prelude.{◌≡◌, ◌↔◌, All, IsTrue, []};
-ghost use Rattle.arc_model.specs.Shapes.{ObjectClass};
-ghost use Rattle.arc_served.specs.Served.{IsServed, IsServedThread, IsServedOp, IsServedVar};
+ghost use Rattle.std.specs.Prelude.{◌≡◌, ◌↔◌, All, IsTrue};
+ghost use Rattle.arc_side.specs.Inline.{IsCountedInline};
+ghost use Rattle.arc_served.specs.Served.{IsServed, IsServedThread, IsServedOp, IsServedVar, IsServedRef, IsServedClass};
 
-use arc_model::{Caps, ClassShape, Kind};
+use arc_model::{Caps, ClassShape, Kind, RefShape};
 use arc_script::{Op, Script, ThreadDecl, VarDecl};
 
 fn is_served_op(op: &Op) -> bool
@@ -34,11 +34,7 @@ fn are_served_ops(ops: &[Op]) -> bool
 fn is_served_var(var: &VarDecl) -> bool
     ensures { IsTrue result ↔ IsServedVar var.now }
 {
-    match var.kind {
-        Kind::Strong => true,
-        Kind::Unowned => true,
-        Kind::Weak => false,
-    }
+    is_served_kind(var.kind)
 }
 
 fn are_served_vars(vars: &[VarDecl]) -> bool
@@ -65,10 +61,32 @@ fn are_served_threads(threads: &[ThreadDecl]) -> bool
     threads.iter().all(|thread| is_served_thread(thread))
 }
 
-fn have_no_fields(classes: &[ClassShape]) -> bool
-    ensures { IsTrue result ↔ All (λ (c : ObjectClass). c.fields ≡ []) classes.now }
+fn is_served_kind(kind: Kind) -> bool
+    ensures { IsTrue result ↔ IsCountedInline kind }
 {
-    classes.iter().all(|class| class.fields.is_empty())
+    match kind {
+        Kind::Strong => true,
+        Kind::Unowned => true,
+        Kind::Weak => false,
+    }
+}
+
+fn is_served_ref(field: &RefShape) -> bool
+    ensures { IsTrue result ↔ IsServedRef field.now }
+{
+    is_served_kind(field.kind)
+}
+
+fn is_served_class(class: &ClassShape) -> bool
+    ensures { IsTrue result ↔ IsServedClass class.now }
+{
+    class.fields.iter().all(|field| is_served_ref(field))
+}
+
+fn are_served_classes(classes: &[ClassShape]) -> bool
+    ensures { IsTrue result ↔ All IsServedClass classes.now }
+{
+    classes.iter().all(|class| is_served_class(class))
 }
 
 fn are_greatest(caps: Caps) -> bool
@@ -77,16 +95,16 @@ fn are_greatest(caps: Caps) -> bool
     caps.strong() == 1_073_741_823 && caps.unowned() == 2_147_483_647 && caps.wide() == u32::MAX
 }
 
-/// Whether the script is one of those that are served so far: strong and unowned globals, threads with strong and unowned variables and
-/// the operations `new`, `copy`, `move`, `drop`, `unown`, `load`, and `get` and `set` on globals, in any blocks and phases and by any
-/// schedule; classes without fields and the greatest caps.
+/// Whether the script is one of those that are served so far: strong and unowned globals and fields, threads with strong and unowned
+/// variables and the operations `new`, `copy`, `move`, `drop`, `unown`, `load`, `get` and `set`, in any blocks and phases and by any
+/// schedule; and the greatest caps.
 pub fn is_served(script: &Script) -> bool
     ensures { IsTrue result ↔ IsServed script.now }
 {
     if !are_greatest(script.shape.caps()) {
         return false;
     }
-    if !have_no_fields(script.shape.classes()) {
+    if !are_served_classes(script.shape.classes()) {
         return false;
     }
     are_served_vars(script.globals.as_slice()) && are_served_threads(script.threads.as_slice())

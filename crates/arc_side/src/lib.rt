@@ -1,5 +1,12 @@
 //! Plans of references that an entry counts, or an inline word or an entry: a reference more, a reference fewer; and the plans by which
 //! an entry is claimed, published and given back, and a slot ends.
+//!
+//! Each is a plan as those of `arc_plan` are: asked for a step, given a word, equal by contract to a total function. `Up` and `Down`
+//! begin at the inline word and go on to the entry that it names, so that whoever counts a reference need not know where its count
+//! lies.
+//!
+//! They know no thread, no history and no reference, make no step themselves and take no memory. That their steps are allowed is shown
+//! in `arc_view`; what they may be given is a premise.
 #![tactic(auto)]
 
 mod claim;

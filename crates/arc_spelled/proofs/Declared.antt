@@ -22,7 +22,7 @@ use Rattle.arc_script.specs.Valid.{IsScript, IsThread, IsOp, IsCell, ArePair, ki
 use Rattle.arc_script.specs.OneList.{in_one_list, moved_behind}
 use Rattle.arc_script.proofs.OneList.{all_in_one}
 use Rattle.arc_served.specs.Programs.{declared_of, phases_in, program_of, vars_of, kinds_in, kinds_of, kind_of, classes_in, classes_of, class_of, ref_of, HasCell, CellFits, OwnsStrongly, KindOfCell, KindsFit, ClassesFit}
-use Rattle.arc_served.specs.Served.{IsServed, IsServedThread, IsServedVar, IsServedOp, IsServedRef, IsServedClass}
+use Rattle.arc_served.specs.Served.{IsServed, IsServedThread, IsServedVar, IsServedOp, IsServedRef}
 use Rattle.std.proofs.ByRecursion.{All-weaker}
 
 -- ---- the declaration of a thread
@@ -241,13 +241,6 @@ program-cells s p valid served =
 
 pub globals-served : (s : Script) → IsScript s → IsServed s → All IsServedRef s.shape.globals
 globals-served s valid served = All-same IsServedRef s.shape.globals (var_refs s.globals) valid.heading.of_globals (All-map IsServedRef var-ref s.globals served.globals)
-
-pub classes-served : (s : Script) → IsServed s → All IsServedClass s.shape.classes
-classes-served s served =
-    All-from_recursion IsServedClass s.shape.classes (All-weaker (λ (c : ObjectClass). c.fields ≡ []) IsServedClass bare s.shape.classes (recursion_from_All (λ (c : ObjectClass). c.fields ≡ []) s.shape.classes served.without_fields))
-  where
-    bare : (c : ObjectClass) → c.fields ≡ [] → IsServedClass c
-    bare c e = All-same IsServedRef c.fields [] e (All-nil IsServedRef)
 
 -- thread 0 has neither operations nor variables
 pub clears-alone : (s : Script) (p : ℕ) → p ≡ 0 → (program_of s p ≡ []) × (vars_of s p ≡ 0)

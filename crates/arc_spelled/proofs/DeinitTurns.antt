@@ -7,7 +7,8 @@ use Rattle.arc_model.specs.declared.event.Act.TheVariants as acts
 use Rattle.arc_model.specs.declared.event.ObjectName.{ObjectName}
 use Rattle.arc_model.specs.declared.shape.Kind.{Kind}
 use Rattle.arc_model.specs.declared.shape.Kind.TheVariants.{Strong, Unowned, Weak}
-use Rattle.arc_model.specs.Spelling.{Note, field_count}
+use Rattle.arc_spelling.specs.Spelling.{Note}
+use Rattle.arc_model.specs.References.{field_count}
 use Rattle.arc_rule.specs.Places.{number}
 use Rattle.arc_rule.specs.declared.layout.Place.TheVariants.{Next as NextPlace, Field}
 use Rattle.arc_rule.specs.declared.plan.Next.{Next}

@@ -5,8 +5,9 @@ use Rattle.arc_model.specs.declared.answer.Answer.TheVariants as answers
 use Rattle.arc_model.specs.declared.event.Act.{Act}
 use Rattle.arc_model.specs.declared.event.ObjectName.{ObjectName}
 use Rattle.arc_model.specs.Shapes.{HeapShape}
-use Rattle.arc_model.specs.Spelling.{Note, hands_of, field_count, IsCascade}
-use Rattle.arc_model.specs.Spelling.Note.{Line}
+use Rattle.arc_spelling.specs.Spelling.{Note, hands_of, IsCascade}
+use Rattle.arc_model.specs.References.{field_count}
+use Rattle.arc_spelling.specs.Spelling.Note.{Line}
 use Rattle.arc_rule.specs.Extents.{Extent}
 use Rattle.arc_rule.specs.Places.{number, extent_of}
 use Rattle.arc_rule.specs.declared.layout.Place.TheVariants.{Next as NextPlace, Field}

@@ -10,10 +10,10 @@ use Rattle.arc_model.specs.declared.event.Act.{Act}
 use Rattle.arc_model.specs.declared.event.Act.TheVariants as acts
 use Rattle.arc_model.specs.declared.shape.Kind.{Kind}
 use Rattle.arc_model.specs.declared.shape.Kind.TheVariants as kinds
-use Rattle.arc_model.specs.Spelling.{Note, IsDrop}
-use Rattle.arc_model.specs.Spelling.Note.{Did, Entry}
-use Rattle.arc_model.specs.Spelling.IsDrop.{more, last_strong, last_unowned}
-use Rattle.arc_model.specs.Spelling.IsEnd.{inline}
+use Rattle.arc_spelling.specs.Spelling.{Note, IsDrop}
+use Rattle.arc_spelling.specs.Spelling.Note.{Did, Entry}
+use Rattle.arc_spelling.specs.Spelling.IsDrop.{more, last_strong, last_unowned}
+use Rattle.arc_spelling.specs.Spelling.IsEnd.{inline}
 use Rattle.arc_rule.specs.Extents.{Extent}
 use Rattle.arc_rule.specs.Places.{number as number_in, extent_of}
 use Rattle.arc_rule.specs.declared.layout.Place.TheVariants.{Count}

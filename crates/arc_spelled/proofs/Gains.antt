@@ -14,11 +14,11 @@ use Rattle.arc_model.specs.declared.event.Act.TheVariants as acts
 use Rattle.arc_model.specs.declared.event.Got.TheVariants as gots
 use Rattle.arc_model.specs.declared.shape.Kind.{Kind}
 use Rattle.arc_model.specs.declared.shape.Kind.TheVariants as kinds
-use Rattle.arc_model.specs.Spelling.{Note, hands_of}
-use Rattle.arc_model.specs.Spelling.Note.{Did, Line, Operation, Name, Refers}
-use Rattle.arc_model.specs.SpellingGains.Spare.{Unclaimed}
-use Rattle.arc_model.specs.SpellingGains.IsReady.{start as ready}
-use Rattle.arc_model.specs.SpellingGains.IsSettled.{unclaimed}
+use Rattle.arc_spelling.specs.Spelling.{Note, hands_of}
+use Rattle.arc_spelling.specs.Spelling.Note.{Did, Line, Operation, Name, Refers}
+use Rattle.arc_spelling.specs.SpellingGains.Spare.{Unclaimed}
+use Rattle.arc_spelling.specs.SpellingGains.IsReady.{start as ready}
+use Rattle.arc_spelling.specs.SpellingGains.IsSettled.{unclaimed}
 use Rattle.arc_rule.specs.Isa.{isa_name_of}
 use Rattle.arc_rule.specs.declared.step.Step.{Step}
 use Rattle.arc_rule.specs.declared.plan.Next.{Next}

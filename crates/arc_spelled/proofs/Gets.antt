@@ -5,11 +5,11 @@ use Rattle.arc_model.specs.declared.answer.Answer.TheVariants as answers
 use Rattle.arc_model.specs.declared.event.CellName.{CellName}
 use Rattle.arc_model.specs.declared.event.Origin.TheVariants as origins
 use Rattle.arc_model.specs.declared.event.Act.TheVariants as acts
-use Rattle.arc_model.specs.Spelling.{Note, hands_of}
-use Rattle.arc_model.specs.Spelling.Note.{Did, Line, Operation, Refers}
-use Rattle.arc_model.specs.SpellingGains.Spare.{Unclaimed}
-use Rattle.arc_model.specs.SpellingGains.IsReady.{start as ready}
-use Rattle.arc_model.specs.SpellingGains.IsSettled.{unclaimed}
+use Rattle.arc_spelling.specs.Spelling.{Note, hands_of}
+use Rattle.arc_spelling.specs.Spelling.Note.{Did, Line, Operation, Refers}
+use Rattle.arc_spelling.specs.SpellingGains.Spare.{Unclaimed}
+use Rattle.arc_spelling.specs.SpellingGains.IsReady.{start as ready}
+use Rattle.arc_spelling.specs.SpellingGains.IsSettled.{unclaimed}
 use Rattle.arc_rule.specs.Attempts.{exchanging, chosen, takes_at as attempt_takes, turned_at as attempt_turned, answer_at as attempt_answer}
 use Rattle.arc_rule.specs.declared.step.Step.{Step}
 use Rattle.arc_rule.specs.declared.plan.Next.TheVariants as nexts

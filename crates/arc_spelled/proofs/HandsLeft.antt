@@ -10,10 +10,10 @@ use Rattle.arc_model.specs.declared.event.Event.{Event}
 use Rattle.arc_model.specs.Heaps.{Heap}
 use Rattle.arc_model.specs.Shapes.{HeapShape}
 use Rattle.arc_model.specs.History.{History, heap_after, share, is_of}
-use Rattle.arc_model.specs.Spelling.{Note, one_more_if}
-use Rattle.arc_model.specs.Spelling.Note.{Did, Line, Operation, Name, Entry, NeedsEntry, Nil, Refers}
-use Rattle.arc_model.specs.SpellingTies.{Causes, Holds}
-use Rattle.arc_model.specs.SpellingTies.Ties.{start, own, other, noted}
+use Rattle.arc_spelling.specs.Spelling.{Note, one_more_if}
+use Rattle.arc_spelling.specs.Spelling.Note.{Did, Line, Operation, Name, Entry, NeedsEntry, Nil, Refers}
+use Rattle.arc_spelling.specs.SpellingTies.{Causes, Holds}
+use Rattle.arc_spelling.specs.SpellingTies.Ties.{start, own, other, noted}
 use Rattle.arc_model.specs.WellFormed.{more}
 use Rattle.arc_hand_counts.specs.Counts.{is_put, is_taken, times, puts, sum_to}
 use Rattle.arc_hand_counts.specs.Laws.{NoThreadAbove}

@@ -71,17 +71,19 @@ gained-kind shape classes kinds gains.Unown to of from fits e = sym fits.0
 gained-kind shape classes kinds gains.Load to of from fits e = sym fits.0
 
 -- and so is each global and each field
-counted-ref : (refs : List RefShape) (i : ℕ) → AllByRecursion IsServedRef refs → IsCountedInline (ref_at refs i).kind
+pub counted-ref : (refs : List RefShape) (i : ℕ) → AllByRecursion IsServedRef refs → IsCountedInline (ref_at refs i).kind
 counted-ref [] i all = tt
 counted-ref (r ∷ refs) zero all = all.0
 counted-ref (r ∷ refs) (suc i) all = counted-ref refs i all.1
 
-class-fields : (classes : List ObjectClass) (i : ℕ) → AllByRecursion IsServedClass classes → AllByRecursion IsServedRef (get_or classes i (record { fields = []; immortal = false })).fields
+pub class-fields : (classes : List ObjectClass) (i : ℕ) → AllByRecursion IsServedClass classes → AllByRecursion IsServedRef (get_or classes i (record { fields = []; immortal = false })).fields
 class-fields [] i all = tt
 class-fields (c ∷ classes) zero all = recursion_from_All IsServedRef c.fields all.0
 class-fields (c ∷ classes) (suc i) all = class-fields classes i all.1
 
+pub counted-field : (w : Work) → IsServedWork w → (class field : ℕ) → IsCountedInline (ref_at (class_at w.shape class).fields field).kind
+counted-field w served class field = counted-ref (class_at w.shape class).fields field (class-fields w.shape.classes class (recursion_from_All IsServedClass w.shape.classes served.served_classes))
+
 pub counted-cell : (w : Work) → IsServedWork w → (c : OpCell) → IsCountedInline (ref_of w.shape w.classes c).kind
 counted-cell w served (opcell.Global g) = counted-ref w.shape.globals g (recursion_from_All IsServedRef w.shape.globals served.globals)
-counted-cell w served (opcell.Field owner field) =
-    counted-ref (class_at w.shape (class_of w.classes owner)).fields field (class-fields w.shape.classes (class_of w.classes owner) (recursion_from_All IsServedClass w.shape.classes served.served_classes))
+counted-cell w served (opcell.Field owner field) = counted-field w served (class_of w.classes owner) field

@@ -5,8 +5,8 @@ use Rattle.std.specs.Option.{unwrap_or}
 use Rattle.arc_model.specs.declared.answer.Answer.TheVariants as answers
 use Rattle.arc_model.specs.declared.event.ObjectName.{ObjectName}
 use Rattle.arc_model.specs.declared.event.Act.TheVariants as acts
-use Rattle.arc_model.specs.Spelling.{Note, hands_of}
-use Rattle.arc_model.specs.Spelling.Note.{Did, Line, Operation}
+use Rattle.arc_spelling.specs.Spelling.{Note, hands_of}
+use Rattle.arc_spelling.specs.Spelling.Note.{Did, Line, Operation}
 use Rattle.arc_rule.specs.declared.step.Step.{Step}
 use Rattle.arc_rule.specs.declared.plan.Next.TheVariants as nexts
 use Rattle.arc_plan.specs.declared.slots.Making.{Making as Search}

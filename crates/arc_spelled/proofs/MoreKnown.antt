@@ -6,7 +6,7 @@ use Rattle.arc_model.specs.declared.event.Origin.{Origin}
 use Rattle.arc_model.specs.declared.event.Origin.TheVariants as origins
 use Rattle.arc_model.specs.declared.shape.Kind.{Kind}
 use Rattle.arc_model.specs.Shapes.{HeapShape}
-use Rattle.arc_model.specs.Spelling.{Note}
+use Rattle.arc_spelling.specs.Spelling.{Note}
 use Rattle.arc_cells.specs.Chains.{Frame}
 use Rattle.arc_plan.specs.declared.slots.Making.{Making as Search}
 use Rattle.arc_plan.specs.declared.slots.Making.TheVariants as search

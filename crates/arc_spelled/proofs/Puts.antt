@@ -9,16 +9,17 @@ use Rattle.arc_model.specs.declared.event.Origin.{Origin}
 use Rattle.arc_model.specs.declared.event.Origin.TheVariants as origins
 use Rattle.arc_model.specs.declared.shape.Kind.{Kind}
 use Rattle.arc_model.specs.Shapes.{HeapShape}
-use Rattle.arc_model.specs.Spelling.{Note, is_fact, one_more_if, field_count, IsEnd, FieldsDone, IsDrop, IsCascade}
-use Rattle.arc_model.specs.Spelling.Note.{Did, Line, Operation, Name, Entry, NeedsEntry, Nil, Refers}
-use Rattle.arc_model.specs.Spelling.IsEnd.{inline, gone_more, gone_last}
-use Rattle.arc_model.specs.Spelling.FieldsDone.{named, noted, nil, taken}
-use Rattle.arc_model.specs.Spelling.IsDrop.{more, last_strong, last_unowned, last_weak}
-use Rattle.arc_model.specs.Spelling.IsCascade.{finish_more, finish_last}
-use Rattle.arc_model.specs.SpellingGains.{Spare, IsReady, IsSettled, IsGain, IsRefused}
-use Rattle.arc_model.specs.SpellingGains.IsReady.{start, noted as ready_noted, claimed, published}
-use Rattle.arc_model.specs.SpellingGains.IsSettled.{unclaimed, published as stays_published, given_back}
-use Rattle.arc_model.specs.SpellingGains.IsRefused.{no_entry as entry_refused}
+use Rattle.arc_spelling.specs.Spelling.{Note, is_fact, one_more_if, IsEnd, FieldsDone, IsDrop, IsCascade}
+use Rattle.arc_model.specs.References.{field_count}
+use Rattle.arc_spelling.specs.Spelling.Note.{Did, Line, Operation, Name, Entry, NeedsEntry, Nil, Refers}
+use Rattle.arc_spelling.specs.Spelling.IsEnd.{inline, gone_more, gone_last}
+use Rattle.arc_spelling.specs.Spelling.FieldsDone.{named, noted, nil, taken}
+use Rattle.arc_spelling.specs.Spelling.IsDrop.{more, last_strong, last_unowned, last_weak}
+use Rattle.arc_spelling.specs.Spelling.IsCascade.{finish_more, finish_last}
+use Rattle.arc_spelling.specs.SpellingGains.{Spare, IsReady, IsSettled, IsGain, IsRefused}
+use Rattle.arc_spelling.specs.SpellingGains.IsReady.{start, noted as ready_noted, claimed, published}
+use Rattle.arc_spelling.specs.SpellingGains.IsSettled.{unclaimed, published as stays_published, given_back}
+use Rattle.arc_spelling.specs.SpellingGains.IsRefused.{no_entry as entry_refused}
 use Rattle.arc_hand_counts.specs.Counts.{is_put}
 use Rattle.arc_cells.specs.Chains.{Frame}
 use Rattle.arc_cells.specs.Cascades.{CascadeState}

@@ -7,8 +7,8 @@ use Rattle.arc_model.specs.declared.answer.Answer.TheVariants as answers
 use Rattle.arc_model.specs.declared.event.CellName.TheVariants as cells
 use Rattle.arc_model.specs.declared.event.Act.{Act}
 use Rattle.arc_model.specs.declared.event.Act.TheVariants as acts
-use Rattle.arc_model.specs.Spelling.{Note, hands_of}
-use Rattle.arc_model.specs.Spelling.Note.{Did, Line, Operation}
+use Rattle.arc_spelling.specs.Spelling.{Note, hands_of}
+use Rattle.arc_spelling.specs.Spelling.Note.{Did, Line, Operation}
 use Rattle.arc_rule.specs.Attempts.{exchanging, chosen, takes_at as attempt_takes, turned_at as attempt_turned, answer_at as attempt_answer}
 use Rattle.arc_rule.specs.declared.step.Step.{Step}
 use Rattle.arc_rule.specs.declared.plan.Next.{Next}

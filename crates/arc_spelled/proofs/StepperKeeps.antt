@@ -1,6 +1,6 @@
 -- Each word that a stepper may be given keeps what it stands for.
 use Rattle.std.proofs.Common.{◌≡◌, ℕ, ◌+◌, List, take, drop, Option, None, refl, ap, ◌∙◌, arith}
-use Rattle.arc_model.specs.Spelling.{Note}
+use Rattle.arc_spelling.specs.Spelling.{Note}
 use Rattle.arc_side.specs.Ups.{up_place}
 use Rattle.arc_cells.specs.Chains.{Frame}
 use Rattle.arc_script.specs.declared.script.Op.{Op}

@@ -11,8 +11,8 @@ use Rattle.std.specs.List.{prefix_len}
 use Rattle.arc_model.specs.declared.answer.Answer.{Answer}
 use Rattle.arc_model.specs.declared.answer.Answer.TheVariants as answers
 use Rattle.arc_model.specs.declared.event.Act.{Act}
-use Rattle.arc_model.specs.Spelling.{Note, acts_of, IsDrop}
-use Rattle.arc_model.specs.Spelling.Note.{Line, Operation}
+use Rattle.arc_spelling.specs.Spelling.{Note, acts_of, IsDrop}
+use Rattle.arc_spelling.specs.Spelling.Note.{Line, Operation}
 use Rattle.arc_model.specs.Shapes.{HeapShape}
 use Rattle.arc_rule.specs.Extents.{Extent}
 use Rattle.arc_cells.specs.Chains.{Frame}

@@ -5,10 +5,10 @@ use Rattle.std.proofs.lemmas.Bool.{eqb-true}
 use Rattle.std.proofs.lemmas.List.{take_all}
 use Rattle.std.specs.Prelude.{slice_get}
 use Rattle.arc_model.specs.Shapes.{HeapShape}
-use Rattle.arc_model.specs.Spelling.{Note}
+use Rattle.arc_spelling.specs.Spelling.{Note}
 use Rattle.arc_model.specs.History.{History}
-use Rattle.arc_model.specs.SpellingTies.{Causes, Ties}
-use Rattle.arc_model.specs.SpellingTies.Ties.{own, noted}
+use Rattle.arc_spelling.specs.SpellingTies.{Causes, Ties}
+use Rattle.arc_spelling.specs.SpellingTies.Ties.{own, noted}
 use Rattle.arc_model.specs.declared.event.Act.{Act}
 use Rattle.arc_rule.specs.Extents.{Extent}
 use Rattle.arc_rule.specs.declared.step.Step.{Step}
@@ -42,7 +42,7 @@ use Rattle.arc_spelled.specs.Shown.FindsEntry.{nothing as found_nothing, entry a
 use Rattle.arc_spelled.specs.Shown.Says.{nothing as said_nothing, line, operation}
 use Rattle.arc_spelled.specs.StepperStands.{Work, IsServedWork, variables, AreOfKinds, AreDone, HasEnded, StepperUpTo, IsInPhase, Asks, StandsFor}
 use Rattle.arc_spelled.specs.Spelled.{work_of, SteppersBegin, SteppersGoOn, EndedSteppersSpell, ReadySteppersHaveDone, with_event_of, WordsHold, AddedNotesAreTied}
-use Rattle.arc_spelled.proofs.Declared.{program-served, kinds-served, program-kinds, program-classes, program-cells, globals-served, classes-served, clears-alone}
+use Rattle.arc_spelled.proofs.Declared.{program-served, kinds-served, program-kinds, program-classes, program-cells, globals-served, clears-alone}
 use Rattle.arc_spelled.proofs.StepperKeeps.{stepper_goes_on}
 
 -- ---- what a script's thread works on is served
@@ -57,7 +57,7 @@ served-work s p came valid served = record {
   classes_fit = program-classes s p valid served;
   cells_fit = program-cells s p valid served;
   globals = globals-served s valid served;
-  served_classes = classes-served s served;
+  served_classes = served.classes;
   clearing = clears-alone s p;
 }
 

@@ -4,7 +4,7 @@ use Rattle.arc_model.specs.declared.event.CellName.{CellName}
 use Rattle.arc_model.specs.declared.event.Origin.{Origin}
 use Rattle.arc_model.specs.declared.event.Origin.TheVariants as origins
 use Rattle.arc_model.specs.declared.shape.Kind.{Kind}
-use Rattle.arc_model.specs.SpellingTies.{Reference}
+use Rattle.arc_model.specs.References.{Reference}
 use Rattle.arc_rule.specs.declared.plan.Next.{Next}
 use Rattle.arc_rule.specs.declared.plan.Next.TheVariants as nexts
 use Rattle.arc_side.specs.declared.up.UpAnswer.{UpAnswer}

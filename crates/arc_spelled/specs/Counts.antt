@@ -1,7 +1,7 @@
 -- How many references a thread's notes put into cells, and take out of fields.
 use Rattle.std.specs.Prelude.{ℕ, List, [], ◌∷◌}
-use Rattle.arc_model.specs.Spelling.{Note, one_more_if}
-use Rattle.arc_model.specs.Spelling.Note.{Did}
+use Rattle.arc_spelling.specs.Spelling.{Note, one_more_if}
+use Rattle.arc_spelling.specs.Spelling.Note.{Did}
 use Rattle.arc_hand_counts.specs.Counts.{is_put, is_taken}
 
 -- how many swaps of the thread put a reference into a cell

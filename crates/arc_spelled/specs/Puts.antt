@@ -4,8 +4,8 @@ use Rattle.std.specs.List.{AllByRecursion}
 use Rattle.arc_model.specs.declared.event.Event.{Event}
 use Rattle.arc_model.specs.Shapes.{HeapShape}
 use Rattle.arc_model.specs.History.{History, share, IsLegal}
-use Rattle.arc_model.specs.Spelling.{Note}
-use Rattle.arc_model.specs.SpellingTies.{Causes, Ties}
+use Rattle.arc_spelling.specs.Spelling.{Note}
+use Rattle.arc_spelling.specs.SpellingTies.{Causes, Ties}
 use Rattle.arc_hand_counts.specs.Counts.{puts, takes}
 use Rattle.arc_cells.specs.Chains.{Frame}
 use Rattle.arc_script.specs.declared.script.Script.{Script}

@@ -8,8 +8,9 @@ use Rattle.arc_model.specs.declared.event.CellName.TheVariants as cells
 use Rattle.arc_model.specs.declared.event.ObjectName.{ObjectName}
 use Rattle.arc_model.specs.declared.shape.Kind.TheVariants.{Unowned}
 use Rattle.arc_model.specs.Shapes.{HeapShape}
-use Rattle.arc_model.specs.Spelling.{Note, field_count}
-use Rattle.arc_model.specs.Spelling.Note.{Line, Operation, Name, Nil, Entry, Refers}
+use Rattle.arc_spelling.specs.Spelling.{Note}
+use Rattle.arc_model.specs.References.{field_count}
+use Rattle.arc_spelling.specs.Spelling.Note.{Line, Operation, Name, Nil, Entry, Refers}
 use Rattle.arc_rule.specs.Extents.{Extent}
 use Rattle.arc_rule.specs.Places.{number}
 use Rattle.arc_rule.specs.Isa.{isa_name_of}

@@ -8,9 +8,10 @@ use Rattle.arc_model.specs.declared.event.Act.TheVariants.{Copy}
 use Rattle.arc_model.specs.declared.event.Origin.TheVariants.{Cell}
 use Rattle.arc_model.specs.Shapes.{HeapShape}
 use Rattle.arc_model.specs.History.{History, heap_after}
-use Rattle.arc_model.specs.Spelling.{Note, field_count}
-use Rattle.arc_model.specs.Spelling.Note.{Name, Nil, Entry, Refers}
-use Rattle.arc_model.specs.SpellingTies.{Causes, Holds, Ties}
+use Rattle.arc_spelling.specs.Spelling.{Note}
+use Rattle.arc_model.specs.References.{field_count}
+use Rattle.arc_spelling.specs.Spelling.Note.{Name, Nil, Entry, Refers}
+use Rattle.arc_spelling.specs.SpellingTies.{Causes, Holds, Ties}
 use Rattle.arc_rule.specs.Extents.{Extent}
 use Rattle.arc_rule.specs.Isa.{isa_name_of}
 use Rattle.arc_rule.specs.Places.{number}

@@ -9,8 +9,8 @@ use Rattle.arc_model.specs.declared.event.Got.TheVariants as gots
 use Rattle.arc_model.specs.declared.shape.Kind.{Kind}
 use Rattle.arc_model.specs.declared.shape.Kind.TheVariants.{Strong}
 use Rattle.arc_model.specs.Shapes.{HeapShape}
-use Rattle.arc_model.specs.Spelling.{Note, hands_of, acts_of, IsEnd, IsDrop, IsCascade}
-use Rattle.arc_model.specs.Spelling.Note.{Did, Operation, Entry, Refers}
+use Rattle.arc_spelling.specs.Spelling.{Note, hands_of, acts_of, IsEnd, IsDrop, IsCascade}
+use Rattle.arc_spelling.specs.Spelling.Note.{Did, Operation, Entry, Refers}
 use Rattle.arc_rule.specs.Extents.{Extent}
 use Rattle.arc_rule.specs.Places.{number, extent_of}
 use Rattle.arc_rule.specs.declared.layout.Place.TheVariants.{Isa}

@@ -17,7 +17,7 @@ use Rattle.arc_model.specs.Effects.{made}
 use Rattle.arc_model.specs.Holders.{at_slot, is_slot_taken}
 use Rattle.arc_model.specs.History.{History, heap_after, share, brings, next_hand, IsLegal}
 use Rattle.arc_model.specs.Lookup.{spot}
-use Rattle.arc_model.specs.SpellingTies.{name_of}
+use Rattle.arc_model.specs.References.{name_of}
 use Rattle.arc_rule.specs.declared.step.Step.{Step}
 use Rattle.arc_rule.specs.declared.step.Step.TheVariants.{Load, Store, Or}
 use Rattle.arc_rule.specs.declared.step.Changed.{Changed}

@@ -6,7 +6,7 @@ use Rattle.arc_model.specs.declared.shape.Kind.TheVariants as kinds
 use Rattle.arc_model.specs.Shapes.{HeapShape}
 use Rattle.arc_model.specs.Heaps.{Object}
 use Rattle.arc_model.specs.History.{heap_after, IsLegal}
-use Rattle.arc_model.specs.SpellingTies.{name_of}
+use Rattle.arc_model.specs.References.{name_of}
 use Rattle.arc_rule.specs.declared.layout.Place.TheVariants.{Isa}
 use Rattle.arc_rule.specs.declared.step.Step.{Step}
 use Rattle.arc_rule.specs.declared.step.Step.TheVariants.{Load}

@@ -18,7 +18,7 @@ use Rattle.arc_model.specs.Cells.{cell, id_of, is_immortal, has_field}
 use Rattle.arc_model.specs.Effects.{put_in, taken_out}
 use Rattle.arc_model.specs.History.{History, heap_after, next_hand, IsLegal}
 use Rattle.arc_model.specs.Lookup.{spot, spot_in, further, is_cell}
-use Rattle.arc_model.specs.SpellingTies.{reference_in, reference_of, reference_to, place_of, name_of}
+use Rattle.arc_model.specs.References.{reference_in, reference_of, reference_to, place_of, name_of}
 use Rattle.arc_model.proofs.Basics.{None≢Some, Some-inj, opposite}
 use Rattle.arc_model.proofs.Tally.{no, same-eq}
 use Rattle.arc_model.proofs.Courses.{well_formed}

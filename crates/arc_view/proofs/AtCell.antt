@@ -15,7 +15,7 @@ use Rattle.arc_model.specs.Cells.{cell, id_of, has_field, field_shape, cell_shap
 use Rattle.arc_model.specs.Needs.{Need, reachable, passes}
 use Rattle.arc_model.specs.History.{History, heap_after, next_hand, IsLegal}
 use Rattle.arc_model.specs.Lookup.{Spot, spot, spot_in, further, is_cell}
-use Rattle.arc_model.specs.SpellingTies.{reference_in, reference_of, reference_to, place_of}
+use Rattle.arc_model.specs.References.{reference_in, reference_of, reference_to, place_of}
 use Rattle.arc_model.specs.WellFormed.{is_own, IsWhole, live, deiniting, deinited, vacating, going, freed, dead}
 use Rattle.arc_model.proofs.Basics.{AreMet, None≢Some, Some-inj, in-strong, in-not_empty}
 use Rattle.arc_model.proofs.Tally.{no, clash, same-eq}

@@ -14,7 +14,7 @@ use Rattle.arc_model.specs.Heaps as holders
 use Rattle.arc_model.specs.Holders.{at_slot}
 use Rattle.arc_model.specs.Cells.{has_field}
 use Rattle.arc_model.specs.History.{heap_after, IsLegal}
-use Rattle.arc_model.specs.SpellingTies.{Reference, reference_of}
+use Rattle.arc_model.specs.References.{Reference, reference_of}
 use Rattle.arc_model.proofs.Basics.{None≢Some, Some-inj, true≢false}
 use Rattle.arc_rule.specs.Places.{IsPlace, extent_of}
 use Rattle.arc_rule.specs.Shown.{Says, cell_word, field_word, field_word_if, word_at}

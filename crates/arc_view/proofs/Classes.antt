@@ -23,7 +23,7 @@ use Rattle.arc_model.specs.Effects.{effect, ended_if, given_up, entry_left, fini
 use Rattle.arc_model.specs.History.{History, heap_after, is_of, IsLegal}
 use Rattle.arc_model.specs.Lookup.{Spot, spot, is_cell}
 use Rattle.arc_model.specs.CellLaws.{cell_next}
-use Rattle.arc_model.specs.SpellingTies.{name_of}
+use Rattle.arc_model.specs.References.{name_of}
 use Rattle.arc_model.proofs.Basics.{None≢Some, Some-inj, true≢false}
 use Rattle.arc_model.proofs.Builds.{entry_to-objects}
 use Rattle.arc_model.proofs.CellSpots.{cells_after}

@@ -24,7 +24,7 @@ use Rattle.arc_model.specs.Effects.{made}
 use Rattle.arc_model.specs.WellFormed.{more, total, named_times}
 use Rattle.arc_model.specs.History.{History, heap_after, next_hand, sight, share, is_of, IsLegal}
 use Rattle.arc_model.specs.Lookup.{Spot, spot, is_cell}
-use Rattle.arc_model.specs.SpellingTies.{reference_in, reference_of, name_of}
+use Rattle.arc_model.specs.References.{reference_in, reference_of, name_of}
 use Rattle.arc_model.proofs.Basics.{None≢Some, Some-inj, true≢false}
 use Rattle.arc_model.proofs.Tally.{id-refl, same-refl}
 use Rattle.arc_model.proofs.Turns.{put-found, place-put}

@@ -21,7 +21,7 @@ use Rattle.arc_model.specs.Cells.{is_immortal, is_live}
 use Rattle.arc_model.specs.Needs.{needs, passes, is_at_cap}
 use Rattle.arc_model.specs.History.{History, heap_after, sight, IsLegal}
 use Rattle.arc_model.specs.Lookup.{is_cell}
-use Rattle.arc_model.specs.SpellingTies.{place_of}
+use Rattle.arc_model.specs.References.{place_of}
 use Rattle.arc_model.specs.WellFormed.{IsWhole, live, deiniting, deinited, vacating, going, freed, dead}
 use Rattle.arc_model.proofs.Basics.{None≢Some, Some-inj, true≢false}
 use Rattle.arc_model.proofs.Tally.{both}

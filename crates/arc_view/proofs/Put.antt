@@ -4,7 +4,7 @@ use Rattle.arc_model.specs.declared.shape.Kind.{Kind}
 use Rattle.arc_model.specs.declared.shape.Kind.TheVariants as kinds
 use Rattle.arc_model.specs.Heaps.{Object}
 use Rattle.arc_model.specs.Holders.{is_number}
-use Rattle.arc_model.specs.SpellingTies.{place_of}
+use Rattle.arc_model.specs.References.{place_of}
 
 pub is_number_some : (m : Option ℕ) (s : ℕ) → is_number m s ≡ true → m ≡ Some s
 is_number_some None s e = absurd (no_true e)

@@ -10,7 +10,7 @@ use Rattle.arc_model.specs.Heaps as holders
 use Rattle.arc_model.specs.Holders.{is_in, holds, kind_in, list_of, at_slot}
 use Rattle.arc_model.specs.Cells.{cell, id_of, has_field}
 use Rattle.arc_model.specs.Lookup.{spot, spot_in, is_cell}
-use Rattle.arc_model.specs.SpellingTies.{reference_in, reference_of, reference_to, place_of, name_of}
+use Rattle.arc_model.specs.References.{reference_in, reference_of, reference_to, place_of, name_of}
 use Rattle.arc_model.proofs.Turns.{IsPut, spot-append}
 use Rattle.arc_model.proofs.Builds.{find-passes}
 use Rattle.arc_rule.specs.Isa.{isa_word_of}

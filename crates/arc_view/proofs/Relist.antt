@@ -9,7 +9,7 @@ use Rattle.arc_model.specs.Shapes.{HeapShape}
 use Rattle.arc_model.specs.Heaps.{Holder, Object, Heap}
 use Rattle.arc_model.specs.Holders.{is_in, is_number, in_slot, has_entry, holds, kind_in, list_of, at_slot, at_entry, claims_it, is_slot_taken, is_entry_taken}
 use Rattle.arc_model.specs.Lookup.{is_cell}
-use Rattle.arc_model.specs.SpellingTies.{place_of}
+use Rattle.arc_model.specs.References.{place_of}
 use Rattle.arc_model.proofs.Turns.{IsPut}
 use Rattle.arc_model.proofs.Builds.{find-passes}
 use Rattle.arc_rule.specs.declared.layout.Place.{Place}

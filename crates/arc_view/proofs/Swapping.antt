@@ -21,7 +21,7 @@ use Rattle.arc_model.specs.Effects.{taken_out}
 use Rattle.arc_model.specs.Needs.{needs, passes, puts, takes, same_bool}
 use Rattle.arc_model.specs.History.{History, heap_after, next_hand, sight, IsLegal}
 use Rattle.arc_model.specs.Lookup.{Spot, spot, is_cell, hand_spot}
-use Rattle.arc_model.specs.SpellingTies.{reference_in, reference_of, reference_to, place_of}
+use Rattle.arc_model.specs.References.{reference_in, reference_of, reference_to, place_of}
 use Rattle.arc_model.proofs.Basics.{None≢Some, Some-inj, in-strong}
 use Rattle.arc_model.proofs.Tally.{no, same-refl}
 use Rattle.arc_model.proofs.Stages.{live-facts}

@@ -16,7 +16,7 @@ use Rattle.arc_model.specs.Cells.{cell, id_of, is_nil, is_live, has_field, are_n
 use Rattle.arc_model.specs.Needs.{needs, passes}
 use Rattle.arc_model.specs.History.{History, heap_after, next_hand, sight, IsLegal}
 use Rattle.arc_model.specs.Lookup.{spot, duty_of}
-use Rattle.arc_model.specs.SpellingTies.{reference_in}
+use Rattle.arc_model.specs.References.{reference_in}
 use Rattle.arc_model.proofs.Basics.{Some-inj, true≢false, some-strong}
 use Rattle.arc_model.proofs.Tally.{both, same-refl}
 use Rattle.arc_model.proofs.Courses.{well_formed}

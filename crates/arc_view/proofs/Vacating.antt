@@ -19,7 +19,7 @@ use Rattle.arc_model.specs.Needs.{needs, passes}
 use Rattle.arc_model.specs.WellFormed.{more, in_slot_times, keeps_fields}
 use Rattle.arc_model.specs.History.{History, heap_after, next_hand, sight, IsLegal}
 use Rattle.arc_model.specs.Lookup.{duty_of, is_cell}
-use Rattle.arc_model.specs.SpellingTies.{reference_in, reference_of, place_of}
+use Rattle.arc_model.specs.References.{reference_in, reference_of, place_of}
 use Rattle.arc_model.proofs.Basics.{None≢Some, Some-inj, true≢false, empty-is, none-strong}
 use Rattle.arc_model.proofs.Tally.{clash}
 use Rattle.arc_model.proofs.Turns.{IsPut, put-found, place-put, total-put}

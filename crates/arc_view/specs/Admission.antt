@@ -13,7 +13,7 @@ use Rattle.arc_model.specs.Shapes.{HeapShape}
 use Rattle.arc_model.specs.Heaps.{Duty, Deinit, Vacating, Gone, Field as field_holder, Object}
 use Rattle.arc_model.specs.Holders.{at_slot}
 use Rattle.arc_model.specs.Cells.{has_field, is_nil, are_all_nil, cell_shape}
-use Rattle.arc_model.specs.SpellingTies.{name_of}
+use Rattle.arc_model.specs.References.{name_of}
 use Rattle.arc_rule.specs.declared.step.Step.{Step}
 use Rattle.arc_rule.specs.declared.step.Step.TheVariants.{Load, Exchange, Store, Or, And}
 use Rattle.arc_rule.specs.declared.step.Intent.{Intent}

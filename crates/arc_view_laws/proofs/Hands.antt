@@ -14,7 +14,7 @@ use Rattle.arc_view.specs.Holding.{heap_of}
 use Rattle.arc_view.specs.Kinds.{act_of, event_list}
 use Rattle.arc_model.proofs.Others.{others_leave}
 use Rattle.arc_view_laws.specs.Hands.{OwnHands, HandsTold, hand_after}
-use Rattle.arc_view_laws.proofs.HandSpots.{hand_same}
+use Rattle.arc_model.proofs.HandSpots.{hand_same}
 
 number_is : (m : Option ℕ) (k : ℕ) → is_number m k ≡ true → m ≡ Some k
 number_is None k e = no e

@@ -1,4 +1,3 @@
-pub mod HandSpots
 pub mod Hands
 pub mod Growing
 pub mod Moving

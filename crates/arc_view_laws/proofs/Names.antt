@@ -8,7 +8,7 @@ use Rattle.arc_model.specs.Shapes.{HeapShape}
 use Rattle.arc_model.specs.Heaps.{Object}
 use Rattle.arc_model.specs.Holders.{made_by}
 use Rattle.arc_model.specs.History.{History, heap_after}
-use Rattle.arc_model.specs.SpellingTies.{name_of}
+use Rattle.arc_model.specs.References.{name_of}
 use Rattle.arc_model.proofs.Basics.{None≢Some, Some-inj}
 use Rattle.arc_rule.specs.Isa.{IsName, IsIsaWord, isa_word_of, isa_name_of}
 use Rattle.arc_view.specs.Holding.{At}

@@ -1,4 +1,4 @@
-use Rattle.arc_ops_passes.proofs.Laws.{phases_are_done, scripts_name_variables, phases_begin}
+use Rattle.arc_ops_passes.proofs.Phases.{phases_are_done, scripts_name_variables, phases_begin}
 use Rattle.arc_ops_passes.proofs.phases_begin.Goals as goal
 
 pub returns-clause-done : goal.returns-clause-done

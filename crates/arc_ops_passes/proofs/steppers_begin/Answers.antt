@@ -1,4 +1,4 @@
-use Rattle.arc_ops_passes.proofs.Laws.{new_steppers_drive as law}
+use Rattle.arc_ops_passes.proofs.Phases.{new_steppers_drive as law}
 use Rattle.arc_ops_passes.proofs.steppers_begin.Goals as goal
 
 pub returns : goal.returns

@@ -1,4 +1,4 @@
-use Rattle.arc_schedule.proofs.Worked.{places_come_first as places, accesses_end_first as accesses, operations_tell as events, blocks_are_run as blocks, loads_give as loads, loads_find_dead as loads-dead, gets_copy as gets, sets_swap as sets, ends_clear as ends}
+use Rattle.arc_schedule.proofs.Worked.{places_come_first as places, accesses_end_first as accesses, operations_tell as events, blocks_are_run as blocks, loads_give as loads, loads_find_dead as loads-dead, gets_copy as gets, sets_swap as sets, ends_clear as ends, deinits_nest as deinits}
 use Rattle.arc_schedule.proofs.schedules_are_followed.Goals as goal
 
 pub returns-clause-places : goal.returns-clause-places
@@ -27,3 +27,6 @@ returns-clause-sets c = sets
 
 pub returns-clause-end_section : goal.returns-clause-end_section
 returns-clause-end_section c = ends
+
+pub returns-clause-deinits : goal.returns-clause-deinits
+returns-clause-deinits c = deinits

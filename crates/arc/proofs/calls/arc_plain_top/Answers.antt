@@ -4,6 +4,9 @@ use Rattle.arc_model.proofs.Basics.{Some-inj}
 use Rattle.arc_command.specs.Commands.{command_of}
 use Rattle.arc.proofs.Printed.{prints_schedule, prints_phases, prints_main_last, prints_no_other, prints_once, prints_deinits, prints_loads, prints_slots, prints_entries, prints_no_claim, prints_leaves}
 use Rattle.arc.specs.Statuses.{Sends, ended, number_of}
+use Rattle.arc_command.specs.declared.command.Command.{Command}
+use Rattle.arc.specs.Outputs.{IsUnservedInput}
+use Rattle.arc.proofs.Unserved.{gives_nothing, asked_of}
 use Rattle.arc.proofs.Judged.{told_legal, not_refused}
 use Rattle.arc.proofs.calls.arc_plain_top.Goals as goal
 
@@ -99,3 +102,15 @@ pub returns-in-Ok-refused_line-clause-replays_are_legal : goal.returns-in-Ok-ref
 returns-in-Ok-refused_line-clause-replays_are_legal g c = λ is events had read wrote.
     let cause = rw c.in-Err-Refused.field-0-is at c.in-Err-Refused.ensures.fault in
     absurd (not_refused (g.S.Source.left c.args.source.now) events had c.in-Some.command (Some-inj (c.in-Some.ensures.command ∙ is)) c.in-Err-Refused.line c.in-Err-Refused.why cause.0)
+
+pub returns-in-Ok-write_all-clause-refuses : goal.returns-in-Ok-write_all-clause-refuses
+returns-in-Ok-write_all-clause-refuses g c = λ unserved read.
+    let left = g.S.Source.left c.args.source.now in
+    let asked = asked_of (command_of c.args.words.now) c.in-Some.command (λ (x : Command). IsUnservedInput x left) c.in-Some.ensures.command unserved in
+    absurd (gives_nothing c.in-Some.command left c.in-Ok.output.legal c.in-Ok.output.text.items c.in-Ok.ensures.output asked)
+
+pub returns-in-Ok-clause-refuses : goal.returns-in-Ok-clause-refuses
+returns-in-Ok-clause-refuses g c = λ unserved read.
+    let left = g.S.Source.left c.args.source.now in
+    let asked = asked_of (command_of c.args.words.now) c.in-Some.command (λ (x : Command). IsUnservedInput x left) c.in-Some.ensures.command unserved in
+    absurd (gives_nothing c.in-Some.command left c.in-Ok.output.legal c.in-Ok.output.text.items c.in-Ok.ensures.output asked)

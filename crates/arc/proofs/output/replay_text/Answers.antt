@@ -11,11 +11,11 @@ report_text-requires-clause-end c =
 
 pub report_text-requires-clause-words : goal.report_text-requires-clause-words
 report_text-requires-clause-words c =
-    rw c.deref-3.ensures.value (final_words c.args.script.now.shape _ c.in_ok-replay.ensures.left)
+    rw c.deref-3.ensures.value (final_words c.args.script.now.shape _ c.in_ok-replay.ensures.no_entries)
 
 pub report_text-requires-clause-classes : goal.report_text-requires-clause-classes
 report_text-requires-clause-classes c =
-    rw c.deref-3.ensures.value (classes_there c.args.script.now _ c.requires.script c.in_ok-replay.ensures.left)
+    rw c.deref-3.ensures.value (classes_there c.args.script.now _ c.requires.script c.in_ok-replay.ensures.no_entries)
 
 pub history_text-requires-clause-events : goal.history_text-requires-clause-events
 history_text-requires-clause-events c =

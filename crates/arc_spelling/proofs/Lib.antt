@@ -1,0 +1,10 @@
+pub mod SpellOrder
+pub mod SpellTies
+pub mod SpellGains
+pub mod SpellSteps
+pub mod SpellWorked
+pub mod SpellWorkedKinds
+pub mod SpellLaws
+pub mod SpellHands
+pub mod SpellRefused
+pub mod SpellWorkedFields
