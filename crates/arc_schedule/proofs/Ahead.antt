@@ -294,11 +294,11 @@ ahead-by-number script s p t new m ms left place below h outside newest after sa
         (subst (λ (xs : List Made). ending_of (in_access (extent_of script.shape) (own p ms)) (own p ms) xs ++ other_of (in_access (extent_of script.shape) (own p ms)) (own p ms) xs ≡ xs) (sym m_first)
         (whole-before (in_access (extent_of script.shape) (own p ms)) refl)))
 
--- the first thread inside an access is to end its operation
-pub ahead-inside : (script : Script) (s : Stage) (p : ℕ) (ms left : List Made) → s.places ≡ [] → 1 ≤ p → p ≤ length script.threads →
-    AreOutside (extent_of script.shape) (length script.threads) ms (λ q. q < p) → in_access (extent_of script.shape) (own p ms) ≡ true → IsAhead script p s ms left → IsAhead script 0 s ms left
-ahead-inside script s zero ms left place first few outside inside a = absurd (omega arith)
-ahead-inside script s (suc e) ms left place first few outside inside a = record {
+-- what is to come, where the same steps stand in order with another thread that ends its operation, or with none
+ahead-with : (script : Script) (s : Stage) (was ending : ℕ) (ms left : List Made) → s.places ≡ [] → (a : IsAhead script was s ms left) →
+    ((r : RunsOut (extent_of script.shape) (length script.threads) (s.begun - 1) was s.threads ms left) →
+    arrangement (extent_of script.shape) (length script.threads) was ms r.here ≡ arrangement (extent_of script.shape) (length script.threads) ending ms r.here) → IsAhead script ending s ms left
+ahead-with script s was ending ms left place a same = record {
   later = a.later;
   none = a.none;
   some = a.some;
@@ -312,13 +312,20 @@ ahead-inside script s (suc e) ms left place first few outside inside a = record 
     none = r.none;
     sorted = r.sorted;
     behind = r.behind;
-    arranged = r.arranged ∙ sym (numbers-inside (extent_of script.shape) (length script.threads) e ms r.here few outside inside);
+    arranged = r.arranged ∙ same r;
     rest = r.rest;
   });
 }
   where
-    r : RunsOut (extent_of script.shape) (length script.threads) (s.begun - 1) (suc e) s.threads ms left
-    r = subst (λ (ps : List ℕ). OrderFor (extent_of script.shape) (length script.threads) (s.begun - 1) (suc e) s.threads ps ms left) place a.order
+    r : RunsOut (extent_of script.shape) (length script.threads) (s.begun - 1) was s.threads ms left
+    r = subst (λ (ps : List ℕ). OrderFor (extent_of script.shape) (length script.threads) (s.begun - 1) was s.threads ps ms left) place a.order
+
+-- the first thread inside an access is to end its operation
+pub ahead-inside : (script : Script) (s : Stage) (p : ℕ) (ms left : List Made) → s.places ≡ [] → 1 ≤ p → p ≤ length script.threads →
+    AreOutside (extent_of script.shape) (length script.threads) ms (λ q. q < p) → in_access (extent_of script.shape) (own p ms) ≡ true → IsAhead script p s ms left → IsAhead script 0 s ms left
+ahead-inside script s zero ms left place first few outside inside a = absurd (omega arith)
+ahead-inside script s (suc e) ms left place first few outside inside a =
+    ahead-with script s (suc e) 0 ms left place a (λ r. sym (numbers-inside (extent_of script.shape) (length script.threads) e ms r.here few outside inside))
 
 -- it makes a step of the operation
 pub ahead-ends-it : (script : Script) (s : Stage) (p : ℕ) (t new : Thread) (m : Made) (ms left : List Made) → s.places ≡ [] → MadeBy script s p t new m → IsNewest p (s.begun - 1) (op_now t) ms →
@@ -346,31 +353,12 @@ ahead-ends-it script s (suc e) t new m ms left place h newest after same many a 
 pub ahead-outside : (script : Script) (s : Stage) (p : ℕ) (t : Thread) (newest : Made) (rest ms left : List Made) → s.places ≡ [] → 1 ≤ p → 1 ≤ s.begun → slice_get s.threads p ≡ Some t → own p ms ≡ newest ∷ rest →
     (has_step t ≡ true → IsBehind newest.point.operation (op_now t)) → IsAhead script 0 s ms left → IsAhead script p s ms left
 ahead-outside script s zero t newest rest ms left place first begun there own_is behind a = absurd (omega arith)
-ahead-outside script s (suc e) t newest rest ms left place first begun there own_is behind a = record {
-  later = a.later;
-  none = a.none;
-  some = a.some;
-  last = a.last;
-  order = rw place (record {
-    here = r.here;
-    later = r.later;
-    left_is = r.left_is;
-    all_in = r.all_in;
-    all_of = r.all_of;
-    none = r.none;
-    sorted = r.sorted;
-    behind = r.behind;
-    arranged = r.arranged ∙ sym (numbers-outside (extent_of script.shape) (length script.threads) e newest rest ms r.here own_is (all_behind (has_step t) refl));
-    rest = r.rest;
-  });
-}
+ahead-outside script s (suc e) t newest rest ms left place first begun there own_is behind a =
+    ahead-with script s 0 (suc e) ms left place a (λ r. sym (numbers-outside (extent_of script.shape) (length script.threads) e newest rest ms r.here own_is (all_behind r (has_step t) refl)))
   where
-    r : RunsOut (extent_of script.shape) (length script.threads) (s.begun - 1) 0 s.threads ms left
-    r = subst (λ (ps : List ℕ). OrderFor (extent_of script.shape) (length script.threads) (s.begun - 1) 0 s.threads ps ms left) place a.order
-
-    all_behind : (b : Bool) → has_step t ≡ b → AllBehind newest.point.operation (own (suc e) r.here)
-    all_behind true has = all-behind newest.point.operation (op_now t) (own (suc e) r.here) (behind has) (r.behind (suc e) t first there has)
-    all_behind false has =
+    all_behind : (r : RunsOut (extent_of script.shape) (length script.threads) (s.begun - 1) 0 s.threads ms left) → (b : Bool) → has_step t ≡ b → AllBehind newest.point.operation (own (suc e) r.here)
+    all_behind r true has = all-behind newest.point.operation (op_now t) (own (suc e) r.here) (behind has) (r.behind (suc e) t first there has)
+    all_behind r false has =
         let nothing : own (suc e) r.here ≡ [] = none-here (s.begun - 1) (suc e) r.here r.later r.all_in (ap (λ (xs : List Made). steps_of (s.begun - 1) (suc e) xs) (sym r.left_is) ∙ a.none (suc e) t first there has begun) in
         rw nothing tt
 

@@ -1,5 +1,5 @@
 -- What a stepper that stands for its steps asks for, and what it stands for where it has ended.
-use Rattle.std.proofs.Common.{◌≡◌, ℕ, ◌+◌, true, false, List, Some, None, refl, ap, ◌∙◌}
+use Rattle.std.proofs.Common.{◌≡◌, ℕ, ◌+◌, true, false, List, Some, None, refl, sym, ap, subst, ◌∙◌}
 use Rattle.arc_rule.specs.declared.step.Step.{Step}
 use Rattle.arc_cells.specs.Chains.{Frame}
 use Rattle.arc_ops.specs.declared.stepper.Doing.{Doing}
@@ -44,40 +44,40 @@ has-ended t e f = go t.asked e f
     go moves.PhaseEnd e f = absurd (cc)
     go moves.Ended e f = refl
 
+ended-doing : (k : Task) (n : ℕ) {chain : List Frame} (t : Thread) (now : List Made) → Stands k n chain t now → t.asked ≡ moves.Ended → t.doing ≡ Ended
+ended-doing k n {chain = chain} t now st ended = go t.doing (idle-here k n t now st (ap step_in ended)) st.up_to
+  where
+    go : (d : Doing) → IsIdle d → UpTo k chain st.job st.at t.vars t.made t.hands t.asked now d → d ≡ Ended
+    go Ready i u = let e = u.0 in absurd (cc)
+    go (Making to name plan) i u = absurd i
+    go (Gaining gain to held plan) i u = absurd i
+    go (Naming to held plan) i u = absurd i
+    go (Opening to cell plan) i u = absurd i
+    go (Closing to cell held plan) i u = absurd i
+    go (Setting from cell plan) i u = absurd i
+    go (Clearing plan) i u = absurd i
+    go (Vacating slot plan) i u = absurd i
+    go (Dropping held plan) i u = absurd i
+    go (Dying c) i u = absurd i
+    go Ended i u = refl
+
 -- a thread that has ended stays so, however many phases have begun
 pub ended-stays : (k : Task) (n m : ℕ) {chain : List Frame} (t : Thread) (now : List Made) → Stands k n chain t now → t.asked ≡ moves.Ended → Stands k m chain t now
-ended-stays k n m {chain = chain} t now st ended = record { job = st.job; at = st.at; phases = st.phases; phased = go t.doing (idle-here k n t now st (ap step_in ended)) st.up_to; works = st.works; vars_in = st.vars_in; placed = st.placed; up_to = st.up_to }
-  where
-    go : (d : Doing) → IsIdle d → UpTo k chain st.job st.at t.vars t.made t.hands t.asked now d → IsIn m st.phases d
-    go Ready i u = let e = u.0 in absurd (cc)
-    go (Making to name plan) i u = absurd i
-    go (Gaining gain to held plan) i u = absurd i
-    go (Naming to held plan) i u = absurd i
-    go (Opening to cell plan) i u = absurd i
-    go (Closing to cell held plan) i u = absurd i
-    go (Setting from cell plan) i u = absurd i
-    go (Clearing plan) i u = absurd i
-    go (Vacating slot plan) i u = absurd i
-    go (Dropping held plan) i u = absurd i
-    go (Dying c) i u = absurd i
-    go Ended i u = tt
+ended-stays k n m t now st ended = record {
+  job = st.job;
+  at = st.at;
+  phases = st.phases;
+  phased = subst (λ (d : Doing). IsIn m st.phases d) (sym (ended-doing k n t now st ended)) tt;
+  works = st.works;
+  vars_in = st.vars_in;
+  placed = st.placed;
+  up_to = st.up_to;
+}
 
 pub whole : (k : Task) (n : ℕ) {chain : List Frame} (t : Thread) (now : List Made) → Stands k n chain t now → t.asked ≡ moves.Ended → IsWhole k now
-whole k n {chain = chain} t now st ended = go t.doing (idle-here k n t now st (ap step_in ended)) st.up_to
-  where
-    go : (d : Doing) → IsIdle d → UpTo k chain st.job st.at t.vars t.made t.hands t.asked now d → IsWhole k now
-    go Ready i u = let e = u.0 in absurd (cc)
-    go (Making to name plan) i u = absurd i
-    go (Gaining gain to held plan) i u = absurd i
-    go (Naming to held plan) i u = absurd i
-    go (Opening to cell plan) i u = absurd i
-    go (Closing to cell held plan) i u = absurd i
-    go (Setting from cell plan) i u = absurd i
-    go (Clearing plan) i u = absurd i
-    go (Vacating slot plan) i u = absurd i
-    go (Dropping held plan) i u = absurd i
-    go (Dying c) i u = absurd i
-    go Ended i u = u.1
+whole k n {chain = chain} t now st ended =
+    let up_to : UpTo k chain st.job st.at t.vars t.made t.hands t.asked now Ended = subst (λ (d : Doing). UpTo k chain st.job st.at t.vars t.made t.hands t.asked now d) (ended-doing k n t now st ended) st.up_to in
+    up_to.1
 
 -- a step belongs to the phase that has begun last
 pub in-phase : (k : Task) (n : ℕ) {chain : List Frame} (t : Thread) (step : Step) (now : List Made) (st : Stands k n chain t now) → step_in t.asked ≡ Some step → st.job.phase + 1 ≡ n

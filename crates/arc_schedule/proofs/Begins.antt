@@ -58,7 +58,7 @@ use Rattle.arc_schedule.proofs.Phases.{all-ops, phase-next, phase-rest}
 use Rattle.arc_schedule.proofs.Newest.{IsHere, IsPast, Newest, Passed, passed-on, passed-phase, passed-here, passed-scope, passed-it}
 use Rattle.arc_schedule.proofs.Given.{waits, begun-from}
 use Rattle.arc_schedule.proofs.Deinits.{ref}
-use Rattle.arc_schedule.proofs.Stands.{Task, Job, kinds_here, classes_here, start_of, refs, state_of, AreDone, here, IsInScope, IsOverIf, IsOver, AreServed, IsCellOf, gain_plan, set_plan, Works, WorksAt, IsAt, AreIn, Stands}
+use Rattle.arc_schedule.proofs.Stands.{Task, Job, kinds_here, classes_here, start_of, refs, state_of, AreDone, here, IsInScope, IsOverIf, IsOver, AreServed, IsCellOf, gain_plan, set_plan, Works, WorksAt, IsAt, AreIn, Stands, under-way}
 use Rattle.arc_schedule.proofs.Variables.{value-ref, put-ref, none-held, not-held, held-in, nil-in, one-in, block-is, word-is}
 use Rattle.arc_schedule.proofs.Cells.{cell-is, owner-is, no-cell}
 
@@ -171,22 +171,13 @@ pub drop-asks : {n : ℕ} {chain : List Frame} (k : Task) (j : Job k) (i : ℕ) 
 drop-asks {n = n} {chain = chain} k j i t held now begin works vars at newest inside starts ends =
     let plan : Plan Fall DownAnswer = down (extent_of k.shape) held.kind held.place held.hand in
     let same : plan.start ≡ drop_from held t = rw works.layout_is refl in
-    record {
-      job = j;
-      at = i;
-      phases = n;
-      phased = refl;
-      works = works;
-      vars_in = vars;
-      placed = (at, newest);
-      up_to = record {
-        base = begin;
-        ends = ends;
-        waits = waits plan (here k j i) begin now _ _ (begun-from plan (here k j i) begin now (drop_from held t) starts same);
-        inside = inside;
-        bare = refl;
-      };
-    }
+    under-way k j i refl works vars (at, newest) (record {
+      base = begin;
+      ends = ends;
+      waits = waits plan (here k j i) begin now _ _ (begun-from plan (here k j i) begin now (drop_from held t) starts same);
+      inside = inside;
+      bare = refl;
+    })
 
 -- a reference is gained of another
 pub gain-asks : {n : ℕ} {chain : List Frame} (k : Task) (j : Job k) (i : ℕ) (gain : Gain) (to from : ℕ) (t : Thread) (held : Held) (now begin : List Made) → WorksAt k j i n t → AreIn k t.vars → IsAt k j i → Newest (here k j i) t.first now →
@@ -195,25 +186,16 @@ pub gain-asks : {n : ℕ} {chain : List Frame} (k : Task) (j : Job k) (i : ℕ) 
 gain-asks {n = n} {chain = chain} k j i gain to from t held now begin works vars at newest done there source starts =
     let plan : Plan Rise UpAnswer = gain_plan k gain held t.hands in
     let same : plan.start ≡ gain_from gain (of_hand held) t = rw (works.layout_is, works.shape_is) refl in
-    record {
-      job = j;
-      at = i;
-      phases = n;
-      phased = refl;
-      works = works;
-      vars_in = vars;
-      placed = (at, newest);
-      up_to = record {
-        base = begin;
-        from = from;
-        done = done;
-        there = there;
-        source = source;
-        waits = waits plan (here k j i) begin now _ _ (begun-from plan (here k j i) begin now (gain_from gain (of_hand held) t) starts same);
-        inside = held-in k t.vars from held vars source;
-        bare = refl;
-      };
-    }
+    under-way k j i refl works vars (at, newest) (record {
+      base = begin;
+      from = from;
+      done = done;
+      there = there;
+      source = source;
+      waits = waits plan (here k j i) begin now _ _ (begun-from plan (here k j i) begin now (gain_from gain (of_hand held) t) starts same);
+      inside = held-in k t.vars from held vars source;
+      bare = refl;
+    })
 
 -- an access to a global begins
 pub open-asks : {n : ℕ} {chain : List Frame} (k : Task) (j : Job k) (i to : ℕ) (cell : Cell) (of : OpCell) (t : Thread) (now begin : List Made) → IsCellOf k t.vars of cell.name cell.kind → WorksAt k j i n t → AreIn k t.vars → IsAt k j i → Newest (here k j i) t.first now →
@@ -222,24 +204,15 @@ pub open-asks : {n : ℕ} {chain : List Frame} (k : Task) (j : Job k) (i to : �
 open-asks {n = n} {chain = chain} k j i to cell of t now begin cell_is works vars at newest done there starts =
     let plan : Plan Beginning BeginAnswer = begin_access (extent_of k.shape) cell.name in
     let same : plan.start ≡ open_from cell t = rw works.layout_is refl in
-    record {
-      job = j;
-      at = i;
-      phases = n;
-      phased = refl;
-      works = works;
-      vars_in = vars;
-      placed = (at, newest);
-      up_to = record {
-        of = of;
-        cell_is = cell_is;
-        base = begin;
-        done = done;
-        there = there;
-        waits = waits plan (here k j i) begin now _ _ (begun-from plan (here k j i) begin now (open_from cell t) starts same);
-        word = tt;
-      };
-    }
+    under-way k j i refl works vars (at, newest) (record {
+      of = of;
+      cell_is = cell_is;
+      base = begin;
+      done = done;
+      there = there;
+      waits = waits plan (here k j i) begin now _ _ (begun-from plan (here k j i) begin now (open_from cell t) starts same);
+      word = tt;
+    })
 
 pub set-asks : {n : ℕ} {chain : List Frame} (k : Task) (j : Job k) (i from : ℕ) (cell : Cell) (of : OpCell) (t : Thread) (now begin : List Made) → IsCellOf k t.vars of cell.name cell.kind → WorksAt k j i n t → AreIn k t.vars → IsAt k j i → Newest (here k j i) t.first now →
     AreDone k j i (state_of t.vars t.made t.hands) begin → slice_get j.ops i ≡ Some (op.Set of from) →
@@ -247,24 +220,15 @@ pub set-asks : {n : ℕ} {chain : List Frame} (k : Task) (j : Job k) (i from : �
 set-asks {n = n} {chain = chain} k j i from cell of t now begin cell_is works vars at newest done there starts =
     let plan : Plan SwapAttempt SwapAnswer = set_plan k cell.name (value t.vars from) t.hands in
     let same : plan.start ≡ swap_from cell.name (value t.vars from) t = rw (works.layout_is, word-is (value t.vars from)) refl in
-    record {
-      job = j;
-      at = i;
-      phases = n;
-      phased = refl;
-      works = works;
-      vars_in = vars;
-      placed = (at, newest);
-      up_to = record {
-        of = of;
-        cell_is = cell_is;
-        base = begin;
-        done = done;
-        there = there;
-        waits = waits plan (here k j i) begin now _ _ (begun-from plan (here k j i) begin now (swap_from cell.name (value t.vars from) t) starts same);
-        word = tt;
-      };
-    }
+    under-way k j i refl works vars (at, newest) (record {
+      of = of;
+      cell_is = cell_is;
+      base = begin;
+      done = done;
+      there = there;
+      waits = waits plan (here k j i) begin now _ _ (begun-from plan (here k j i) begin now (swap_from cell.name (value t.vars from) t) starts same);
+      word = tt;
+    })
 
 -- ---- the end of the scope
 
@@ -504,26 +468,17 @@ begins-op : {n : ℕ} {chain : List Frame} (k : Task) (j : Job k) → AreServed 
 begins-op {n = n} {chain = chain} k j served (op.New to class) i t now works vars there passed d rest next =
     let name : ObjectName = record { class = class; thread = t.thread; number = t.made + 1 } in
     let same : record { layout = extent_of k.shape; name = name; immortal = (class_at k.shape class).immortal; at = search.Start } ≡ creation_from t name = rw (works.layout_is, works.shape_is) refl in
-    record {
-      job = j;
-      at = i;
-      phases = n;
-      phased = refl;
-      works = works;
-      vars_in = vars;
-      placed = (is-at k j i (op.New to class) there refl, newest-first k j i (op.New to class) now there refl passed);
-      up_to = record {
-        base = now;
-        before = t.made;
-        held = t.hands;
-        done = d;
-        there = there;
-        named = rw works.thread_is refl;
-        waits = waits (new_object (extent_of k.shape) (class_at k.shape class).immortal name (t.hands + 1)) (here k j i) now now _ _
-            (begun-from (new_object (extent_of k.shape) (class_at k.shape class).immortal name (t.hands + 1)) (here k j i) now now (creation_from t name) starts_first same);
-        count = (refl, refl);
-      };
-    }
+    under-way k j i refl works vars (is-at k j i (op.New to class) there refl, newest-first k j i (op.New to class) now there refl passed) (record {
+      base = now;
+      before = t.made;
+      held = t.hands;
+      done = d;
+      there = there;
+      named = rw works.thread_is refl;
+      waits = waits (new_object (extent_of k.shape) (class_at k.shape class).immortal name (t.hands + 1)) (here k j i) now now _ _
+          (begun-from (new_object (extent_of k.shape) (class_at k.shape class).immortal name (t.hands + 1)) (here k j i) now now (creation_from t name) starts_first same);
+      count = (refl, refl);
+    })
 begins-op {n = n} {chain = chain} k j served (op.Copy to from) i t now works vars there passed d rest next = gains-op k j gains.Copy to from i t now works vars there passed d rest next
 begins-op {n = n} {chain = chain} k j served (op.Unown to of) i t now works vars there passed d rest next = gains-op k j gains.Unown to of i t now works vars there passed d rest next
 begins-op {n = n} {chain = chain} k j served (op.Load to of) i t now works vars there passed d rest next = gains-op k j gains.Load to of i t now works vars there passed d rest next

@@ -49,22 +49,10 @@ use Rattle.arc_schedule.specs.Threads.GlobalsCleared.{none as globals_none, one 
 use Rattle.arc_schedule.proofs.Lists.{equal}
 use Rattle.arc_schedule.proofs.Given.{Gave, waits, begun-from, given, gives, starts-again}
 use Rattle.arc_schedule.proofs.Deinits.{ref, dying-asks, IsBare}
-use Rattle.arc_schedule.proofs.Stands.{step_in, IsClearing, FirstUpTo, StandsFirst}
+use Rattle.arc_schedule.proofs.Stands.{step_in, IsClearing, FirstUpTo, IsThreadZero, StandsFirst}
 use Rattle.arc_schedule.proofs.Tells.{idle, clears-tells, drops-tells, ends-tells}
 use Rattle.arc_schedule.proofs.Lasts.{Lasts, drops, slot-ends}
 use Rattle.arc_schedule.proofs.Dies.{dies-on}
-
--- the thread is in the heap of the script, and has neither phases nor variables
-pub record IsThreadZero (shape : HeapShape) (t : Thread) : Type 0 where
-  pub layout_is : t.layout ≡ extent_of shape
-  pub shape_is : t.shape ≡ shape
-  pub thread_is : t.thread ≡ 0
-  pub phases_is : t.phases ≡ []
-  pub program_is : t.program ≡ []
-  pub vars_is : t.vars ≡ []
-
-pub is-zero : (shape : HeapShape) (chain : List Frame) (t : Thread) (now : List Made) → StandsFirst shape chain t now → IsThreadZero shape t
-is-zero shape chain t now st = record { layout_is = st.layout_is; shape_is = st.shape_is; thread_is = st.thread_is; phases_is = st.phases_is; program_is = st.program_is; vars_is = st.vars_is }
 
 -- the next global is cleared
 clear-asks : (shape : HeapShape) (chain : List Frame) (t : Thread) (now begin : List Made) → IsThreadZero shape t → GlobalsCleared shape t.cleared t.hands begin → t.cleared < length shape.globals →
@@ -73,12 +61,7 @@ clear-asks shape chain t now begin z so_far there starts =
     let plan : Plan SwapAttempt SwapAnswer = swap (extent_of shape) (cells.Global t.cleared) 0 None (t.hands + 1) in
     let same : plan.start ≡ swap_from (next_global t).name None t = rw z.layout_is refl in
     record {
-      layout_is = z.layout_is;
-      shape_is = z.shape_is;
-      thread_is = z.thread_is;
-      phases_is = z.phases_is;
-      program_is = z.program_is;
-      vars_is = z.vars_is;
+      works = z;
       up_to = record { base = begin; so_far = so_far; there = there; waits = waits plan end_point begin now _ _ (begun-from plan end_point begin now (swap_from (next_global t).name None t) starts same); word = tt };
     }
 
@@ -104,12 +87,7 @@ clears-on shape chain t now z so_far =
     go : (b : Bool) → ltb t.cleared t.layout.globals ≡ b → StandsFirst shape chain (cond b (clear_begun t) (record t { doing = Ended; asked = moves.Ended })) now
     go true e = clear-asks shape chain t now now z so_far (let below = ltb-true t.cleared t.layout.globals e in let m = many in omega arith) starts_first
     go false e = record {
-      layout_is = z.layout_is;
-      shape_is = z.shape_is;
-      thread_is = z.thread_is;
-      phases_is = z.phases_is;
-      program_is = z.program_is;
-      vars_is = z.vars_is;
+      works = z;
       up_to = (refl, let past = ltb-false t.cleared t.layout.globals e in let m = many in omega arith, so_far);
     }
 
@@ -126,18 +104,17 @@ begins-on shape chain t now z so_far =
 
 next-on : (shape : HeapShape) (chain : List Frame) (t : Thread) (now : List Made) → IsThreadZero shape t → GlobalsCleared shape t.cleared t.hands now → StandsFirst shape chain (next_op t) now
 next-on shape chain t now z so_far =
-    begins-on shape chain (record t { doing = Ended; index = cond (ltb t.index (length t.program)) (t.index + 1) t.index }) now
-    (record { layout_is = z.layout_is; shape_is = z.shape_is; thread_is = z.thread_is; phases_is = z.phases_is; program_is = z.program_is; vars_is = z.vars_is }) so_far
+    begins-on shape chain (record t { doing = Ended; index = cond (ltb t.index (length t.program)) (t.index + 1) t.index }) now z so_far
 
 -- what is dropped behind a global that was cleared
 lasts : (shape : HeapShape) (t : Thread) → IsThreadZero shape t → Lasts shape end_point (GlobalsCleared shape t.cleared) t (StandsFirst shape)
 lasts shape t z = record {
   layout_is = z.layout_is;
   shape_is = z.shape_is;
-  drops = λ chain held plan asked event now u newest. record { layout_is = z.layout_is; shape_is = z.shape_is; thread_is = z.thread_is; phases_is = z.phases_is; program_is = z.program_is; vars_is = z.vars_is; up_to = u };
-  dies = λ chain c asked event kept hands taken now u newest. record { layout_is = z.layout_is; shape_is = z.shape_is; thread_is = z.thread_is; phases_is = z.phases_is; program_is = z.program_is; vars_is = z.vars_is; up_to = u };
-  ends = λ chain slot plan asked event now u newest. record { layout_is = z.layout_is; shape_is = z.shape_is; thread_is = z.thread_is; phases_is = z.phases_is; program_is = z.program_is; vars_is = z.vars_is; up_to = u };
-  over = λ chain event now newest so_far. next-on shape chain (record (idle t) { event = event }) now (record { layout_is = z.layout_is; shape_is = z.shape_is; thread_is = z.thread_is; phases_is = z.phases_is; program_is = z.program_is; vars_is = z.vars_is }) so_far;
+  drops = λ chain held plan asked event now u newest. record { works = z; up_to = u };
+  dies = λ chain c asked event kept hands taken now u newest. record { works = z; up_to = u };
+  ends = λ chain slot plan asked event now u newest. record { works = z; up_to = u };
+  over = λ chain event now newest so_far. next-on shape chain (record (idle t) { event = event }) now z so_far;
 }
 
 -- a global is cleared by one exchange
@@ -161,14 +138,12 @@ clears shape globals t s w now z plan u fits =
 
     again : (a : SwapAnswer) → swap_anew a ≡ true → Gave clearing end_point u.base after (nexts.Done a) (swap_turned plan (Some w)) → StandsFirst shape [] (clear_begun (idle t)) after
     again a anew g =
-        clear-asks shape [] (idle t) after u.base (record { layout_is = z.layout_is; shape_is = z.shape_is; thread_is = z.thread_is; phases_is = z.phases_is; program_is = z.program_is; vars_is = z.vars_is }) u.so_far u.there
-        (starts-again clearing end_point u.base after _ a anew g)
+        clear-asks shape [] (idle t) after u.base z u.so_far u.there (starts-again clearing end_point u.base after _ a anew g)
 
     took : (x : ℕ) → x ≢ 1 → x < shape.slots + 2 → Gives clearing end_point u.base (swaps.Took x) after → (b : Bool) → eqb x 0 ≡ b →
         StandsFirst shape [] (cleared (next_global t) (cond b None (Some (record { hand = t.hands + 1; kind = (next_global t).kind; place = x - 2 }))) (idle t)) after
     took x free below g true e =
-        next-on shape [] (swapped (next_global t).name None None (record (idle t) { cleared = t.cleared + 1 })) after
-        (record { layout_is = z.layout_is; shape_is = z.shape_is; thread_is = z.thread_is; phases_is = z.phases_is; program_is = z.program_is; vars_is = z.vars_is })
+        next-on shape [] (swapped (next_global t).name None None (record (idle t) { cleared = t.cleared + 1 })) after z
         (globals_one u.so_far u.there g nil)
       where
         nil : Drops shape end_point [] (taken (t.hands + 1) (global_kind shape t.cleared) x) (hands_with t.hands x) after t.hands after
@@ -182,12 +157,7 @@ clears shape globals t s w now z plan u fits =
         let v : Thread = swapped (next_global t).name None (Some old) (record (idle t) { cleared = t.cleared + 1 }) in
         let same : falling.start ≡ drop_from old v = rw z.layout_is refl in
         record {
-          layout_is = z.layout_is;
-          shape_is = z.shape_is;
-          thread_is = z.thread_is;
-          phases_is = z.phases_is;
-          program_is = z.program_is;
-          vars_is = z.vars_is;
+          works = z;
           up_to = record {
             base = after;
             ends = λ came end y. globals_one u.so_far u.there g (dropped came end y);
@@ -209,12 +179,7 @@ clears shape globals t s w now z plan u fits =
     go : (a : Next SwapAnswer) → SwappingGoesOn shape.slots (swap_turned plan (Some w)).at a → Gave clearing end_point u.base after a (swap_turned plan (Some w)) →
         StandsFirst shape [] (cleared_on (swap_turned plan (Some w)) a (idle t)) after
     go (nexts.Step s) on g = record {
-      layout_is = z.layout_is;
-      shape_is = z.shape_is;
-      thread_is = z.thread_is;
-      phases_is = z.phases_is;
-      program_is = z.program_is;
-      vars_is = z.vars_is;
+      works = z;
       up_to = record { base = u.base; so_far = u.so_far; there = u.there; waits = waits clearing end_point u.base after _ s g; word = on };
     }
     go (nexts.Done (swaps.Took x)) on g = took x on.0 on.1 (gives clearing end_point u.base after _ (swaps.Took x) refl g) (eqb x 0) refl
@@ -226,14 +191,11 @@ pub keeps-first : (shape : HeapShape) → All IsServedClass shape.classes → Al
     FitsChain t chain (Some w) → IsBare (turned t (Some w)).doing → StandsFirst shape (chain_after t (Some w) chain) (turned t (Some w)) (made_at end_point s w (turned t (Some w)).event ∷ now)
 keeps-first shape classes globals chain t s w now st asked takes fits bare = go t.doing st.up_to takes.0 fits bare
   where
-    z : IsThreadZero shape t
-    z = is-zero shape chain t now st
-
     Left : List Frame → Thread → Option Act → Type 0
     Left fs u e = StandsFirst shape fs u (made_at end_point s w e ∷ now)
 
     slots-are : t.shape.slots ≡ shape.slots
-    slots-are = ap (λ (h : HeapShape). h.slots) st.shape_is
+    slots-are = ap (λ (h : HeapShape). h.slots) st.works.shape_is
 
     go : (d : Doing) → FirstUpTo shape chain t.cleared t.hands t.asked now d → takes_at t.shape (Some w) d → FitsChainAt chain (Some w) d → IsBare (turned_at (Some w) d (idle t)).doing →
         Left (chain_at (Some w) chain d) (turned_at (Some w) d (idle t)) (turned_at (Some w) d (idle t)).event
@@ -247,16 +209,16 @@ keeps-first shape classes globals chain t s w now st asked takes fits bare = go 
     go (Clearing plan) u takes fits bare =
         subst (λ (e : Option Act). Left [] (cleared_on (swap_turned plan (Some w)) (swap_answer plan (Some w)) (idle t)) e)
         (sym (clears-tells t (swap_turned plan (Some w)) (swap_answer plan (Some w))))
-        (clears shape globals t s w now z plan (rw asked at u) (subst (λ (m : ℕ). IsCellAt m plan.at w) slots-are takes.1))
+        (clears shape globals t s w now st.works plan (rw asked at u) (subst (λ (m : ℕ). IsCellAt m plan.at w) slots-are takes.1))
     go (Dropping held plan) u takes fits bare =
         subst (λ (e : Option Act). Left [] (dropped_on held (down_turned plan (Some w)) (down_answer plan (Some w)) (idle t)) e)
         (sym (drops-tells t held (down_turned plan (Some w)) (down_answer plan (Some w))))
-        (drops shape end_point (GlobalsCleared shape t.cleared) t (StandsFirst shape) (lasts shape t z) s w now held plan (rw asked at u) takes.1)
+        (drops shape end_point (GlobalsCleared shape t.cleared) t (StandsFirst shape) (lasts shape t st.works) s w now held plan (rw asked at u) takes.1)
     go (Vacating slot plan) u takes fits bare =
         subst (λ (e : Option Act). Left [] (vacated_on slot (one_turned plan (Some w)) (vacate_answer plan (Some w)) (idle t)) e)
         (sym (ends-tells t slot (one_turned plan (Some w)) (vacate_answer plan (Some w))))
-        (slot-ends shape end_point (GlobalsCleared shape t.cleared) t (StandsFirst shape) (lasts shape t z) s w now slot plan (rw asked at u))
-    go (Dying c) u takes fits bare = dies-on shape end_point (GlobalsCleared shape t.cleared) t (StandsFirst shape) (lasts shape t z) classes chain s w now c (rw asked at u) takes fits bare
+        (slot-ends shape end_point (GlobalsCleared shape t.cleared) t (StandsFirst shape) (lasts shape t st.works) s w now slot plan (rw asked at u))
+    go (Dying c) u takes fits bare = dies-on shape end_point (GlobalsCleared shape t.cleared) t (StandsFirst shape) (lasts shape t st.works) classes chain s w now c (rw asked at u) takes fits bare
     go Ended u takes fits bare = absurd takes
 
 -- It begins without a step.
@@ -267,8 +229,7 @@ begins-first shape chain t now st takes asked = go t.doing st.up_to takes.0
     none = ap step_in asked
 
     go : (d : Doing) → FirstUpTo shape chain t.cleared t.hands t.asked now d → takes_at t.shape None d → StandsFirst shape chain (turned_at None d (idle t)) now
-    go Ready u takes =
-        begins-on shape chain (idle t) now (record { layout_is = st.layout_is; shape_is = st.shape_is; thread_is = st.thread_is; phases_is = st.phases_is; program_is = st.program_is; vars_is = st.vars_is }) u.2
+    go Ready u takes = begins-on shape chain (idle t) now st.works u.2
     go (Making to name plan) u takes = absurd u
     go (Gaining gain to from plan) u takes = absurd u
     go (Naming to held plan) u takes = absurd u

@@ -40,7 +40,7 @@ use Rattle.arc_schedule.proofs.Newest.{IsHere}
 use Rattle.arc_schedule.proofs.Lasts.{up-bare}
 use Rattle.arc_schedule.proofs.Given.{Gave, waits, begun-from, given, gives, starts-again}
 use Rattle.arc_schedule.proofs.Deinits.{ref}
-use Rattle.arc_schedule.proofs.Stands.{Task, Job, kinds_here, classes_here, refs, state_of, AreDone, here, rises_of, gain_plan, IsGaining, IsNaming, AreServed, WorksAt, IsAt, AreIn, Stands}
+use Rattle.arc_schedule.proofs.Stands.{Task, Job, kinds_here, classes_here, refs, state_of, AreDone, here, rises_of, gain_plan, IsGaining, IsNaming, AreServed, WorksAt, IsAt, AreIn, Stands, under-way}
 use Rattle.arc_schedule.proofs.Variables.{value-ref, put-ref, nil-in, one-in}
 use Rattle.arc_schedule.proofs.Begins.{op-done, gain-asks, replaces}
 use Rattle.arc_schedule.proofs.Tells.{idle}
@@ -83,23 +83,14 @@ has-gained {n = n} {chain = chain} k j served i gain to from held t base after w
         let unowned : held.kind ≡ Unowned = vars.kinds from held source ∙ (served.kinds_fit i (op.Load to from) there).1 in
         let plan : Plan OneStep ObjectName = name_of (extent_of k.shape) held.place in
         let same : plan.start ≡ name_from new (came_by gains.Load (of_hand held) (idle t)) = rw works.layout_is refl in
-        record {
-          job = j;
-          at = i;
-          phases = n;
-          phased = refl;
-          works = works;
-          vars_in = vars;
-          placed = (at, inl (newest, refl));
-          up_to = record {
-            base = after;
-            ends = λ name came named end g x. op-done k j i (op.Load to from) (state_of t.vars t.made t.hands) (behind new came) base end so_far there (does_load (source_of Unowned unowned) inside.place up_gives g x (behind-is new came));
-            waits = waits plan (here k j i) after after _ _ (begun-from plan (here k j i) after after (name_from new (came_by gains.Load (of_hand held) (idle t))) starts_first same);
-            inside = record { place = inside.place; kind = tt };
-            kind = kind;
-            within = within;
-          };
-        }
+        under-way k j i refl works vars (at, inl (newest, refl)) (record {
+          base = after;
+          ends = λ name came named end g x. op-done k j i (op.Load to from) (state_of t.vars t.made t.hands) (behind new came) base end so_far there (does_load (source_of Unowned unowned) inside.place up_gives g x (behind-is new came));
+          waits = waits plan (here k j i) after after _ _ (begun-from plan (here k j i) after after (name_from new (came_by gains.Load (of_hand held) (idle t))) starts_first same);
+          inside = record { place = inside.place; kind = tt };
+          kind = kind;
+          within = within;
+        })
 
 -- a load finds the object dead, and its variable becomes nil
 has-found-dead : {n : ℕ} {chain : List Frame} (k : Task) (j : Job k) → AreServed k.shape (classes_here k) (kinds_here k) j.ops → (i : ℕ) (gain : Gain) (to from : ℕ) (held : Held) (t : Thread) (base after : List Made) → FindsDead gain → WorksAt k j i n t → AreIn k t.vars → IsAt k j i →
@@ -128,16 +119,8 @@ gains-on {n = n} {chain = chain} k j served i t s w now works vars at gain to he
 
     go : (a : Next UpAnswer) → IsGainAnswer gain a → Gave rise (here k j i) u.base after a (up_turned plan (Some w)) →
         Stands k n chain (gained_on gain to (of_hand held) (up_turned plan (Some w)) a (idle t)) after
-    go (nexts.Step s) fits g = record {
-      job = j;
-      at = i;
-      phases = n;
-      phased = refl;
-      works = works;
-      vars_in = vars;
-      placed = (at, inl ((refl, refl), refl));
-      up_to = record { base = u.base; from = u.from; done = u.done; there = u.there; source = u.source; waits = waits rise (here k j i) u.base after _ s g; inside = u.inside; bare = up-bare gain plan w takes };
-    }
+    go (nexts.Step s) fits g = under-way k j i refl works vars (at, inl ((refl, refl), refl))
+        (record { base = u.base; from = u.from; done = u.done; there = u.there; source = u.source; waits = waits rise (here k j i) u.base after _ s g; inside = u.inside; bare = up-bare gain plan w takes })
     go (nexts.Done ups.Up) fits g = has-gained k j served i gain to u.from held t u.base after works vars at u.done u.there u.source u.inside (refl, refl) (gives rise (here k j i) u.base after _ ups.Up refl g)
     go (nexts.Done ups.Dead) fits g = has-found-dead k j served i gain to u.from held t u.base after fits works vars at u.done u.there u.source u.inside (refl, refl) (gives rise (here k j i) u.base after _ ups.Dead refl g)
     go (nexts.Done ups.AtCap) fits g = absurd fits
@@ -157,16 +140,8 @@ names-on {n = n} {chain = chain} k j served i t s w now works vars at to held pl
     after = made_at (here k j i) s w None ∷ now
 
     go : (a : Next ObjectName) → Gave reads (here k j i) u.base after a (one_turned plan (Some w)) → Stands k n chain (named_on to held (one_turned plan (Some w)) a (idle t)) after
-    go (nexts.Step s) g = record {
-      job = j;
-      at = i;
-      phases = n;
-      phased = refl;
-      works = works;
-      vars_in = vars;
-      placed = (at, inl ((refl, refl), refl));
-      up_to = record { base = u.base; ends = u.ends; waits = waits reads (here k j i) u.base after _ s g; inside = u.inside; kind = u.kind; within = u.within };
-    }
+    go (nexts.Step s) g = under-way k j i refl works vars (at, inl ((refl, refl), refl))
+        (record { base = u.base; ends = u.ends; waits = waits reads (here k j i) u.base after _ s g; inside = u.inside; kind = u.kind; within = u.within })
     go (nexts.Done name) g =
         replaces k j served i (put (answers.Got name) (idle t)) to (Some held) after works vars at (refl, refl) refl (one-in k t.vars to held u.inside u.kind vars) u.within
         (λ came end x. u.ends name came after end (gives reads (here k j i) u.base after _ name refl g) x)

@@ -40,7 +40,7 @@ use Rattle.arc_schedule.specs.Operations.Does.{looks as does_look, gets as does_
 use Rattle.arc_schedule.proofs.Newest.{IsHere}
 use Rattle.arc_schedule.proofs.Lasts.{up-bare}
 use Rattle.arc_schedule.proofs.Given.{Gave, waits, begun-from, given, gives, starts-again}
-use Rattle.arc_schedule.proofs.Stands.{Task, Job, kinds_here, classes_here, state_of, AreDone, here, get_plan, IsCellOf, IsGetting, IsOpening, IsClosing, AreServed, WorksAt, IsAt, AreIn, Stands}
+use Rattle.arc_schedule.proofs.Stands.{Task, Job, kinds_here, classes_here, state_of, AreDone, here, get_plan, IsCellOf, IsGetting, IsOpening, IsClosing, AreServed, WorksAt, IsAt, AreIn, Stands, under-way}
 use Rattle.arc_schedule.proofs.Variables.{put-ref, nil-in, one-in}
 use Rattle.arc_schedule.proofs.Begins.{op-done, open-asks, replaces}
 use Rattle.arc_schedule.proofs.Tells.{idle, in_cell}
@@ -56,26 +56,17 @@ has-got {n = n} {chain = chain} k j served i t after works vars at newest to cel
     let ending : Plan AccessEnd (Unit {0}) = end_access (extent_of k.shape) cell (place + 2) in
     let u : Thread = came_by gains.Copy (in_cell cell kind place) (idle t) in
     let same : ending.start ≡ close_from cell new u = rw works.layout_is refl in
-    record {
-      job = j;
-      at = i;
-      phases = n;
-      phased = refl;
-      works = works;
-      vars_in = vars;
-      placed = (at, inl (newest, refl));
-      up_to = record {
-        there = cell_is.there;
-        base = after;
-        ends = λ came ended end g x. op-done k j i (op.Get to of) (state_of t.vars t.made t.hands) (state_of (set t.vars to (Some new)) t.made came) base end done there
-            (does_get cell_is below began up_gives g x (ap (λ (vs : Variables). record { vars = vs; made = t.made; hands = came }) (put-ref t.vars to (Some new))));
-        waits = waits ending (here k j i) after after _ _ (begun-from ending (here k j i) after after (close_from cell new u) starts_first same);
-        inside = record { place = below; kind = cell_is.counted };
-        kind = cell_is.kind_is ∙ sym (served.kinds_fit i (op.Get to of) there).0;
-        within = slice_get_within j.ops i (op.Get to of) there;
-        newest = newest;
-      };
-    }
+    under-way k j i refl works vars (at, inl (newest, refl)) (record {
+      there = cell_is.there;
+      base = after;
+      ends = λ came ended end g x. op-done k j i (op.Get to of) (state_of t.vars t.made t.hands) (state_of (set t.vars to (Some new)) t.made came) base end done there
+          (does_get cell_is below began up_gives g x (ap (λ (vs : Variables). record { vars = vs; made = t.made; hands = came }) (put-ref t.vars to (Some new))));
+      waits = waits ending (here k j i) after after _ _ (begun-from ending (here k j i) after after (close_from cell new u) starts_first same);
+      inside = record { place = below; kind = cell_is.counted };
+      kind = cell_is.kind_is ∙ sym (served.kinds_fit i (op.Get to of) there).0;
+      within = slice_get_within j.ops i (op.Get to of) there;
+      newest = newest;
+    })
 
 -- the copy is made from here
 get-asks : {n : ℕ} {chain : List Frame} (k : Task) (j : Job k) (i : ℕ) (t : Thread) (now : List Made) → WorksAt k j i n t → AreIn k t.vars → IsAt k j i → IsHere (here k j i) now → t.first ≡ false →
@@ -85,29 +76,20 @@ get-asks : {n : ℕ} {chain : List Frame} (k : Task) (j : Job k) (i : ℕ) (t : 
 get-asks {n = n} {chain = chain} k j i t now works vars at newest first to cell kind place of base begun cell_is done there began below starts =
     let plan : Plan Rise UpAnswer = get_plan k cell kind place t.hands in
     let same : plan.start ≡ gain_from gains.Copy (in_cell cell kind place) t = rw (works.layout_is, works.shape_is) refl in
-    record {
-      job = j;
-      at = i;
-      phases = n;
-      phased = refl;
-      works = works;
-      vars_in = vars;
-      placed = (at, inl (newest, first));
-      up_to = record {
-        is_copy = refl;
-        of = of;
-        cell_is = cell_is;
-        base = base;
-        begun = begun;
-        done = done;
-        there = there;
-        began = began;
-        waits = waits plan (here k j i) begun now _ _ (begun-from plan (here k j i) begun now (gain_from gains.Copy (in_cell cell kind place) t) starts same);
-        place_in = below;
-        bare = refl;
-        newest = newest;
-      };
-    }
+    under-way k j i refl works vars (at, inl (newest, first)) (record {
+      is_copy = refl;
+      of = of;
+      cell_is = cell_is;
+      base = base;
+      begun = begun;
+      done = done;
+      there = there;
+      began = began;
+      waits = waits plan (here k j i) begun now _ _ (begun-from plan (here k j i) begun now (gain_from gains.Copy (in_cell cell kind place) t) starts same);
+      place_in = below;
+      bare = refl;
+      newest = newest;
+    })
 
 pub gets-on : {n : ℕ} {chain : List Frame} (k : Task) (j : Job k) → AreServed k.shape (classes_here k) (kinds_here k) j.ops → (i : ℕ) (t : Thread) (s : Step) (w : ℕ) (now : List Made) → WorksAt k j i n t → AreIn k t.vars → IsAt k j i →
     (to : ℕ) (cell : CellName) (kind : Kind) (place : ℕ) (plan : Rise) → IsGetting k j i gains.Copy to cell kind place plan t.vars t.made t.hands (Some s) now → gain_takes gains.Copy plan (Some w) →
@@ -124,29 +106,20 @@ gets-on {n = n} {chain = chain} k j served i t s w now works vars at to cell kin
 
     go : (a : Next UpAnswer) → IsGainAnswer gains.Copy a → Gave rise (here k j i) u.begun after a (up_turned plan (Some w)) →
         Stands k n chain (gained_on gains.Copy to (in_cell cell kind place) (up_turned plan (Some w)) a (idle t)) after
-    go (nexts.Step s) fits g = record {
-      job = j;
-      at = i;
-      phases = n;
-      phased = refl;
-      works = works;
-      vars_in = vars;
-      placed = (at, inl ((refl, refl), refl));
-      up_to = record {
-        is_copy = refl;
-        of = u.of;
-        cell_is = u.cell_is;
-        base = u.base;
-        begun = u.begun;
-        done = u.done;
-        there = u.there;
-        began = u.began;
-        waits = waits rise (here k j i) u.begun after _ s g;
-        place_in = u.place_in;
-        bare = up-bare gains.Copy plan w takes;
-        newest = (refl, refl);
-      };
-    }
+    go (nexts.Step s) fits g = under-way k j i refl works vars (at, inl ((refl, refl), refl)) (record {
+      is_copy = refl;
+      of = u.of;
+      cell_is = u.cell_is;
+      base = u.base;
+      begun = u.begun;
+      done = u.done;
+      there = u.there;
+      began = u.began;
+      waits = waits rise (here k j i) u.begun after _ s g;
+      place_in = u.place_in;
+      bare = up-bare gains.Copy plan w takes;
+      newest = (refl, refl);
+    })
     go (nexts.Done ups.Up) fits g = has-got k j served i t after works vars at (refl, refl) to cell kind place u.of u.base u.begun u.cell_is u.done u.there u.began (gives rise (here k j i) u.begun after _ ups.Up refl g) u.place_in
     go (nexts.Done ups.Dead) fits g = absurd fits
     go (nexts.Done ups.AtCap) fits g = absurd fits
@@ -172,16 +145,8 @@ opens-on {n = n} {chain = chain} k j served i t s w now works vars at to cell pl
 
     go : (a : Next BeginAnswer) → OpeningGoesOn k.shape.slots (begin_turned plan (Some w)).at a → Gave opening (here k j i) u.base after a (begin_turned plan (Some w)) →
         Stands k n chain (opened_on to cell (begin_turned plan (Some w)) a (idle t)) after
-    go (nexts.Step s) on g = record {
-      job = j;
-      at = i;
-      phases = n;
-      phased = refl;
-      works = works;
-      vars_in = vars;
-      placed = (at, inl ((refl, refl), refl));
-      up_to = record { of = u.of; cell_is = u.cell_is; base = u.base; done = u.done; there = u.there; waits = waits opening (here k j i) u.base after _ s g; word = on };
-    }
+    go (nexts.Step s) on g = under-way k j i refl works vars (at, inl ((refl, refl), refl))
+        (record { of = u.of; cell_is = u.cell_is; base = u.base; done = u.done; there = u.there; waits = waits opening (here k j i) u.base after _ s g; word = on })
     go (nexts.Done (begins.Held x)) on g =
         let least : 2 ≤ x = on.0 in
         let most : x < k.shape.slots + 2 = on.1 in
@@ -209,16 +174,8 @@ closes-on {n = n} {chain = chain} k j served i t s w now works vars at to cell h
     after = made_at (here k j i) s w None ∷ now
 
     go : (a : Next (Unit {0})) → Gave ending (here k j i) u.base after a (end_turned plan (Some w)) → Stands k n chain (closed_on to cell held (end_turned plan (Some w)) a (idle t)) after
-    go (nexts.Step s) g = record {
-      job = j;
-      at = i;
-      phases = n;
-      phased = refl;
-      works = works;
-      vars_in = vars;
-      placed = (at, inl ((refl, refl), refl));
-      up_to = record { there = u.there; base = u.base; ends = u.ends; waits = waits ending (here k j i) u.base after _ s g; inside = u.inside; kind = u.kind; within = u.within; newest = (refl, refl) };
-    }
+    go (nexts.Step s) g = under-way k j i refl works vars (at, inl ((refl, refl), refl))
+        (record { there = u.there; base = u.base; ends = u.ends; waits = waits ending (here k j i) u.base after _ s g; inside = u.inside; kind = u.kind; within = u.within; newest = (refl, refl) })
     go (nexts.Done a) g =
         replaces k j served i (put answers.Ok (idle t)) to (Some held) after works vars at (refl, refl) refl (one-in k t.vars to held u.inside u.kind vars) u.within
         (λ came end x. u.ends came after end (gives ending (here k j i) u.base after _ tt refl g) x)

@@ -33,7 +33,7 @@ use Rattle.arc_schedule.proofs.Idle.{IsIdle, idle-here}
 use Rattle.arc_schedule.proofs.Lasts.{Lasts, drops, slot-ends}
 use Rattle.arc_schedule.proofs.Dies.{dies-on}
 use Rattle.arc_schedule.proofs.Deinits.{IsBare}
-use Rattle.arc_schedule.proofs.Stands.{Task, Job, kinds_here, classes_here, here, IsOver, IsMaking, IsGetting, IsGainingFrom, IsOpening, IsSetting, step_in, UpTo, AreServed, WorksAt, IsAt, AreIn, IsIn, IsPlaced, Stands}
+use Rattle.arc_schedule.proofs.Stands.{Task, Job, kinds_here, classes_here, here, IsOver, IsMaking, IsGetting, IsGainingFrom, IsOpening, IsSetting, step_in, UpTo, AreServed, WorksAt, IsAt, AreIn, IsIn, IsPlaced, Stands, under-way}
 use Rattle.arc_schedule.proofs.Begins.{rest-is, begins, goes-on}
 use Rattle.arc_schedule.proofs.Tells.{idle, in_hand, in_cell, makes-tells, gains-tells, gets-tells, opens-tells, closes-tells, sets-tells, names-tells, drops-tells, ends-tells}
 use Rattle.arc_schedule.proofs.Makes.{makes}
@@ -47,9 +47,9 @@ lasts : {n : ℕ} (k : Task) (j : Job k) → AreServed k.shape (classes_here k) 
 lasts {n = n} k j served i t works vars at = record {
   layout_is = works.layout_is;
   shape_is = works.shape_is;
-  drops = λ chain held plan asked event now u newest. record { job = j; at = i; phases = n; phased = refl; works = works; vars_in = vars; placed = (at, inl (newest, refl)); up_to = u };
-  dies = λ chain c asked event kept hands taken now u newest. record { job = j; at = i; phases = n; phased = refl; works = works; vars_in = vars; placed = (at, inl (newest, refl)); up_to = u };
-  ends = λ chain slot plan asked event now u newest. record { job = j; at = i; phases = n; phased = refl; works = works; vars_in = vars; placed = (at, inl (newest, refl)); up_to = u };
+  drops = λ chain held plan asked event now u newest. under-way k j i refl works vars (at, inl (newest, refl)) u;
+  dies = λ chain c asked event kept hands taken now u newest. under-way k j i refl works vars (at, inl (newest, refl)) u;
+  ends = λ chain slot plan asked event now u newest. under-way k j i refl works vars (at, inl (newest, refl)) u;
   over = λ chain event now newest over. goes-on k j served i (record (idle t) { event = event }) now works vars at newest refl over;
 }
 

@@ -34,7 +34,7 @@ use Rattle.arc_schedule.specs.Operations.{next_name, Drops}
 use Rattle.arc_schedule.specs.Operations as operations
 use Rattle.arc_schedule.specs.Operations.Does.{makes as does_make, full as does_full}
 use Rattle.arc_schedule.proofs.Given.{Gave, waits, begun-from, given, gives, starts-again, Waits}
-use Rattle.arc_schedule.proofs.Stands.{Task, Job, kinds_here, classes_here, refs, state_of, here, MadeUpTo, IsMaking, AreServed, WorksAt, IsAt, AreIn, Stands}
+use Rattle.arc_schedule.proofs.Stands.{Task, Job, kinds_here, classes_here, refs, state_of, here, MadeUpTo, IsMaking, AreServed, WorksAt, IsAt, AreIn, Stands, under-way}
 use Rattle.arc_schedule.proofs.Variables.{put-ref, one-in}
 use Rattle.arc_schedule.proofs.Begins.{over-done, op-done, goes-on, replaces}
 use Rattle.arc_schedule.proofs.Tells.{idle}
@@ -76,25 +76,16 @@ makes {n = n} {chain = chain} k j served i t s w now works vars at to name plan 
     -- it asks for its next step
     asks : (made hands : ℕ) (event : Option Act) (p : Creation) (step : Step) → MadeUpTo k.shape.slots u.before u.held made hands p.at → Gave new (here k j i) u.base after (nexts.Step step) p →
         Stands k n chain (record (idle t) { doing = Making to name p; asked = moves.Step step (intents.New name.class); made = made; hands = hands; event = event }) after
-    asks made hands event p step count g = record {
-      job = j;
-      at = i;
-      phases = n;
-      phased = refl;
-      works = works;
-      vars_in = vars;
-      placed = (at, inl ((refl, refl), refl));
-      up_to = record {
-        base = u.base;
-        before = u.before;
-        held = u.held;
-        done = u.done;
-        there = u.there;
-        named = u.named;
-        waits = waits new (here k j i) u.base after p step g;
-        count = count;
-      };
-    }
+    asks made hands event p step count g = under-way k j i refl works vars (at, inl ((refl, refl), refl)) (record {
+      base = u.base;
+      before = u.before;
+      held = u.held;
+      done = u.done;
+      there = u.there;
+      named = u.named;
+      waits = waits new (here k j i) u.base after p step g;
+      count = count;
+    })
 
     looked_on : (x : ℕ) → (t.made ≡ u.before) × (t.hands ≡ u.held) → (o : Option ℕ) → free_slot plan.layout.slots x w ≡ o → GaveAt (looked plan.layout.slots x w o) (looked_answer plan.layout x o) →
         Stands k n chain (made_on to name (record plan { at = looked plan.layout.slots x w o }) (looked_answer plan.layout x o) (idle t)) after

@@ -220,7 +220,7 @@ begun-stands script valid served some s chains ms stand quiet may i decl u there
 -- ---- thread 0
 
 pub first-stands : (script : Script) → StandsFirst script.shape [] (stepper_of script 0) []
-first-stands script = record { layout_is = refl; shape_is = refl; thread_is = refl; phases_is = refl; program_is = refl; vars_is = refl; up_to = (refl, refl, globals_none) }
+first-stands script = record { works = record { layout_is = refl; shape_is = refl; thread_is = refl; phases_is = refl; program_is = refl; vars_is = refl }; up_to = (refl, refl, globals_none) }
 
 -- a thread whose phase begins is outside
 pub begun-away : (t : Thread) → takes t None → t.asked ≡ moves.PhaseEnd → (k : Task) (n : ℕ) {chain : List Frame} (now : List Made) → Stands k n chain t now → accesses (turned t None) ≡ false

@@ -31,7 +31,7 @@ use Rattle.arc_schedule.specs.Operations.Does.{sets as does_set}
 use Rattle.arc_schedule.specs.Operations as operations
 use Rattle.arc_schedule.proofs.Given.{Gave, waits, given, gives, starts-again}
 use Rattle.arc_schedule.proofs.Deinits.{ref}
-use Rattle.arc_schedule.proofs.Stands.{Task, Job, kinds_here, classes_here, refs, state_of, here, set_plan, IsSetting, AreServed, WorksAt, IsAt, AreIn, Stands}
+use Rattle.arc_schedule.proofs.Stands.{Task, Job, kinds_here, classes_here, refs, state_of, here, set_plan, IsSetting, AreServed, WorksAt, IsAt, AreIn, Stands, under-way}
 use Rattle.arc_schedule.proofs.Variables.{value-ref, put-ref, nil-in}
 use Rattle.arc_schedule.proofs.Begins.{over-done, op-done, drop-asks, set-asks, goes-on}
 use Rattle.arc_schedule.proofs.Tells.{idle}
@@ -85,16 +85,8 @@ sets-on {n = n} {chain = chain} k j served i t s w now works vars at from cell p
 
     go : (a : Next SwapAnswer) → SwappingGoesOn k.shape.slots (swap_turned plan (Some w)).at a → Gave setting (here k j i) u.base after a (swap_turned plan (Some w)) →
         Stands k n chain (set_on from cell (swap_turned plan (Some w)) a (idle t)) after
-    go (nexts.Step s) on g = record {
-      job = j;
-      at = i;
-      phases = n;
-      phased = refl;
-      works = works;
-      vars_in = vars;
-      placed = (at, inl ((refl, refl), refl));
-      up_to = record { of = u.of; cell_is = u.cell_is; base = u.base; done = u.done; there = u.there; waits = waits setting (here k j i) u.base after _ s g; word = on };
-    }
+    go (nexts.Step s) on g = under-way k j i refl works vars (at, inl ((refl, refl), refl))
+        (record { of = u.of; cell_is = u.cell_is; base = u.base; done = u.done; there = u.there; waits = waits setting (here k j i) u.base after _ s g; word = on })
     go (nexts.Done (swaps.Took x)) on g = took x on.0 on.1 (gives setting (here k j i) u.base after _ (swaps.Took x) refl g) (eqb x 0) refl
     go (nexts.Done swaps.Busy) on g = again swaps.Busy refl g
     go (nexts.Done (swaps.Again c)) on g = again (swaps.Again c) refl g

@@ -312,6 +312,11 @@ pub record Stands (k : Task) (begun : ℕ) (chain : List Frame) (t : Thread) (no
   pub placed : IsPlaced k job at t.first now t.doing
   pub up_to : UpTo k chain job at t.vars t.made t.hands t.asked now t.doing
 
+-- it stands in the phase that has begun last
+pub under-way : {n : ℕ} {chain : List Frame} {t : Thread} {now : List Made} (k : Task) (j : Job k) (i : ℕ) → IsIn n n t.doing → WorksAt k j i n t → AreIn k t.vars → IsPlaced k j i t.first now t.doing →
+    UpTo k chain j i t.vars t.made t.hands t.asked now t.doing → Stands k n chain t now
+under-way {n = n} k j i phased works vars placed up_to = record { job = j; at = i; phases = n; phased = phased; works = works; vars_in = vars; placed = placed; up_to = up_to }
+
 -- ---- thread 0
 
 pub record IsClearing (shape : HeapShape) (cleared hands : ℕ) (plan : SwapAttempt) (asked : Option Step) (now : List Made) : Type 0 where
@@ -330,12 +335,18 @@ FirstUpTo shape chain cleared hands asked now (Vacating slot plan) = IsEnding sh
 FirstUpTo shape chain cleared hands asked now Ended = (asked ≡ moves.Ended) × (length shape.globals ≤ cleared) × GlobalsCleared shape cleared hands now
 FirstUpTo shape chain cleared hands asked now _ = ⊥
 
--- it has no phase and no variable
+-- the stepper is thread 0's in this heap, and has neither phases nor variables
+pub record WorksFirst (heap : HeapShape) (layout : Extent) (shape : HeapShape) (thread : ℕ) (phases : List (List Op)) (program : List Op) (vars : List (Option Held)) : Type 0 where
+  pub layout_is : layout ≡ extent_of heap
+  pub shape_is : shape ≡ heap
+  pub thread_is : thread ≡ 0
+  pub phases_is : phases ≡ []
+  pub program_is : program ≡ []
+  pub vars_is : vars ≡ []
+
+abbrev pub IsThreadZero : HeapShape → Thread → Type 0
+IsThreadZero shape t = WorksFirst shape t.layout t.shape t.thread t.phases t.program t.vars
+
 pub record StandsFirst (shape : HeapShape) (chain : List Frame) (t : Thread) (now : List Made) : Type 0 where
-  pub layout_is : t.layout ≡ extent_of shape
-  pub shape_is : t.shape ≡ shape
-  pub thread_is : t.thread ≡ 0
-  pub phases_is : t.phases ≡ []
-  pub program_is : t.program ≡ []
-  pub vars_is : t.vars ≡ []
+  pub works : IsThreadZero shape t
   pub up_to : FirstUpTo shape chain t.cleared t.hands t.asked now t.doing
