@@ -22,6 +22,16 @@ use Rattle.arc_rule.specs.Attempts.{takes_at, turned_at, exchanging, chosen, ans
 use Rattle.arc_table.specs.Runs.{MayRun, Ran}
 use Rattle.arc_table.proofs.Invariant.{Keeps, may_run, has_run}
 
+-- what a row says is one thing
+pub tell_inj : {A : Type 0} {a b : A} → Path (Choice A) (Tell a) (Tell b) → a ≡ b
+tell_inj e = cc
+
+pub write_inj : {A : Type 0} {x y : ℕ} → Path (Choice A) (Write x) (Write y) → x ≡ y
+write_inj e = cc
+
+pub tell≢write : {A X : Type 0} {a : A} {x : ℕ} → Path (Choice A) (Tell a) (Write x) → X
+tell≢write e = absurd (cc)
+
 -- a plan that is such an attempt, by where it is
 pub record IsAttempt {P A : Type 0} (takes : P → Option ℕ → Type 0) (turned : P → Option ℕ → P) (answer : P → Option ℕ → Next A) (place : ℕ) (Fits : ℕ → Type 0) (row : ℕ → Choice A) (after : ℕ → A) (again : Changed → A) (plan : At' → P) (left : P → ℕ) : Type 0 where
   pub takes_it : (m : At') (last : Option ℕ) → takes_at Fits m last → takes (plan m) last

@@ -25,6 +25,7 @@ use Rattle.arc_rule.specs.declared.step.Step.{Step}
 use Rattle.arc_rule.specs.declared.step.Step.TheVariants.{Load, Exchange}
 use Rattle.arc_rule.specs.declared.step.Intent.{Intent}
 use Rattle.arc_rule.specs.declared.step.Intent.TheVariants as intents
+use Rattle.arc_rule.specs.Extents.{Extent}
 use Rattle.arc_rule.specs.Places.{IsPlace, extent_of, number, place_at}
 use Rattle.arc_rule.specs.Shown.{Says, ShowsCounts, ShowsHolders}
 use Rattle.arc_rule.proofs.Places.{place_at-number}
@@ -35,7 +36,7 @@ use Rattle.arc_view.specs.Views.{made_in}
 use Rattle.arc_view.specs.Holding.{At, HasDuty, is_counted, heap_of}
 use Rattle.arc_view.specs.Rule.{InShape, IsSized}
 use Rattle.arc_view.specs.Kinds.{act_of, event_list, working_loaded, working_after, working_hit, without_next, is_last, is_last_in}
-use Rattle.arc_view.specs.Admission.{MayLoad, IsDown}
+use Rattle.arc_view.specs.Admission.{OwesNoName, MayLoad, IsDown}
 use Rattle.arc_view.specs.Admission.{Admits}
 use Rattle.arc_view.specs.Steps.{IsUnsettled, Told}
 use Rattle.arc_view.specs.Calls.{Grew, Called}
@@ -58,15 +59,17 @@ use Rattle.arc_side.specs.Entries.{EntryFall, EntryDownWord, entry_down_row, ent
 use Rattle.arc_table.specs.Causes.{ReadTwice}
 use Rattle.arc_view_laws.specs.Strangers.{SeesNoStranger}
 use Rattle.arc_table.specs.Calls.{GoesOn}
-use Rattle.arc_table.specs.Ends.{IsBareDyingWith, IsFinishedInline, inline_finish_act, finish_steps, IsFinishedInEntry, entry_finish_act}
+use Rattle.arc_table.specs.Ends.{IsBareDying, IsBareDyingWith, IsFinishedInline, inline_finish_act, finish_steps, IsFinishedInEntry, entry_finish_act}
 use Rattle.arc_view_laws.specs.Having.{IsFreedOf}
 use Rattle.arc_table.specs.Runs.{MayRun, Ran}
-use Rattle.arc_table.proofs.Attempt.{IsAttempt, MayTry, Comes, may_attempt, has_attempted}
+use Rattle.arc_table.proofs.Attempt.{tell_inj, write_inj, tell≢write, IsAttempt, MayTry, Comes, may_attempt, has_attempted}
 use Rattle.arc_view_laws.proofs.Counted.{told_alone}
 use Rattle.arc_view_laws.proofs.Entries.{entry_kept}
 use Rattle.arc_view_laws.proofs.Growing.{acts_of, told_grew}
 use Rattle.arc_view_laws.proofs.DyingWords.{ShowsDying, counts, slow, dying_lists, shows_dying}
 use Rattle.arc_table.proofs.Making.{grew_on}
+use Rattle.arc_table.proofs.TwoSteps.{two_steps, reads_twice}
+use Rattle.arc_table.proofs.Invariant.{may_asked, ran_asked}
 
 -- the entry's unowned count
 pub shows_count : (shape : HeapShape) (h : History) (p i e w : ℕ) (o : Object) → IsLegal shape h → At (heap_after h) i o → duty_of p i (heap_after h) ≡ Some Deinit → o.entry ≡ Some e → Says shape (heap_after h) (places.Unowned e) w → 1 ≤ w
@@ -236,40 +239,17 @@ module _ (shape : HeapShape) (s : ℕ) (v0 : View) (free : v0.working.owes ≡ N
         missed_seen : w.seen ≡ told.between ++ v.seen
         missed_seen = ap (λ (u : View). u.seen) told.after ∙ ap (λ a. event_list v.number a ++ (told.between ++ v.seen)) missed_act_is
 
-        missed_works : w.working ≡ v.working
-        missed_works = ap (λ (u : View). u.working) told.after ∙ ap (λ b. cond b (working_hit (number (extent_of shape)) v.working (place_at (extent_of shape) at) seen new deinit) v.working) (ne_eqb found seen ne)
+        missed_keeps : working_after shape v (Exchange at seen new) deinit found ≡ v.working
+        missed_keeps = ap (λ b. cond b (working_hit (number (extent_of shape)) v.working (place_at (extent_of shape) at) seen new deinit) v.working) (ne_eqb found seen ne)
 
-        pub miss_called : Called shape [] 2 v0 w
-        miss_called = record {
-          grew = grew_on [] [] 1 1 v0 v w l.grew (subst (λ a. Grew (acts_of a) 1 v w) missed_act_is (told_grew shape deinit (Exchange at seen new) v found w told));
-          legal = told.legal;
-          in_shape = told.in_shape;
-        }
-
-        pub miss_works : w.working ≡ v0.working
-        miss_works = missed_works ∙ l.owing.working
-
-        pub miss_alone : SeesNoStranger w
-        miss_alone = told_alone shape deinit (Exchange at seen new) v found w told
+        pub miss_goes_on : GoesOn shape None 2 v0 w
+        miss_goes_on = two_steps shape deinit (Exchange at seen new) None found v0 v w l.grew l.owing.working refl told missed_act_is missed_keeps
 
         pub miss_owing : Owing w
-        miss_owing = owing_on v told.between (subst (IsLegal shape) missed_seen told.legal) told.others l.owing w (ap (λ (u : View). u.number) told.after) missed_works (ap heap_after missed_seen)
+        miss_owing = owing_on v told.between (subst (IsLegal shape) missed_seen told.legal) told.others l.owing w (ap (λ (u : View). u.number) told.after) (ap (λ (u : View). u.working) told.after ∙ missed_keeps) (ap heap_after missed_seen)
 
         pub read_twice : ReadTwice at (record { seen = seen; found = found }) v0 w
-        read_twice =
-            let h = told.between ++ v.seen in
-            let second : Mark = record { step = Exchange at seen new; found = found; length = length h; made = made_in v.number h } in record {
-              first = l.mark;
-              second = second;
-              before = [];
-              new = new;
-              trail = ap (λ (u : View). u.trail) told.after ∙ ap (λ ms. second ∷ ms) l.trail;
-              loads = l.step;
-              seen = l.found;
-              exchanges = refl;
-              found = refl;
-              differ = λ e. ne (sym e);
-            }
+        read_twice = reads_twice shape deinit at seen new found v0 v w l.mark l.trail l.step l.found told ne
 
   -- by the inline word
   module _ (sized : IsSized shape) (lt : s < shape.slots) where
@@ -293,15 +273,6 @@ module _ (shape : HeapShape) (s : ℕ) (v0 : View) (free : v0.working.owes ≡ N
 
     inline_attempt : IsAttempt unowned_down_takes unowned_down_turned unowned_down_answer (number (extent_of shape) (Count s)) InlineFits inline_row (λ seen. unowned_down_end (unpacked seen)) inline_downs.Again inline_plan (λ p. left_at p.at)
     inline_attempt = record { takes_it = λ m last t. t; turns = λ m last. refl; answers = λ m last. refl; is_left = λ m. refl }
-
-    write_inj : {A : Type 0} {x y : ℕ} → Path (Choice A) (Write x) (Write y) → x ≡ y
-    write_inj e = cc
-
-    tell_inj : {A : Type 0} {x y : A} → Path (Choice A) (Tell x) (Tell y) → x ≡ y
-    tell_inj e = cc
-
-    tell≢write : {A X : Type 0} {x : A} {y : ℕ} → Path (Choice A) (Tell x) (Write y) → X
-    tell≢write e = absurd (cc)
 
     inline_fits : (o : Object) (x : ℕ) → ShowsDying shape o x → InlineFits x
     inline_fits o x (counts c is word ends unowned none) = subst (IsCountWord shape.entries (λ c. c.deiniting ≡ false → 2 ≤ c.unowned)) (sym is) (unowned, λ live. absurd (true≢false (sym ends ∙ live)))
@@ -356,11 +327,7 @@ module _ (shape : HeapShape) (s : ℕ) (v0 : View) (free : v0.working.owes ≡ N
     inline_misses : (seen new found : ℕ) (v w : View) (l : SeenCount seen v) → Told shape deinit (Exchange (number (extent_of shape) (Count s)) seen new) v found w → found ≢ seen → InlineClaim (inline_downs.Again (record { seen = seen; found = found })) w
     inline_misses seen new found v w l told ne = (
       read_twice (Count s) lt (λ w x. refl) knows_count (λ x u. u) seen new found v w l told ne,
-      record {
-        called = miss_called (Count s) lt (λ w x. refl) knows_count (λ x u. u) seen new found v w l told ne;
-        working = miss_works (Count s) lt (λ w x. refl) knows_count (λ x u. u) seen new found v w l told ne;
-        alone = miss_alone (Count s) lt (λ w x. refl) knows_count (λ x u. u) seen new found v w l told ne;
-      },
+      miss_goes_on (Count s) lt (λ w x. refl) knows_count (λ x u. u) seen new found v w l told ne,
     )
 
     inline_may : MayTry unowned_down_takes unowned_down_turned unowned_down_answer shape deinit (number (extent_of shape) (Count s)) InlineFits inline_row (λ seen. unowned_down_end (unpacked seen)) inline_downs.Again inline_plan (λ p. left_at p.at) inline_attempt v0 SeenCount
@@ -402,12 +369,6 @@ module _ (shape : HeapShape) (s : ℕ) (v0 : View) (free : v0.working.owes ≡ N
     some : (x : ℕ) (v : View) (l : SeenUnowned x v) → 1 ≤ x
     some x v l = shows_count shape v.seen v.number i e x l.owing.o l.legal l.owing.here l.owing.duty (l.owing.entry e entry0) l.says
 
-    entry_write : {x y : ℕ} → Path (Choice EntryDownAnswer) (Write x) (Write y) → x ≡ y
-    entry_write same = cc
-
-    entry_told : {X : Type 0} {x : ℕ} {a : EntryDownAnswer} → Path (Choice EntryDownAnswer) (Write x) (Tell a) → X
-    entry_told same = absurd (cc)
-
     abbrev EntryClaim : EntryDownAnswer → View → Type 0
     EntryClaim a w = IsFinishedInEntry shape s e v0 w a × GoesOn shape (entry_finish_act s a) 2 v0 w
 
@@ -439,11 +400,7 @@ module _ (shape : HeapShape) (s : ℕ) (v0 : View) (free : v0.working.owes ≡ N
             (i, g.o, g.here, g.duty, g.slot, g.entry e entry0),
             read_twice (places.Unowned e) lt (λ w x. refl) knows_unowned (λ x u. u) seen new found v w l told ne,
           ),
-          record {
-            called = miss_called (places.Unowned e) lt (λ w x. refl) knows_unowned (λ x u. u) seen new found v w l told ne;
-            working = miss_works (places.Unowned e) lt (λ w x. refl) knows_unowned (λ x u. u) seen new found v w l told ne;
-            alone = miss_alone (places.Unowned e) lt (λ w x. refl) knows_unowned (λ x u. u) seen new found v w l told ne;
-          },
+          miss_goes_on (places.Unowned e) lt (λ w x. refl) knows_unowned (λ x u. u) seen new found v w l told ne,
         )
 
     entry_may : MayTry entry_down_takes entry_down_turned entry_down_answer shape deinit (number (extent_of shape) (places.Unowned e)) EntryDownWord entry_down_row entry_down_end entry_downs.Again entry_plan (λ p. left_at p.at) entry_attempt v0 SeenUnowned
@@ -452,12 +409,12 @@ module _ (shape : HeapShape) (s : ℕ) (v0 : View) (free : v0.working.owes ≡ N
       looked = looked (places.Unowned e) lt (λ w x. refl) knows_unowned (λ x u. u);
       fits = some;
       swaps = λ x new v l is. may_swap (places.Unowned e) lt (λ w x. refl) knows_unowned (λ x u. u) x new v l (ap (λ m. is_number m e) (l.owing.entry e entry0) ∙ eq-eqb e e refl)
-          (let one = some x v l in let less = entry_write is in omega (arith, one, less));
+          (let one = some x v l in let less = write_inj is in omega (arith, one, less));
     }
 
     entry_comes : Comes entry_down_takes entry_down_turned entry_down_answer shape deinit (number (extent_of shape) (places.Unowned e)) EntryDownWord entry_down_row entry_down_end entry_downs.Again entry_plan (λ p. left_at p.at) entry_attempt v0 SeenUnowned EntryClaim
     entry_comes = record {
-      tells = λ x v a l is. entry_told is;
+      tells = λ x v a l is. tell≢write (sym is);
       hits = λ seen new w t. entry_hits seen new t.v w t.l t.told;
       misses = λ seen new found w t ne. entry_misses seen new found t.v w t.l t.told ne;
     }
@@ -467,3 +424,24 @@ module _ (shape : HeapShape) (s : ℕ) (v0 : View) (free : v0.working.owes ≡ N
 
     pub has_finished_in_entry : (a : EntryDownAnswer) (w : View) → Ran entry_down_turned entry_down_answer shape deinit (entry_plan ats.Start) None v0 a w → EntryClaim a w
     has_finished_in_entry = has_attempted entry_down_takes entry_down_turned entry_down_answer shape deinit (number (extent_of shape) (places.Unowned e)) EntryDownWord entry_down_row entry_down_end entry_downs.Again entry_plan (λ p. left_at p.at) entry_attempt v0 SeenUnowned EntryClaim entry_may entry_comes
+
+-- the same for the plans as they are started
+pub may_end_inline : (shape : HeapShape) (s : ℕ) (v : View) {layout : Extent} {intent : Intent} {plan : Attempt} → OwesNoName v → IsBareDying shape v s → IsSized shape → s < shape.slots → layout ≡ extent_of shape → intent ≡ intents.Deinit s
+    → plan ≡ record { layout = layout; slot = s; at = ats.Start } → MayRun unowned_down_takes unowned_down_turned unowned_down_answer shape intent plan None v
+may_end_inline shape s v free (i, o, here, duty, slot, bare) sized lt laid asks plan_is =
+    may_asked unowned_down_turned unowned_down_answer shape v asks (plan_is ∙ ap (λ l. record { layout = l; slot = s; at = ats.Start }) laid) unowned_down_takes (may_finish shape s v free i o here duty slot bare sized lt)
+
+pub has_ended_inline : (shape : HeapShape) (s : ℕ) (v : View) {layout : Extent} {intent : Intent} {plan : Attempt} → OwesNoName v → IsBareDying shape v s → IsSized shape → s < shape.slots → layout ≡ extent_of shape → intent ≡ intents.Deinit s
+    → plan ≡ record { layout = layout; slot = s; at = ats.Start } → (a : UnownedDownAnswer) (w : View) → Ran unowned_down_turned unowned_down_answer shape intent plan None v a w → IsFinishedInline shape s v w a × GoesOn shape (inline_finish_act s a) (finish_steps a) v w
+has_ended_inline shape s v free (i, o, here, duty, slot, bare) sized lt laid asks plan_is a w ran =
+    has_finished shape s v free i o here duty slot bare sized lt a w (ran_asked unowned_down_turned unowned_down_answer shape v asks (plan_is ∙ ap (λ l. record { layout = l; slot = s; at = ats.Start }) laid) a w ran)
+
+pub may_end_in_entry : (shape : HeapShape) (s e : ℕ) (v : View) {layout : Extent} {intent : Intent} {plan : EntryFall} → OwesNoName v → IsBareDyingWith shape v s e → e < shape.entries → layout ≡ extent_of shape → intent ≡ intents.Deinit s
+    → plan ≡ record { layout = layout; entry = e; list = kinds.Unowned; at = ats.Start } → MayRun entry_down_takes entry_down_turned entry_down_answer shape intent plan None v
+may_end_in_entry shape s e v free (i, o, here, duty, slot, bare, entry) lt laid asks plan_is =
+    may_asked entry_down_turned entry_down_answer shape v asks (plan_is ∙ ap (λ l. record { layout = l; entry = e; list = kinds.Unowned; at = ats.Start }) laid) entry_down_takes (may_finish_in_entry shape s v free i o here duty slot bare e lt entry)
+
+pub has_ended_in_entry : (shape : HeapShape) (s e : ℕ) (v : View) {layout : Extent} {intent : Intent} {plan : EntryFall} → OwesNoName v → IsBareDyingWith shape v s e → e < shape.entries → layout ≡ extent_of shape → intent ≡ intents.Deinit s
+    → plan ≡ record { layout = layout; entry = e; list = kinds.Unowned; at = ats.Start } → (a : EntryDownAnswer) (w : View) → Ran entry_down_turned entry_down_answer shape intent plan None v a w → IsFinishedInEntry shape s e v w a × GoesOn shape (entry_finish_act s a) 2 v w
+has_ended_in_entry shape s e v free (i, o, here, duty, slot, bare, entry) lt laid asks plan_is a w ran =
+    has_finished_in_entry shape s v free i o here duty slot bare e lt entry a w (ran_asked entry_down_turned entry_down_answer shape v asks (plan_is ∙ ap (λ l. record { layout = l; entry = e; list = kinds.Unowned; at = ats.Start }) laid) a w ran)

@@ -12,11 +12,12 @@ use Rattle.arc_model.proofs.Basics.{None≢Some}
 use Rattle.arc_table.specs.declared.tokens.Strong.{Strong as Token}
 use Rattle.arc_table.specs.declared.tokens.Dying.{Dying}
 use Rattle.arc_table.specs.declared.tokens.Made.TheVariants as made
+use Rattle.arc_table.specs.declared.tokens.Up.{Up}
 use Rattle.arc_table.specs.declared.tokens.Up.TheVariants as ups
 use Rattle.arc_table.specs.declared.tokens.Release.{Release}
 use Rattle.arc_table.specs.declared.tokens.Release.TheVariants as releases
 use Rattle.arc_model.specs.declared.event.Act.{Act}
-use Rattle.arc_table.specs.Tokens.{hand_of, IsHeld, IsOwed, IsMade, made_act, IsUp, IsReleased, release_act}
+use Rattle.arc_table.specs.Tokens.{hand_of, IsHeld, IsOwed, IsMade, made_act, IsUp, up_act, IsReleased, release_act}
 use Rattle.arc_view_laws.specs.Having.{IsStrongOf, KeepsStrong, KeepsDying}
 use Rattle.arc_table.specs.declared.tokens.Any.{Any}
 use Rattle.arc_table.specs.declared.tokens.Any.TheVariants as anys
@@ -26,7 +27,7 @@ use Rattle.arc_table.proofs.Making.{next_one}
 use Rattle.arc_table.specs.Calls.{GoesOn}
 use Rattle.arc_table.specs.Possessions.{reference, spends, StillHas}
 use Rattle.arc_table.proofs.Keeping.{keeps_hand}
-use Rattle.arc_table.proofs.Spared.{release_spares}
+use Rattle.arc_table.proofs.Spared.{up_spares, release_spares}
 use Rattle.arc_table.proofs.TwoParts.{held_on}
 
 -- the token of a new object
@@ -67,6 +68,10 @@ kept_owed shape v w d kept o = (o.0, (o.1.0, kept d.slot o.1.0 o.1.1))
 -- the hand of a copy isn't the one that was copied
 pub copy_apart : (shape : HeapShape) (of t : Token) (v w : View) → IsHeld shape v of → IsUp shape of v w (ups.Ok t) → hand_of t ≢ hand_of of
 copy_apart shape of t v w (lt, (class, (i, o, hand, here, slot, is))) u e = None≢Some (record { place = i; kind = Strong }) (sym (subst (λ k. spot (Hand v.number k) (heap_of v) ≡ None) e u.1) ∙ hand)
+
+-- the token that was copied, once the copy is given up
+pub copied_held : (shape : HeapShape) (t copy : Token) (u : Up Token) (r : Release) (v w x : View) → IsHeld shape v t → IsUp shape t v w (ups.Ok copy) → StillHas (up_act t u) v w → StillHas (release_act copy r) w x → IsHeld shape x t
+copied_held shape t copy u r v w x held up has released = rest_held shape copy t r w x released (λ e. copy_apart shape t copy v w held up (sym e)) (still_held shape (up_act t u) v w t ((up_spares t u).0 (hand_of t) Strong) has held)
 
 -- a new object's reference may go into a global of its class
 pub made_put : (shape : HeapShape) (class g : ℕ) (v w : View) (t : Token) → IsNamed shape g class → IsMade shape class v w (made.Ok t) → MayPut shape g w (anys.Strong t)

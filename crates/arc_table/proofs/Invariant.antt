@@ -1,5 +1,5 @@
 -- A plan that keeps an invariant may run, and its answer is as the invariant says.
-use Rattle.std.proofs.Common.{◌≡◌, ℕ, zero, suc, ◌≤◌, ◌<◌, Option, Some, refl, sym, subst, arith}
+use Rattle.std.proofs.Common.{◌≡◌, ℕ, zero, suc, ◌≤◌, ◌<◌, Option, None, Some, refl, sym, subst, arith}
 use Rattle.arc_model.specs.Shapes.{HeapShape}
 use Rattle.arc_rule.specs.declared.step.Step.{Step}
 use Rattle.arc_rule.specs.declared.step.Intent.{Intent}
@@ -39,3 +39,11 @@ module _ {P A : Type 0} (takes : P → Option ℕ → Type 0) (turned : P → Op
     pub has_run : (p : P) (last : Option ℕ) (v : View) (a : A) (w : View) → Ran turned answer shape intent p last v a w → I p last v → C a w
     has_run p last v a w (ended is same) i = subst (C a) (sym same) (k.ends_it p last v a i is)
     has_run p last v a w (stepped s found u is told ran) i = has_run (turned p last) (Some found) u a w ran ((k.steps_it p last v s i is).2 found u told)
+
+-- the same by the intent that is asked for, and the plan as it is started
+module _ {P A : Type 0} (turned : P → Option ℕ → P) (answer : P → Option ℕ → Next A) (shape : HeapShape) (v : View) {asked intent : Intent} {started plan : P} (asks : asked ≡ intent) (starts : started ≡ plan) where
+  pub may_asked : (takes : P → Option ℕ → Type 0) → MayRun takes turned answer shape intent plan None v → MayRun takes turned answer shape asked started None v
+  may_asked takes may = subst (λ (t : Intent × P). MayRun takes turned answer shape t.0 t.1 None v) (λ j. (sym asks j, sym starts j)) may
+
+  pub ran_asked : (a : A) (w : View) → Ran turned answer shape asked started None v a w → Ran turned answer shape intent plan None v a w
+  ran_asked a w ran = subst (λ (t : Intent × P). Ran turned answer shape t.0 t.1 None v a w) (λ j. (asks j, starts j)) ran

@@ -3,7 +3,10 @@ pub mod Possessing
 pub mod Keeping
 pub mod Spared
 pub mod Invariant
+pub mod TwoSteps
+pub mod HeldHand
 pub mod InEntry
+pub mod InSlot
 pub mod EntryUpping
 pub mod EntryDowning
 pub mod Lasting

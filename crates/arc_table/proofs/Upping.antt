@@ -1,7 +1,5 @@
 -- The plan that copies a strong reference by the inline word, on the shared heap.
-use Rattle.std.proofs.Common.{◌≡◌, ◌≢◌, ◌⊎◌, inl, inr, ℕ, ◌<◌, ◌≤◌, ◌==◌, Bool, false, cond, [], ◌∷◌, ◌++◌, length, Option, None, Some, refl, sym, ap, ◌∙◌, subst, arith, eq-eqb, ne_eqb}
-use Rattle.std.specs.Prelude.{slice_get}
-use Rattle.std.specs.Option.{unwrap_or}
+use Rattle.std.proofs.Common.{◌≡◌, ◌≢◌, ◌⊎◌, inl, inr, ℕ, ◌<◌, ◌≤◌, ◌==◌, Bool, false, true, cond, [], ◌++◌, length, None, Some, refl, sym, ap, ◌∙◌, subst, arith, eq-eqb, ne_eqb}
 use mathlib.Core.Logic.{dite}
 use native.Mathlib.Decide.{ℕ_discrete}
 use Rattle.arc_bits.specs.declared.packing.Inline.{Inline}
@@ -10,55 +8,38 @@ use Rattle.arc_bits.specs.Words.{IsWordOf, unpacked, counts_word}
 use Rattle.arc_bits.specs.Moves.{strong_more}
 use Rattle.arc_model.specs.declared.event.Act.{Act}
 use Rattle.arc_model.specs.declared.shape.Kind.TheVariants as kinds
-use Rattle.arc_model.specs.Shapes.{HeapShape, class_at}
-use Rattle.arc_model.specs.Cells.{is_immortal}
+use Rattle.arc_model.specs.Shapes.{HeapShape}
 use Rattle.arc_model.specs.Heaps.{Hand, Object}
-use Rattle.arc_model.specs.History.{heap_after, IsLegal}
 use Rattle.arc_model.specs.Lookup.{spot}
-use Rattle.arc_model.proofs.Basics.{in-not_empty}
 use Rattle.arc_rule.specs.Places.{extent_of}
 use Rattle.arc_rule.specs.declared.layout.Place.TheVariants.{Count}
-use Rattle.arc_rule.specs.Shown.{Says}
 use Rattle.arc_view.specs.Holding.{At}
-use Rattle.arc_view.specs.Rule.{InShape, IsSized}
-use Rattle.arc_view.proofs.Held.{hand_listed, stays_after}
+use Rattle.arc_view.specs.Rule.{IsSized}
 use Rattle.arc_model.specs.declared.event.Act.TheVariants as acts
 use Rattle.arc_model.specs.declared.event.Origin.TheVariants as origins
 use Rattle.arc_model.specs.Holders.{is_number}
 use Rattle.arc_model.specs.History.{next_hand}
-use Rattle.arc_model.proofs.Basics.{None≢Some, true≢false}
-use Rattle.arc_model.proofs.Others.{others_leave}
 use Rattle.arc_rule.specs.declared.step.Step.{Step}
 use Rattle.arc_rule.specs.declared.step.Step.TheVariants.{Load, Exchange}
 use Rattle.arc_rule.specs.declared.step.Intent.{Intent}
 use Rattle.arc_rule.specs.declared.step.Intent.TheVariants as intents
 use Rattle.arc_rule.specs.declared.layout.Place.{Place}
-use Rattle.arc_rule.specs.declared.plan.Next.{Next}
-use Rattle.arc_rule.specs.declared.plan.Next.TheVariants as nexts
 use Rattle.arc_rule.specs.Places.{number}
 use Rattle.arc_rule.proofs.Places.{place_at-number}
-use Rattle.arc_view.specs.declared.view.Mark.{Mark}
 use Rattle.arc_view.specs.declared.view.Working.{Working}
 use Rattle.arc_view.specs.declared.view.View.{View}
 use Rattle.arc_view.specs.Views.{made_in}
 use Rattle.arc_view.specs.Holding.{heap_of}
-use Rattle.arc_view.specs.Kinds.{act_of, event_list, working_loaded, working_after}
+use Rattle.arc_view.specs.Kinds.{act_of, working_loaded, working_after}
 use Rattle.arc_view.specs.Admission.{Admits}
 use Rattle.arc_view.specs.Steps.{Told}
-use Rattle.arc_view.specs.Calls.{Grew, Called}
-use Rattle.arc_model.proofs.Own.{own_gains}
-use Rattle.arc_view_laws.specs.Strangers.{SeesNoStranger}
-use Rattle.arc_view_laws.specs.Having.{IsStrongOf, StandsAs}
-use Rattle.arc_table.specs.Causes.{ReadTwice, LoadedAtCap, HasEntry, IsMortal, IsLookOfImmortal}
+use Rattle.arc_view_laws.specs.Having.{IsStrongOf}
+use Rattle.arc_table.specs.Causes.{IsLookOfImmortal}
 use Rattle.arc_table.specs.Attempts.{IsRaisedInline, inline_up_act, up_steps}
 use Rattle.arc_table.specs.Calls.{GoesOn}
-use Rattle.arc_rule.specs.declared.step.Changed.{Changed}
-use Rattle.arc_view_laws.proofs.Counted.{told_alone}
-use Rattle.arc_view_laws.proofs.StrongWords.{ShowsStrong, counts, slow, forever, one_unpacked, shows_strong, is_count_word}
-use Rattle.arc_view_laws.proofs.Kept.{strong_one, stands_as}
-use Rattle.arc_table.proofs.Making.{grew_on, grew_most, next_none}
-use Rattle.arc_table.proofs.Lasting.{copy_told, mortal}
-use Rattle.arc_view.proofs.Held.{Held, held_stays, strong≢weak}
+use Rattle.arc_view_laws.proofs.StrongWords.{ShowsStrong, counts, slow, forever, one_unpacked, is_count_word}
+use Rattle.arc_table.proofs.Making.{grew_most}
+use Rattle.arc_table.proofs.Lasting.{copy_told}
 use Rattle.arc_rule.specs.declared.attempt.At.{At as At'}
 use Rattle.arc_rule.specs.declared.attempt.At.TheVariants as ats
 use Rattle.arc_rule.specs.declared.attempt.Choice.{Choice}
@@ -66,11 +47,16 @@ use Rattle.arc_rule.specs.declared.attempt.Choice.TheVariants.{Tell, Write}
 use Rattle.arc_plan.specs.declared.strong.StrongUpAnswer.{StrongUpAnswer}
 use Rattle.arc_plan.specs.declared.strong.StrongUpAnswer.TheVariants as ups
 use Rattle.arc_plan.specs.Attempts.{CappedAttempt, IsCountWord}
-use Rattle.arc_rule.specs.Attempts.{turned_at, exchanging, chosen, left_at}
+use Rattle.arc_rule.specs.Attempts.{left_at}
 use Rattle.arc_plan.specs.Strong.{strong_up_row, strong_up_takes, strong_up_turned, strong_up_answer}
 use Rattle.arc_table.specs.Runs.{MayRun, Ran}
-use Rattle.arc_view_laws.proofs.Growing.{acts_of, told_grew, grew_none}
-use Rattle.arc_table.proofs.Invariant.{Keeps, may_run, has_run}
+use Rattle.arc_view_laws.proofs.Growing.{grew_none}
+use Rattle.arc_rule.specs.Extents.{Extent}
+use Rattle.arc_table.proofs.Attempt.{tell_inj, write_inj, tell≢write, IsAttempt, MayTry, Comes, may_attempt, has_attempted}
+use Rattle.arc_table.proofs.Invariant.{may_asked, ran_asked}
+use Rattle.arc_table.proofs.TwoSteps.{two_steps, reads_twice}
+use Rattle.arc_table.proofs.HeldHand.{holds_first, copied}
+use Rattle.arc_table.proofs.InSlot.{Looked, looked, knows_slot, not_forever, look_goes_on, look_stands, look_has, is_mortal, dies}
 
 module _ (shape : HeapShape) (k s : ℕ) (v0 : View) (sized : IsSized shape) (lt : s < shape.slots) (free : v0.working.owes ≡ None) (i : ℕ) (o0 : Object)
     (hand0 : spot (Hand v0.number k) (heap_of v0) ≡ Some (record { place = i; kind = kinds.Strong })) (here0 : At (heap_of v0) i o0) (slot0 : o0.slot ≡ Some s) where
@@ -86,146 +72,49 @@ module _ (shape : HeapShape) (k s : ℕ) (v0 : View) (sized : IsSized shape) (lt
   abbrev act : Act
   act = acts.Copy (origins.Hand k) (next_hand v0.number v0.seen)
 
-  -- the hand stands in the strong list of object i, in the slot
-  pub record Holding (v : View) : Type 0 where
-    pub number : v.number ≡ v0.number
-    pub working : v.working ≡ v0.working
-    pub o : Object
-    pub hand : spot (Hand v.number k) (heap_of v) ≡ Some (record { place = i; kind = kinds.Strong })
-    pub here : At (heap_of v) i o
-    pub slot : o.slot ≡ Some s
-    pub is_class : o.class ≡ o0.class
+  abbrev Shown : ℕ → View → Type 0
+  Shown = Looked shape k s v0 sized lt i o0 hand0 here0 slot0
 
-  holding0 : Holding v0
-  holding0 = record { number = refl; working = refl; o = o0; hand = hand0; here = here0; slot = slot0; is_class = refl }
-
-  -- Up: one more hand of the pass, a strong one of the same object
-  pub record Copied (w : View) : Type 0 where
-    pub called : Called shape (act ∷ []) 2 v0 w
-    pub working : w.working ≡ v0.working
-    pub alone : SeesNoStranger w
-    pub strong : IsStrongOf w (next_hand v0.number v0.seen) s o0.class
-
-  copied_by : (st : Step) (x : ℕ) (v w : View) → Holding v → Grew [] 1 v0 v → (t : Told shape copy st v x w) → act_of shape v st copy x ≡ Some (acts.Copy (origins.Hand k) (next_hand v.number v.seen)) → working_after shape v st copy x ≡ v.working → Copied w
-  copied_by st x v w g grew t act_is works =
-      let p = v.number in
-      let n = next_hand v.number v.seen in
-      let a : Act = acts.Copy (origins.Hand k) n in
-      let h = t.between ++ v.seen in
-      let seen_is : w.seen ≡ record { thread = p; act = a } ∷ h = ap (λ (u : View). u.seen) t.after ∙ ap (λ b. event_list p b ++ h) act_is in
-      let legal : IsLegal shape (record { thread = p; act = a } ∷ h) = subst (IsLegal shape) seen_is t.legal in
-      let held : Held kinds.Strong i g.o (heap_after h) = held_stays shape p k i kinds.Strong g.o v.seen t.between legal.1 t.others g.hand g.here in
-      let hand : spot (Hand p k) (heap_after h) ≡ Some (record { place = i; kind = kinds.Strong }) = (others_leave shape p v.seen t.between legal.1 t.others).hands k ∙ g.hand in
-      let q = stays_after shape (record { thread = p; act = a }) h legal i held.q held.here in
-      let busy = in-not_empty (Hand p k) held.q.strong (hand_listed shape h p k i kinds.Strong held.q legal.1 hand held.here) in
-      let next_is : n ≡ next_hand v0.number v0.seen = next_none 1 v0 v grew in
-      let all = grew_on [] (a ∷ []) 1 1 v0 v w grew (subst (λ b. Grew (acts_of b) 1 v w) act_is (told_grew shape copy st v x w t)) in
-      let w_is : w.number ≡ p = ap (λ (u : View). u.number) t.after in
-      let came : spot (Hand w.number n) (heap_of w) ≡ Some (record { place = i; kind = kinds.Strong }) = (λ j. spot (Hand (w_is j) n) (heap_after (seen_is j))) ∙ (own_gains shape h (record { thread = p; act = a }) n legal refl ∙ hand) in record {
-        called = record { grew = subst (λ m. Grew (acts.Copy (origins.Hand k) m ∷ []) 2 v0 w) next_is all; legal = t.legal; in_shape = t.in_shape };
-        working = ap (λ (u : View). u.working) t.after ∙ (works ∙ g.working);
-        alone = told_alone shape copy st v x w t;
-        strong = subst (λ m. IsStrongOf w m s o0.class) next_is (i, q.q, came, ap (λ l. slice_get (heap_after l).objects i) seen_is ∙ q.here, q.slot (inl busy) ∙ (held.slot strong≢weak ∙ g.slot), q.class ∙ (held.class ∙ g.is_class));
-      }
-
-  -- the load showed that the object is immortal
-  pub record Lasts (w : View) : Type 0 where
-    pub copied : Copied w
-    pub mark : Mark
-    pub trail : w.trail ≡ mark ∷ v0.trail
-    pub step : mark.step ≡ look
-    pub found : mark.found ≡ 1
+  -- what each answer tells
+  abbrev Claim : StrongUpAnswer → View → Type 0
+  Claim a w = IsRaisedInline shape k s v0 w a × GoesOn shape (inline_up_act k v0 a) (up_steps a) v0 w × IsLookOfImmortal shape k s v0 w
 
   -- a load of the inline word shows no event, or the copy of an immortal object
-  may_look : (v : View) → Holding v → Admits shape v look copy
-  may_look v g = (Count s, refl, lt, ap (λ (w : Working). w.owes) g.working ∙ free, (i, g.o, g.here, g.slot, inl (k, kinds.Strong, g.hand, strong≢weak)), tt)
+  may_look : Admits shape v0 look copy
+  may_look = (Count s, refl, lt, free, knows_slot shape k s v0 sized lt i o0 hand0 here0 slot0 v0 (holds_first shape k v0 i o0 hand0 here0), tt)
 
-  look_none : (x : ℕ) → x ≢ 1 → act_of shape v0 look copy x ≡ None
-  look_none x other = copy_told shape v0 k i s x o0 lt hand0 here0 slot0 ∙ ap (λ b. cond b (Some act) None) (ne_eqb x 1 other)
+  look_act : (x : ℕ) (b : Bool) → (x == 1) ≡ b → act_of shape v0 look copy x ≡ cond b (Some act) None
+  look_act x b is = copy_told shape v0 k i s x o0 lt hand0 here0 slot0 ∙ ap (λ t. cond t (Some act) None) is
 
-  look_copies : (x : ℕ) → x ≡ 1 → act_of shape v0 look copy x ≡ Some act
-  look_copies x one = copy_told shape v0 k i s x o0 lt hand0 here0 slot0 ∙ ap (λ b. cond b (Some act) None) (eq-eqb x 1 one)
+  look_works : (x : ℕ) → working_after shape v0 look copy x ≡ v0.working
+  look_works x = ap (λ (q : Place). working_loaded v0.working q x copy) (place_at-number (extent_of shape) (Count s) lt)
 
-  look_works : (v : View) (x : ℕ) → working_after shape v look copy x ≡ v.working
-  look_works v x = ap (λ (q : Place). working_loaded v.working q x copy) (place_at-number (extent_of shape) (Count s) lt)
-
-  -- after a step of no event that leaves what is under way, the hand stands where it stood
-  pub record Looked (x : ℕ) (v : View) : Type 0 where
-    pub grew : Grew [] 1 v0 v
-    pub legal : IsLegal shape v.seen
-    pub in_shape : InShape shape v.seen
-    pub holding : Holding v
-    pub shows : ShowsStrong shape holding.o x
-    pub mortal : is_immortal shape o0 ≡ false
-    pub mark : Mark
-    pub trail : v.trail ≡ mark ∷ v0.trail
-    pub step : mark.step ≡ look
-    pub found : mark.found ≡ x
-    pub alone : SeesNoStranger v
-
-  looked : (x : ℕ) (v : View) → x ≢ 1 → Told shape copy look v0 x v → Looked x v
-  looked x v other t =
-      let h = t.between ++ v0.seen in
-      let none = look_none x other in
-      let seen : v.seen ≡ h = ap (λ (u : View). u.seen) t.after ∙ ap (λ a. event_list v0.number a ++ h) none in
-      let legal : IsLegal shape h = subst (IsLegal shape) seen t.legal in
-      let within : InShape shape h = subst (InShape shape) seen t.in_shape in
-      let held : Held kinds.Strong i o0 (heap_after h) = held_stays shape v0.number k i kinds.Strong o0 v0.seen t.between legal t.others hand0 here0 in
-      let hand : spot (Hand v0.number k) (heap_after h) ≡ Some (record { place = i; kind = kinds.Strong }) = (others_leave shape v0.number v0.seen t.between legal t.others).hands k ∙ hand0 in
-      let slot = held.slot strong≢weak ∙ slot0 in
-      let says : Says shape (heap_after h) (Count s) x = (t.read (Count s) tt lt refl).says (λ u. u) in
-      let number_is : v.number ≡ v0.number = ap (λ (u : View). u.number) t.after in record {
-        grew = subst (λ a. Grew (acts_of a) 1 v0 v) none (told_grew shape copy look v0 x v t);
-        legal = t.legal;
-        in_shape = t.in_shape;
-        holding = record {
-          number = number_is;
-          working = ap (λ (u : View). u.working) t.after ∙ look_works v0 x;
-          o = held.q;
-          hand = (λ j. spot (Hand (number_is j) k) (heap_after (seen j))) ∙ hand;
-          here = ap (λ l. slice_get (heap_after l).objects i) seen ∙ held.here;
-          slot = slot;
-          is_class = held.class;
-        };
-        shows = shows_strong shape h v0.number k i s x held.q sized legal within hand held.here slot says;
-        mortal = ap (λ c. (class_at shape c).immortal) (sym held.class) ∙ mortal shape h i s x held.q legal held.here slot says other;
-        mark = record { step = look; found = x; length = length h; made = made_in v0.number h };
-        trail = ap (λ (u : View). u.trail) t.after;
-        step = refl;
-        found = refl;
-        alone = told_alone shape copy look v0 x v t;
-      }
-
-  lasts : (x : ℕ) (v : View) → x ≡ 1 → Told shape copy look v0 x v → Lasts v
-  lasts x v one t = record {
-    copied = copied_by look x v0 v holding0 (grew_most [] 0 1 v0 v0 (omega arith) (grew_none v0)) t (look_copies x one) (look_works v0 x);
-    mark = record { step = look; found = x; length = length (t.between ++ v0.seen); made = made_in v0.number (t.between ++ v0.seen) };
-    trail = ap (λ (u : View). u.trail) t.after;
-    step = refl;
-    found = one;
-  }
+  -- the load showed that the object is immortal, and the copy with it
+  lasts : (x : ℕ) (v : View) → x ≡ 1 → Told shape copy look v0 x v → Claim ups.Up v
+  lasts x v one t =
+      let c = copied shape k v0 i o0 hand0 here0 copy look x v0 v (holds_first shape k v0 i o0 hand0 here0) (grew_most [] 0 1 v0 v0 (omega arith) (grew_none v0)) t (look_act x true (eq-eqb x 1 one)) (look_works x) in
+      (c.0, c.1, λ class strong is. (record { step = look; found = x; length = length (t.between ++ v0.seen); made = made_in v0.number (t.between ++ v0.seen) }, ap (λ (u : View). u.trail) t.after, refl, one))
 
   -- what the load told
-  abbrev pub After : ℕ → View → Type 0
-  After x v = ((x ≡ 1) × Lasts v) ⊎ Looked x v
+  abbrev After : ℕ → View → Type 0
+  After x v = ((x ≡ 1) × Claim ups.Up v) ⊎ Shown x v
 
   after : (x : ℕ) (v : View) → Told shape copy look v0 x v → After x v
-  after x v t = dite (ℕ_discrete x 1) (λ one. inl (one, lasts x v one t)) (λ other. inr (looked x v other t))
-
-  -- the counts that were read have room
-  may_copy : (x : ℕ) (v : View) (c : Inline) → Looked x v → IsWordOf (Counts c) x → c.deiniting ≡ false → c.strong_extra < shape.caps.strong → Admits shape v (Exchange count_at x (counts_word (strong_more c))) copy
-  may_copy x v c l word lives room = let g = l.holding in (Count s, refl, lt, ap (λ (w : Working). w.owes) g.working ∙ free, (kinds.Strong, i, g.o, (g.hand, tt), g.here, ap (λ m. is_number m s) g.slot ∙ eq-eqb s s refl, (c, word, lives, room, refl)))
+  after x v t = dite (ℕ_discrete x 1) (λ one. inl (one, lasts x v one t)) (λ other. inr (looked shape k s v0 sized lt i o0 hand0 here0 slot0 copy x v other (look_act x false (ne_eqb x 1 other)) (look_works x) t))
 
   abbrev row : ℕ → Choice StrongUpAnswer
   row x = strong_up_row shape.caps.strong (unpacked x)
 
+  one_row : (x : ℕ) → x ≡ 1 → row x ≡ Tell ups.Up
+  one_row x one = ap (strong_up_row shape.caps.strong) (ap unpacked one ∙ one_unpacked)
+
   -- what the plan makes of the word that was read
-  data Row (x : ℕ) (v : View) (l : Looked x v) : Type 0 where
+  data Row (x : ℕ) (v : View) (l : Shown x v) : Type 0 where
     capped : (c : Inline) → IsWordOf (Counts c) x → c.deiniting ≡ false → c.strong_extra ≡ shape.caps.strong → row x ≡ Tell ups.AtCap → Row x v l
     copies : (c : Inline) → IsWordOf (Counts c) x → c.deiniting ≡ false → c.strong_extra < shape.caps.strong → row x ≡ Write (counts_word (strong_more c)) → Row x v l
     aside : (e : ℕ) → l.holding.o.entry ≡ Some e → e < shape.entries → row x ≡ Tell (ups.Slow e) → Row x v l
 
-  row_of : (x : ℕ) (v : View) (l : Looked x v) → Row x v l
+  row_of : (x : ℕ) (v : View) (l : Shown x v) → Row x v l
   row_of x v l = go l.shows
     where
       by : Bool → Bool → Inline → Choice StrongUpAnswer
@@ -236,211 +125,85 @@ module _ (shape : HeapShape) (k s : ℕ) (v0 : View) (sized : IsSized shape) (lt
           (λ e. capped c word lives e (ap (strong_up_row shape.caps.strong) is ∙ (λ j. by (lives j) (eq-eqb c.strong_extra shape.caps.strong e j) c)))
           (λ ne. copies c word lives (omega (arith, cap, ne)) (ap (strong_up_row shape.caps.strong) is ∙ (λ j. by (lives j) (ne_eqb c.strong_extra shape.caps.strong ne j) c)))
       go (slow e is entry within) = aside e entry within (ap (strong_up_row shape.caps.strong) is)
-      go (forever one is immortal) = absurd (true≢false (sym immortal ∙ (ap (λ c. (class_at shape c).immortal) l.holding.is_class ∙ l.mortal)))
+      go (forever one is immortal) = not_forever shape k s v0 sized lt i o0 hand0 here0 slot0 x v l immortal
 
-  abbrev swap : ℕ → Inline → Step
-  swap x c = Exchange count_at x (counts_word (strong_more c))
+  abbrev Fits : ℕ → Type 0
+  Fits x = IsCountWord shape.entries (λ c. c.strong_extra ≤ shape.caps.strong) (unpacked x)
 
-  -- an exchange for the counts that were read found a word
-  pub record Tried (seen found : ℕ) (w : View) : Type 0 where
-    pub v : View
-    pub c : Inline
-    pub l : Looked seen v
-    pub told : Told shape copy (swap seen c) v found w
+  fits : (x : ℕ) (v : View) → After x v → Fits x
+  fits x v (inl (one, c)) = subst (IsCountWord shape.entries (λ c. c.strong_extra ≤ shape.caps.strong)) (sym (ap unpacked one ∙ one_unpacked)) tt
+  fits x v (inr l) = is_count_word shape l.holding.o x l.shows
 
-  abbrev pub Outcome : StrongUpAnswer → View → Type 0
-  Outcome ups.Up w = ((seen : ℕ) × Tried seen seen w) ⊎ Lasts w
-  Outcome ups.Dead w = ⊥
-  Outcome ups.AtCap w = (x : ℕ) × (c : Inline) × Looked x w × IsWordOf (Counts c) x × (c.deiniting ≡ false) × (c.strong_extra ≡ shape.caps.strong)
-  Outcome (ups.Slow e) w = (x : ℕ) × (l : Looked x w) × (l.holding.o.entry ≡ Some e) × (e < shape.entries)
-  Outcome (ups.Again c) w = Tried c.seen c.found w × (c.found ≢ c.seen)
+  -- the counts that were read have room
+  swaps : (x new : ℕ) (v : View) → After x v → row x ≡ Write new → Admits shape v (Exchange count_at x new) copy
+  swaps x new v (inl (one, c)) is = tell≢write (sym (one_row x one) ∙ is)
+  swaps x new v (inr l) is = elim (row_of x v l) [
+    | capped c word lives full said ↦ tell≢write (sym said ∙ is)
+    | aside e entry within said ↦ tell≢write (sym said ∙ is)
+    | copies c word lives room writes ↦ let g = l.holding in
+        (Count s, refl, lt, ap (λ (w : Working). w.owes) g.working ∙ free, (kinds.Strong, i, g.o, (g.hand, tt), g.here, ap (λ m. is_number m s) (g.slot ∙ slot0) ∙ eq-eqb s s refl, (c, word, lives, room, write_inj (sym is ∙ writes))))
+  ]
 
-  abbrev IsAt : At' → Option ℕ → View → Type 0
-  IsAt ats.Start last v = (last ≡ None) × (v ≡ v0)
-  IsAt ats.Loading None v = ⊥
-  IsAt ats.Loading (Some x) v = After x v
-  IsAt (ats.Exchanging seen new) None v = ⊥
-  IsAt (ats.Exchanging seen new) (Some f) v = Tried seen f v
-  IsAt ats.Ended last v = ⊥
+  tells : (x : ℕ) (v : View) (a : StrongUpAnswer) → After x v → row x ≡ Tell a → Claim a v
+  tells x v a (inl (one, c)) is = subst (λ b. Claim b v) (tell_inj (sym (one_row x one) ∙ is)) c
+  tells x v a (inr l) is = elim (row_of x v l) [
+    | capped c word lives full said ↦ subst (λ b. Claim b v) (tell_inj (sym said ∙ is))
+        (record { word = x; counts = c; loaded = record { mark = l.mark; before = []; trail = l.trail; loads = l.step; found = l.found }; packs = word; live = lives; at_cap = full }, goes_on, once)
+    | aside e entry within said ↦ subst (λ b. Claim b v) (tell_inj (sym said ∙ is))
+        ((look_stands shape k s v0 sized lt i o0 hand0 here0 slot0 x v l, look_has shape k s v0 sized lt i o0 hand0 here0 slot0 x e v l entry, within, is_mortal shape k s v0 sized lt i o0 hand0 here0 slot0 x v l), goes_on, once)
+    | copies c word lives room writes ↦ tell≢write (sym is ∙ writes)
+  ]
+    where
+      goes_on : GoesOn shape None 1 v0 v
+      goes_on = look_goes_on shape k s v0 sized lt i o0 hand0 here0 slot0 x v l
+
+      once : IsLookOfImmortal shape k s v0 v
+      once = dies shape k s v0 sized lt i o0 hand0 here0 slot0 x v v l
+
+  hits : (seen new : ℕ) (v w : View) → After seen v → row seen ≡ Write new → Told shape copy (Exchange count_at seen new) v seen w → Claim ups.Up w
+  hits seen new v w (inl (one, c)) is told = tell≢write (sym (one_row seen one) ∙ is)
+  hits seen new v w (inr l) is told =
+      let hit = eq-eqb seen seen refl in
+      let c = copied shape k v0 i o0 hand0 here0 copy (Exchange count_at seen new) seen v w l.holding l.grew told (ap (λ b. cond b (Some (acts.Copy (origins.Hand k) (next_hand v.number v.seen))) None) hit) (ap (λ b. cond b v.working v.working) hit) in
+      (c.0, c.1, dies shape k s v0 sized lt i o0 hand0 here0 slot0 seen v w l)
+
+  misses : (seen new found : ℕ) (v w : View) → After seen v → row seen ≡ Write new → Told shape copy (Exchange count_at seen new) v found w → found ≢ seen → Claim (ups.Again (record { seen = seen; found = found })) w
+  misses seen new found v w (inl (one, c)) is told ne = tell≢write (sym (one_row seen one) ∙ is)
+  misses seen new found v w (inr l) is told ne =
+      let miss = ne_eqb found seen ne in (
+        reads_twice shape copy count_at seen new found v0 v w l.mark l.trail l.step l.found told ne,
+        two_steps shape copy (Exchange count_at seen new) None found v0 v w l.grew l.holding.working refl told (ap (λ b. cond b (Some (acts.Copy (origins.Hand k) (next_hand v.number v.seen))) None) miss) (ap (λ b. cond b v.working v.working) miss),
+        dies shape k s v0 sized lt i o0 hand0 here0 slot0 seen v w l,
+      )
 
   abbrev plan : At' → CappedAttempt
   plan m = record { layout = extent_of shape; slot = s; cap = shape.caps.strong; at = m }
 
-  abbrev Is : CappedAttempt → Option ℕ → View → Type 0
-  Is p last v = (m : At') × (p ≡ plan m) × IsAt m last v
+  attempt : IsAttempt strong_up_takes strong_up_turned strong_up_answer count_at Fits row (λ seen. ups.Up) ups.Again plan (λ p. left_at p.at)
+  attempt = record { takes_it = λ m last t. t; turns = λ m last. refl; answers = λ m last. refl; is_left = λ m. refl }
 
-  takes_it : (m : At') (last : Option ℕ) (v : View) → IsAt m last v → strong_up_takes (plan m) last
-  takes_it ats.Start last v i = i.0
-  takes_it ats.Loading None v i = absurd (i)
-  takes_it ats.Loading (Some x) v (inl (one, l)) = subst (IsCountWord shape.entries (λ c. c.strong_extra ≤ shape.caps.strong)) (sym (ap unpacked one ∙ one_unpacked)) tt
-  takes_it ats.Loading (Some x) v (inr l) = is_count_word shape l.holding.o x l.shows
-  takes_it (ats.Exchanging seen new) None v i = absurd (i)
-  takes_it (ats.Exchanging seen new) (Some f) v i = λ e. absurd (None≢Some f (sym e))
-  takes_it ats.Ended last v i = absurd (i)
+  may : MayTry strong_up_takes strong_up_turned strong_up_answer shape copy count_at Fits row (λ seen. ups.Up) ups.Again plan (λ p. left_at p.at) attempt v0 After
+  may = record { looks = may_look; looked = after; fits = fits; swaps = swaps }
 
-  step_inj : {a b : Step} → Path (Next StrongUpAnswer) (nexts.Step a) (nexts.Step b) → a ≡ b
-  step_inj e = cc
-
-  done_inj : {a b : StrongUpAnswer} → Path (Next StrongUpAnswer) (nexts.Done a) (nexts.Done b) → a ≡ b
-  done_inj e = cc
-
-  done≢step : {X : Type 0} {a : StrongUpAnswer} {b : Step} → Path (Next StrongUpAnswer) (nexts.Done a) (nexts.Step b) → X
-  done≢step e = absurd (cc)
-
-  step≢done : {X : Type 0} {a : StrongUpAnswer} {b : Step} → Path (Next StrongUpAnswer) (nexts.Step b) (nexts.Done a) → X
-  step≢done e = absurd (cc)
-
-  abbrev Stepping : At' → View → At' → Step → Type 0
-  Stepping m v n a = Admits shape v a copy × (left_at n < left_at m) × ((found : ℕ) (w : View) → Told shape copy a v found w → Is (plan n) (Some found) w)
-
-  looks : Stepping ats.Start v0 ats.Loading look
-  looks = (may_look v0 holding0, omega arith, λ found w told. (ats.Loading, refl, after found w told))
-
-  one_row : (x : ℕ) → x ≡ 1 → row x ≡ Tell ups.Up
-  one_row x one = ap (strong_up_row shape.caps.strong) (ap unpacked one ∙ one_unpacked)
-
-  after_look : (x : ℕ) (v : View) (a : Step) → After x v → chosen count_at x (row x) ≡ nexts.Step a → Stepping ats.Loading v (exchanging x (row x)) a
-  after_look x v a (inl (one, l)) = subst (λ r. chosen count_at x r ≡ nexts.Step a → Stepping ats.Loading v (exchanging x r) a) (sym (one_row x one)) (λ e. done≢step e)
-  after_look x v a (inr l) = elim (row_of x v l) [
-    | capped c word lives full is ↦ subst (λ r. chosen count_at x r ≡ nexts.Step a → Stepping ats.Loading v (exchanging x r) a) (sym is) (λ e. done≢step e)
-    | aside e entry within is ↦ subst (λ r. chosen count_at x r ≡ nexts.Step a → Stepping ats.Loading v (exchanging x r) a) (sym is) (λ e. done≢step e)
-    | copies c word lives room is ↦ subst (λ r. chosen count_at x r ≡ nexts.Step a → Stepping ats.Loading v (exchanging x r) a) (sym is)
-        (λ e. subst (Stepping ats.Loading v (ats.Exchanging x (counts_word (strong_more c)))) (step_inj e)
-        (may_copy x v c l word lives room, omega arith, λ found w told. (ats.Exchanging x (counts_word (strong_more c)), refl, record { v = v; c = c; l = l; told = told })))
-  ]
-
-  look_ends : (x : ℕ) (v : View) (a : StrongUpAnswer) → After x v → chosen count_at x (row x) ≡ nexts.Done a → Outcome a v
-  look_ends x v a (inl (one, l)) = subst (λ r. chosen count_at x r ≡ nexts.Done a → Outcome a v) (sym (one_row x one)) (λ e. subst (λ b. Outcome b v) (done_inj e) (inr l))
-  look_ends x v a (inr l) = elim (row_of x v l) [
-    | capped c word lives full is ↦ subst (λ r. chosen count_at x r ≡ nexts.Done a → Outcome a v) (sym is) (λ e. subst (λ b. Outcome b v) (done_inj e) (x, c, l, word, lives, full))
-    | aside e entry within is ↦ subst (λ r. chosen count_at x r ≡ nexts.Done a → Outcome a v) (sym is) (λ d. subst (λ b. Outcome b v) (done_inj d) (x, l, entry, within))
-    | copies c word lives room is ↦ subst (λ r. chosen count_at x r ≡ nexts.Done a → Outcome a v) (sym is) (λ e. step≢done e)
-  ]
-
-  swap_ends : (seen f : ℕ) (v : View) → Tried seen f v → Outcome (cond (f == seen) ups.Up (ups.Again (record { seen = seen; found = f }))) v
-  swap_ends seen f v t = dite (ℕ_discrete f seen)
-      (λ e. subst (λ b. Outcome (cond b ups.Up (ups.Again (record { seen = seen; found = f }))) v) (sym (eq-eqb f seen e)) (inl (seen, subst (λ g. Tried seen g v) e t)))
-      (λ ne. subst (λ b. Outcome (cond b ups.Up (ups.Again (record { seen = seen; found = f }))) v) (sym (ne_eqb f seen ne)) (t, ne))
-
-  steps_at : (m : At') (last : Option ℕ) (v : View) (a : Step) → IsAt m last v → strong_up_answer (plan m) last ≡ nexts.Step a → Stepping m v (turned_at row m (unwrap_or last 0)) a
-  steps_at ats.Start last v a i is = subst (λ u. Stepping ats.Start u ats.Loading a) (sym i.1) (subst (Stepping ats.Start v0 ats.Loading) (step_inj is) looks)
-  steps_at ats.Loading None v a i is = absurd (i)
-  steps_at ats.Loading (Some x) v a l is = after_look x v a l is
-  steps_at (ats.Exchanging seen new) None v a i is = absurd (i)
-  steps_at (ats.Exchanging seen new) (Some f) v a i is = done≢step is
-  steps_at ats.Ended last v a i is = absurd (i)
-
-  ends_at : (m : At') (last : Option ℕ) (v : View) (a : StrongUpAnswer) → IsAt m last v → strong_up_answer (plan m) last ≡ nexts.Done a → Outcome a v
-  ends_at ats.Start last v a i is = step≢done is
-  ends_at ats.Loading None v a i is = absurd (i)
-  ends_at ats.Loading (Some x) v a l is = look_ends x v a l is
-  ends_at (ats.Exchanging seen new) None v a i is = absurd (i)
-  ends_at (ats.Exchanging seen new) (Some f) v a i is = subst (λ b. Outcome b v) (done_inj is) (swap_ends seen f v i)
-  ends_at ats.Ended last v a i is = absurd (i)
-
-  up_keeps : Keeps strong_up_takes strong_up_turned strong_up_answer shape copy Is Outcome (λ p. left_at p.at)
-  up_keeps = record {
-    takes_it = λ p last v i. subst (λ q. strong_up_takes q last) (sym i.1) (takes_it i.0 last v i.2);
-    steps_it = λ p last v a i is. subst (λ (q : CappedAttempt). Admits shape v a copy × (left_at (strong_up_turned q last).at < left_at q.at) × ((found : ℕ) (w : View) → Told shape copy a v found w → Is (strong_up_turned q last) (Some found) w)) (sym i.1)
-        (steps_at i.0 last v a i.2 (subst (λ q. strong_up_answer q last ≡ nexts.Step a) i.1 is));
-    ends_it = λ p last v a i is. ends_at i.0 last v a i.2 (subst (λ q. strong_up_answer q last ≡ nexts.Done a) i.1 is);
-  }
+  comes : Comes strong_up_takes strong_up_turned strong_up_answer shape copy count_at Fits row (λ seen. ups.Up) ups.Again plan (λ p. left_at p.at) attempt v0 After Claim
+  comes = record { tells = tells; hits = λ seen new w t. hits seen new t.v w t.l t.is t.told; misses = λ seen new found w t ne. misses seen new found t.v w t.l t.is t.told ne }
 
   -- The attempt may run, and its answer has its cause: Again two differing words that were read one after the other, AtCap counts at the cap, Slow the
   -- object's entry. It never answers Dead.
   pub may_up : MayRun strong_up_takes strong_up_turned strong_up_answer shape copy (plan ats.Start) None v0
-  may_up = may_run strong_up_takes strong_up_turned strong_up_answer shape copy Is Outcome (λ p. left_at p.at) up_keeps (plan ats.Start) None v0 (ats.Start, refl, (refl, refl))
+  may_up = may_attempt strong_up_takes strong_up_turned strong_up_answer shape copy count_at Fits row (λ seen. ups.Up) ups.Again plan (λ p. left_at p.at) attempt v0 After Claim may comes
 
-  pub has_upped : (a : StrongUpAnswer) (w : View) → Ran strong_up_turned strong_up_answer shape copy (plan ats.Start) None v0 a w → Outcome a w
-  has_upped a w ran = has_run strong_up_takes strong_up_turned strong_up_answer shape copy Is Outcome (λ p. left_at p.at) up_keeps (plan ats.Start) None v0 a w ran (ats.Start, refl, (refl, refl))
+  pub has_upped : (a : StrongUpAnswer) (w : View) → Ran strong_up_turned strong_up_answer shape copy (plan ats.Start) None v0 a w → Claim a w
+  has_upped = has_attempted strong_up_takes strong_up_turned strong_up_answer shape copy count_at Fits row (λ seen. ups.Up) ups.Again plan (λ p. left_at p.at) attempt v0 After Claim may comes
 
-  has_copied : (seen : ℕ) (w : View) → Tried seen seen w → Copied w
-  has_copied seen w t =
-      let v = t.v in
-      let hit = eq-eqb seen seen refl in
-      copied_by (swap seen t.c) seen v w t.l.holding t.l.grew t.told (ap (λ b. cond b (Some (acts.Copy (origins.Hand k) (next_hand v.number v.seen))) None) hit) (ap (λ b. cond b v.working v.working) hit)
+-- the same for a strong reference to an object in the slot, by the plan as it is started
+module _ (shape : HeapShape) (k s : ℕ) (v : View) {layout : Extent} {cap : ℕ} {intent : Intent} {plan : CappedAttempt} (sized : IsSized shape) (laid : layout ≡ extent_of shape) (cap_is : cap ≡ shape.caps.strong) (asks : intent ≡ intents.Copy (origins.Hand k))
+    (plan_is : plan ≡ record { layout = layout; slot = s; cap = cap; at = ats.Start }) (held : (s < shape.slots) × ((class : ℕ) × IsStrongOf v k s class)) (free : v.working.owes ≡ None) where
+  starts : plan ≡ record { layout = extent_of shape; slot = s; cap = shape.caps.strong; at = ats.Start }
+  starts = plan_is ∙ (λ j. record { layout = laid j; slot = s; cap = cap_is j; at = ats.Start })
 
-  -- what the hand was
-  stood : IsStrongOf v0 k s o0.class
-  stood = (i, o0, hand0, here0, slot0, refl)
+  pub may_raise : MayRun strong_up_takes strong_up_turned strong_up_answer shape intent plan None v
+  may_raise = let t = held.1.1 in may_asked strong_up_turned strong_up_answer shape v asks starts strong_up_takes (may_up shape k s v sized held.0 free t.0 t.1 t.2 t.3 t.4)
 
-  -- after a load alone
-  look_called : (x : ℕ) (w : View) → Looked x w → Called shape [] 1 v0 w
-  look_called x w l = record { grew = l.grew; legal = l.legal; in_shape = l.in_shape }
-
-  look_stands : (x : ℕ) (w : View) → Looked x w → StandsAs v0 k w k
-  look_stands x w l = let g = l.holding in stands_as v0 w k k s o0.class stood (i, g.o, g.hand, g.here, g.slot, g.is_class)
-
-  look_has : (x e : ℕ) (w : View) (l : Looked x w) → l.holding.o.entry ≡ Some e → HasEntry w k e
-  look_has x e w l entry = let g = l.holding in (i, g.o, g.hand, g.here, entry)
-
-  look_capped : (x : ℕ) (c : Inline) (w : View) → Looked x w → IsWordOf (Counts c) x → c.deiniting ≡ false → c.strong_extra ≡ shape.caps.strong → LoadedAtCap shape s v0 w
-  look_capped x c w l word lives full = record { word = x; counts = c; loaded = record { mark = l.mark; before = []; trail = l.trail; loads = l.step; found = l.found }; packs = word; live = lives; at_cap = full }
-
-  -- an exchange that found another word
-  read_twice : (c : Changed) (w : View) → Tried c.seen c.found w → c.found ≢ c.seen → ReadTwice count_at c v0 w
-  read_twice c w t differ =
-      let second : Mark = record { step = swap c.seen t.c; found = c.found; length = length (t.told.between ++ t.v.seen); made = made_in t.v.number (t.told.between ++ t.v.seen) } in record {
-        first = t.l.mark;
-        second = second;
-        before = [];
-        new = counts_word (strong_more t.c);
-        trail = ap (λ (u : View). u.trail) t.told.after ∙ ap (λ ms. second ∷ ms) t.l.trail;
-        loads = t.l.step;
-        seen = t.l.found;
-        exchanges = refl;
-        found = refl;
-        differ = λ e. differ (sym e);
-      }
-
-  has_missed : (c : Changed) (w : View) → Tried c.seen c.found w → c.found ≢ c.seen → Called shape [] 2 v0 w × (w.working ≡ v0.working)
-  has_missed c w t differ =
-      let v = t.v in
-      let st = swap c.seen t.c in
-      let miss = ne_eqb c.found c.seen differ in
-      let act_is : act_of shape v st copy c.found ≡ None = ap (λ b. cond b (Some (acts.Copy (origins.Hand k) (next_hand v.number v.seen))) None) miss in (
-        record {
-          grew = grew_on [] [] 1 1 v0 v w t.l.grew (subst (λ b. Grew (acts_of b) 1 v w) act_is (told_grew shape copy st v c.found w t.told));
-          legal = t.told.legal;
-          in_shape = t.told.in_shape;
-        },
-        ap (λ (u : View). u.working) t.told.after ∙ (ap (λ b. cond b v.working v.working) miss ∙ t.l.holding.working),
-      )
-
-  is_mortal : (x : ℕ) (w : View) → Looked x w → IsMortal shape v0 k s
-  is_mortal x w l class strong = ap (λ c. (class_at shape c).immortal) (strong_one v0 k s s class o0.class strong stood).1 ∙ l.mortal
-
-  -- what is looked at once only
-  dies : (x : ℕ) (u w : View) → Looked x u → IsLookOfImmortal shape k s v0 w
-  dies x u w l class strong lasts = absurd (true≢false (sym lasts ∙ is_mortal x u l class strong))
-
-  pub look_of_immortal : (a : StrongUpAnswer) (w : View) → Outcome a w → IsLookOfImmortal shape k s v0 w
-  look_of_immortal ups.Up w (inl (seen, t)) = dies seen t.v w t.l
-  look_of_immortal ups.Up w (inr l) = λ class strong is. (l.mark, l.trail, l.step, l.found)
-  look_of_immortal ups.Dead w none = absurd (none)
-  look_of_immortal ups.AtCap w (x, c, l, word, lives, full) = dies x w w l
-  look_of_immortal (ups.Slow e) w (x, l, entry, within) = dies x w w l
-  look_of_immortal (ups.Again c) w (t, differ) = dies c.seen t.v w t.l
-
-  -- what each answer tells
-  pub raised_inline : (a : StrongUpAnswer) (w : View) → Outcome a w → IsRaisedInline shape k s v0 w a × GoesOn shape (inline_up_act k v0 a) (up_steps a) v0 w
-  raised_inline ups.Up w (inl (seen, t)) = let c = has_copied seen w t in (stands_as v0 w k (next_hand v0.number v0.seen) s o0.class stood c.strong, record { called = c.called; working = c.working; alone = c.alone })
-  raised_inline ups.Up w (inr l) = let c = l.copied in (stands_as v0 w k (next_hand v0.number v0.seen) s o0.class stood c.strong, record { called = c.called; working = c.working; alone = c.alone })
-  raised_inline ups.Dead w none = absurd (none)
-  raised_inline ups.AtCap w (x, c, l, word, lives, full) = (look_capped x c w l word lives full, record { called = look_called x w l; working = l.holding.working; alone = l.alone })
-  raised_inline (ups.Slow e) w (x, l, entry, within) = ((look_stands x w l, look_has x e w l entry, within, is_mortal x w l), record { called = look_called x w l; working = l.holding.working; alone = l.alone })
-  raised_inline (ups.Again c) w (t, differ) =
-      let missed = has_missed c w t differ in
-      (read_twice c w t differ, record { called = missed.0; working = missed.1; alone = told_alone shape copy (swap c.seen t.c) t.v c.found w t.told })
-
--- the same for a strong reference to an object in the slot
-pub may_raise : (shape : HeapShape) (k s : ℕ) (v : View) → IsSized shape → (s < shape.slots) × ((class : ℕ) × IsStrongOf v k s class) → v.working.owes ≡ None
-    → MayRun strong_up_takes strong_up_turned strong_up_answer shape (intents.Copy (origins.Hand k)) (record { layout = extent_of shape; slot = s; cap = shape.caps.strong; at = ats.Start }) None v
-may_raise shape k s v sized (lt, (class, (i, o, hand, here, slot, is))) free = may_up shape k s v sized lt free i o hand here slot
-
-pub has_raised : (shape : HeapShape) (k s : ℕ) (v : View) → IsSized shape → (s < shape.slots) × ((class : ℕ) × IsStrongOf v k s class) → v.working.owes ≡ None → (a : StrongUpAnswer) (w : View)
-    → Ran strong_up_turned strong_up_answer shape (intents.Copy (origins.Hand k)) (record { layout = extent_of shape; slot = s; cap = shape.caps.strong; at = ats.Start }) None v a w
-    → IsRaisedInline shape k s v w a × GoesOn shape (inline_up_act k v a) (up_steps a) v w × IsLookOfImmortal shape k s v w
-has_raised shape k s v sized (lt, (class, (i, o, hand, here, slot, is))) free a w ran =
-    let out = has_upped shape k s v sized lt free i o hand here slot a w ran in
-    let told = raised_inline shape k s v sized lt free i o hand here slot a w out in (told.0, told.1, look_of_immortal shape k s v sized lt free i o hand here slot a w out)
+  pub has_raised : (a : StrongUpAnswer) (w : View) → Ran strong_up_turned strong_up_answer shape intent plan None v a w → IsRaisedInline shape k s v w a × GoesOn shape (inline_up_act k v a) (up_steps a) v w × IsLookOfImmortal shape k s v w
+  has_raised a w ran = let t = held.1.1 in has_upped shape k s v sized held.0 free t.0 t.1 t.2 t.3 t.4 a w (ran_asked strong_up_turned strong_up_answer shape v asks starts a w ran)
